@@ -242,10 +242,10 @@ class Lint:
                 yield "idle-slot", self.file.at(f"{name} has a slot and sends nothing: each round is {it.length} longer for it", "slot", number)
 
 
-def high(file: File) -> list[str]:
-    """The lines of the warnings of a graph file, none where it isn't one that cpgc admits."""
+def high(file: File) -> list[Warning]:
+    """The warnings of a graph file, none where it isn't one that cpgc admits."""
     try:
-        return [it.text() for it in Lint(file).warnings(WARNINGS)]
+        return Lint(file).warnings(WARNINGS)
     except (ValueError, RecursionError):
         return []
 
