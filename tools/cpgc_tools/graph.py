@@ -16,7 +16,7 @@ import json
 import os
 import pkgutil
 import re
-from collections.abc import Mapping, Sequence
+from collections.abc import Iterator, Mapping, Sequence
 from dataclasses import dataclass
 from typing import Any
 
@@ -276,6 +276,23 @@ class Graph:
             if not live or (any if self.processes[number].join else all)(live):
                 found.add(number)
         return found
+
+    def outcomes(self) -> Iterator[tuple[int, int]]:
+        """The outcomes of the conditions, without values of inactive processes: the processes that are active, and those whose condition is true,
+        as bits. Raises ValueError where the edges lead around."""
+        order = self.sources_first()
+        inputs = [[(edge.source, edge.when) for edge in self.inputs(process)] for process in self.processes]
+        left = [(0, 0, 0)]  # how far in the order, what is active, which values are true
+        while left:
+            at, active, true = left.pop()
+            for place in range(at, len(order)):
+                number = order[place]
+                live = [active >> source & 1 == 1 and when in (None, bool(true >> source & 1)) for source, when in inputs[number]]
+                if not live or (any if self.processes[number].join else all)(live):
+                    active |= 1 << number
+                    if self.processes[number].condition is not None:
+                        left.append((place + 1, active, true | 1 << number))
+            yield active, true
 
     def sources_first(self) -> list[int]:
         """The processes, each behind the sources of its inputs. Raises ValueError where the edges lead around."""

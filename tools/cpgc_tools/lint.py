@@ -65,29 +65,12 @@ class Warning:
         return {"file": it.path, "line": it.line, "column": it.column, "grade": self.grade, "kind": self.kind, "name": it.name, "text": it.said}
 
 
-def outcomes(it: Graph) -> Iterator[int]:
-    """The processes that are active in each outcome of the conditions, as bits. Raises ValueError where the edges lead around."""
-    order = it.sources_first()
-    inputs = [[(edge.source, edge.when) for edge in it.inputs(process)] for process in it.processes]
-    left = [(0, 0, 0)]  # how far in the order, what is active, which values are true
-    while left:
-        at, active, true = left.pop()
-        for place in range(at, len(order)):
-            number = order[place]
-            live = [active >> source & 1 == 1 and when in (None, bool(true >> source & 1)) for source, when in inputs[number]]
-            if not live or (any if it.processes[number].join else all)(live):
-                active |= 1 << number
-                if it.processes[number].condition is not None:
-                    left.append((place + 1, active, true | 1 << number))
-        yield active
-
-
 class Lint:
     """A graph file of which kinds of warnings are asked. Raises ValueError where it is no graph."""
 
     def __init__(self, file: File, tables: Pack | None = None, periods: Iterable[int] = ()) -> None:
         self.file, self.graph, self.tables = file, Graph.of(file.document), tables
-        self.active = list(itertools.islice(outcomes(self.graph), MOST_TRACKS + 1))
+        self.active = [active for active, _ in itertools.islice(self.graph.outcomes(), MOST_TRACKS + 1)]
         ever = 0
         for it in self.active:
             ever |= it

@@ -53,7 +53,7 @@ Call = tuple[str, list[str]]  # a tool with its words
 
 
 CALLS: dict[str, list[str]] = {
-    "c-table": ["pair.pack", "N1"], "cycle": ["pair.toml", "pair.pack"], "draw": ["pair.toml", "pair.pack"], "explain": ["--patterns"],
+    "c-table": ["pair.pack", "N1"], "compare": ["pair.toml", "pair.toml"], "cycle": ["pair.toml", "pair.pack"], "draw": ["pair.toml", "pair.pack"], "explain": ["--patterns"],
     "explore": ["--quick", "pair.toml"],
     "from-tgff": ["--graph", "0", "engine.tgff", "engine-mapping.toml"], "lint": ["pair.toml", "pair.pack"], "pack": ["read", "pair.pack"], "page": ["pair.toml", "pair.pack"],
     "run-nodes": ["pair.toml", "pair.pack", "s.toml"], "slack": ["pair.toml"], "stream": ["pair.pack", "N2"], "timeline": [], "tuned": ["late.toml"],
@@ -69,6 +69,7 @@ def calls_of_graphs() -> list[tuple[str, list[str], str]]:
     """Each tool with a file x.toml in each place that takes a graph file or another TOML file, and its standard input."""
     return [
         ("why", ["x.toml"], ""), ("slack", ["x.toml"], ""), ("tuned", ["x.toml"], ""), ("cycle", ["x.toml", "pair.pack"], ""),
+        ("compare", ["x.toml", "pair.toml"], ""), ("compare", ["pair.toml", "x.toml"], ""),
         ("lint", ["x.toml"], ""), ("lint", ["pair.toml", "x.toml"], ""),
         ("explore", ["--quick", "x.toml"], ""), ("explore", ["--tries", "9", "--jobs", "1", "pair.toml", "x.toml"], ""),
         ("page", ["x.toml", "pair.pack"], ""), ("page", ["pair.toml", "pair.pack", "--due", "x.toml"], ""), ("draw", ["x.toml", "pair.pack"], ""),
@@ -165,7 +166,8 @@ class Hostile(Case):
                     for tool, words in calls(
                         ("pack", ["read", "evil.pack"]), ("c-table", ["evil.pack", "--", node]), ("c-table", ["--sizes", "evil.pack", "--", node]),
                         ("stream", ["evil.pack", "--", node]), ("page", ["pair.toml", "evil.pack"]), ("draw", ["pair.toml", "evil.pack"]),
-                        ("cycle", ["pair.toml", "evil.pack"]), ("lint", ["pair.toml", "evil.pack"]), ("run-nodes", ["pair.toml", "evil.pack", "s.toml"]),
+                        ("cycle", ["pair.toml", "evil.pack"]), ("lint", ["pair.toml", "evil.pack"]), ("compare", ["pair.toml", "pair.toml", "evil.pack", "pair.pack"]),
+                        ("run-nodes", ["pair.toml", "evil.pack", "s.toml"]),
                     ):
                         status, out, _ = self.fine(tool, *words, stdin=LATE_PLAY)
                         self.assertEqual((status > 0, out), (True, ""), tool)
