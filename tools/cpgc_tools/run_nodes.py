@@ -4,7 +4,7 @@
 
 The nodes are those of runtime/c/example. They run on this machine, or with --arm each on an emulated Cortex-M3
 (gcc-arm-none-eabi, libnewlib-arm-none-eabi and qemu-system-arm of Debian). This tool is their bus and their processes, tick by
-tick: a frame is there so much later than it was sent as the slot of its node lasts, an execution ends when the scenario says. It
+tick; ticks of a node in which nothing arrives, ends or is due are left out, as docs/MODEL.md allows. A frame is there so much later than it was sent as the slot of its node lasts, an execution ends when the scenario says. It
 writes what `cpgc play` writes but for the line `waits`, and what the watch of a node tells, as TIME NODE overrun, missing or
 strange ITEM. Tables that go on for more than 1,000,000 time units are refused. That they are safe, and that the scenario is one of the
 graph, is asked of cpgc first. It runs in a checkout of cpgc alone, which has the nodes in C.
@@ -100,6 +100,8 @@ class Cluster:
     def __init__(self, it: Graph, tables: Pack, scenario: Scenario) -> None:
         self.graph, self.tables, self.scenario = it, tables, scenario
         self.coming: dict[tuple[int, int], list[str]] = {}
+        times = [{0, *(time for row in rows for time, _ in row.columns)} for rows in tables.rows]
+        self.turns = [it | {time + 1 for time in it} for it in times]  # of each node the instants at which something may be due
         self.lines: list[Line] = []
         self.finish = 0
 
@@ -126,6 +128,7 @@ class Cluster:
         self.lines.append((time, node, START, process, self.text(process)))
         self.lines.append((time + planned, node, END, process, end + (f" ran {real}" if real < planned else "")))
         self.tell(time + real, node, f"end {process} {faults} {int(value)}")
+        self.turns[node].update(time + it + more for it in about.durations for more in (0, 1))
         self.finish = max(self.finish, time + planned)
 
     def did(self, time: int, node: int, words: Sequence[str]) -> None:
@@ -140,15 +143,19 @@ class Cluster:
         else:
             self.lines.append((time, node, WATCH, numbers[0], f"{kind} {self.text(numbers[0])}"))
 
-    def run(self, nodes: Sequence[Node], last: int) -> None:
-        """All ticks up to the last one."""
+    def run(self, nodes: Sequence[Node], last: int, skip: bool = False) -> None:
+        """All ticks up to the last one, or those alone in which something may be due."""
+        next_tick = [0] * len(nodes)
         for node in nodes:
             node.told()
         for time in range(last + 1):
-            for number, node in enumerate(nodes):
-                node.say([*self.coming.pop((time, number), []), "tick"])
-            for number, node in enumerate(nodes):
-                for words in node.told():
+            asked = [number for number in range(len(nodes)) if not skip or time in self.turns[number] or (time, number) in self.coming]
+            for number in asked:
+                left_out = [f"wait {time - next_tick[number]}"] if time > next_tick[number] else []
+                nodes[number].say([*left_out, *self.coming.pop((time, number), []), "tick"])
+                next_tick[number] = time + 1
+            for number in asked:
+                for words in nodes[number].told():
                     self.did(time, number, words)
 
     def trace(self) -> list[str]:
@@ -161,13 +168,13 @@ def last_instant(tables: Pack) -> int:
     return tables.last_time() + max((time for process in tables.processes for time in process.durations), default=0) + 1
 
 
-def simulated(it: Graph, tables: Pack, scenario: Scenario, place: Path, arm: bool = False, flags: Sequence[str] = ()) -> list[str]:
-    """The trace of a cluster in a scenario."""
+def simulated(it: Graph, tables: Pack, scenario: Scenario, place: Path, arm: bool = False, flags: Sequence[str] = (), every: bool = False) -> list[str]:
+    """The trace of a cluster in a scenario, with every tick or with those in which something may be due."""
     cluster, nodes = Cluster(it, tables, scenario), list[Node]()
     programs = [build(tables, node, place, arm, flags) for node in range(len(tables.nodes))]
     try:
         nodes += [Node(made, arm) for made in programs]
-        cluster.run(nodes, last_instant(tables))
+        cluster.run(nodes, last_instant(tables), not every)
     finally:
         for node in nodes:
             node.stop()
