@@ -85,5 +85,5 @@ _cpgc_tool() {
 }
 
 complete -F _cpgc cpgc
-complete -F _cpgc_tool cpgc-c-table cpgc-compare cpgc-cycle cpgc-draw cpgc-explain cpgc-explore cpgc-from-tgff cpgc-lint cpgc-pack cpgc-page cpgc-slack \
-    cpgc-stream cpgc-timeline cpgc-tuned cpgc-why
+complete -F _cpgc_tool cpgc-c-table cpgc-compare cpgc-cycle cpgc-draw cpgc-explain cpgc-explore cpgc-from-tgff cpgc-hyper-edges cpgc-jitter cpgc-lint cpgc-pack \
+    cpgc-page cpgc-slack cpgc-stream cpgc-timeline cpgc-tuned cpgc-why

@@ -4,7 +4,8 @@
 
 The nodes are those of runtime/c/example. They run on this machine, or with --arm each on an emulated Cortex-M3
 (gcc-arm-none-eabi, libnewlib-arm-none-eabi and qemu-system-arm of Debian). This tool is their bus and their processes, tick by
-tick; ticks of a node in which nothing arrives, ends or is due are left out, as docs/MODEL.md allows. A frame is there so much later than it was sent as the slot of its node lasts, an execution ends when the scenario says. It
+tick: a frame is there so much later than it was sent as the slot of its node lasts, an execution ends when the scenario says. Ticks
+of a node in which nothing arrives, ends or is due are left out, as docs/MODEL.md allows. It
 writes what `cpgc play` writes but for the line `waits`, and what the watch of a node tells, as TIME NODE overrun, missing or
 strange ITEM. Tables that go on for more than 1,000,000 time units are refused. That they are safe, and that the scenario is one of the
 graph, is asked of cpgc first. It runs in a checkout of cpgc alone, which has the nodes in C.

@@ -54,7 +54,7 @@ Call = tuple[str, list[str]]  # a tool with its words
 
 CALLS: dict[str, list[str]] = {
     "c-table": ["pair.pack", "N1"], "compare": ["pair.toml", "pair.toml"], "cycle": ["pair.toml", "pair.pack"], "draw": ["pair.toml", "pair.pack"], "explain": ["--patterns"],
-    "explore": ["--quick", "pair.toml"],
+    "explore": ["--quick", "pair.toml"], "hyper-edges": ["rates.toml", "200", "pair.toml"], "jitter": ["joined.toml"],
     "from-tgff": ["--graph", "0", "engine.tgff", "engine-mapping.toml"], "lint": ["pair.toml", "pair.pack"], "pack": ["read", "pair.pack"], "page": ["pair.toml", "pair.pack"],
     "run-nodes": ["pair.toml", "pair.pack", "s.toml"], "slack": ["pair.toml"], "stream": ["pair.pack", "N2"], "timeline": [], "tuned": ["late.toml"],
     "why": ["late.toml"],
@@ -69,6 +69,7 @@ def calls_of_graphs() -> list[tuple[str, list[str], str]]:
     """Each tool with a file x.toml in each place that takes a graph file or another TOML file, and its standard input."""
     return [
         ("why", ["x.toml"], ""), ("slack", ["x.toml"], ""), ("tuned", ["x.toml"], ""), ("cycle", ["x.toml", "pair.pack"], ""),
+        ("hyper-edges", ["x.toml", "200", "pair.toml"], ""), ("hyper-edges", ["rates.toml", "200", "x.toml"], ""), ("jitter", ["x.toml"], ""),
         ("compare", ["x.toml", "pair.toml"], ""), ("compare", ["pair.toml", "x.toml"], ""),
         ("lint", ["x.toml"], ""), ("lint", ["pair.toml", "x.toml"], ""),
         ("explore", ["--quick", "x.toml"], ""), ("explore", ["--tries", "9", "--jobs", "1", "pair.toml", "x.toml"], ""),
@@ -90,6 +91,8 @@ class Hostile(Case):
             self.file(name, text)
         self.pack = self.cpgc("compile", "pair.toml").stdout
         self.file("pair.pack", self.pack)
+        self.file("rates.toml", '[[edge]]\nfrom = "0.B"\nto = "0.A"\ntake = "latest before"\n')
+        self.file("joined.toml", self.cpgc("hyper", "200", "pair.toml", "400", "pair.toml").stdout)
         for file in TOOL_EXAMPLES.iterdir():
             self.file(file.name, file.read_bytes())
 
