@@ -4,9 +4,10 @@
 
 Behind RULES stand the words of `cpgc hyper`, which makes the copies PART.INSTANCE.NAME; parts count from 0. RULES is a TOML file:
 
+    parts = ["inner", "outer"]  # may be left out: names of the parts in place of numbers, in all that shows the graph
     [[edge]]
-    from = "1.setpt"            # a process of part 1
-    to = "0.normal"             # a process of part 0
+    from = "outer.setpt"        # a process of a part; 1.setpt without names
+    to = "inner.normal"
     take = "latest before"      # which instances an edge leads from and to
     bytes = 12                  # bytes, when and frozen as in a graph file
 
@@ -28,6 +29,7 @@ For example, `hyper-edges rates.toml 1000 inner.toml 2000 outer.toml > joined.to
 """
 from __future__ import annotations
 
+import re
 from collections.abc import Iterator
 from dataclasses import dataclass
 from typing import NoReturn
@@ -39,6 +41,7 @@ from cpgc_tools.instances import Instances
 from cpgc_tools.program import Program
 from cpgc_tools.toml_places import Table
 
+PART = re.compile("[A-Za-z_][A-Za-z0-9_-]*")  # a name of a part
 TAKES = ("latest before", "latest", "latest due", "all within")
 KEYS = ("from", "to", "take", "pairs", "once", "bytes", "when", "frozen")
 MOST_OUTCOMES = 2**14  # of a graph that cpgc takes
@@ -64,28 +67,52 @@ class Rules:
     def __init__(self, file: File, it: Instances) -> None:
         self.file, self.it = file, it
         for key in file.document:
-            if key != "edge":
-                self.fail(f"{key} is no key of rules{near(key, ['edge'])}", key)
+            if key not in ("edge", "parts"):
+                self.fail(f"{key} is no key of rules{near(key, ['edge', 'parts'])}", key)
         entries = file.document.get("edge", [])
-        if not isinstance(entries, list) or not entries or not all(isinstance(entry, dict) for entry in entries):
+        if not isinstance(entries, list) or not (entries or "parts" in file.document) or not all(isinstance(entry, dict) for entry in entries):
             self.fail("there is no [[edge]]")
         self.entries: list[Table] = entries
+        if "parts" in file.document:
+            self.it = self.named(it, file.document["parts"])
+
+    def named(self, it: Instances, names: object) -> Instances:
+        """The same with names in place of the numbers of parts."""
+        if not isinstance(names, list) or not all(isinstance(name, str) and PART.fullmatch(name) for name in names) or len(set(names)) < len(names):
+            self.fail("parts is no list of names, each with a letter first, without dots, and once", "parts")
+        if len(names) != len(it.parts):
+            self.fail(f"parts has {len(names)} names, and there are {len(it.parts)} parts", "parts")
+        labels = dict(zip((part.label for part in it.parts), names))
+
+        def renamed(name: str) -> str:
+            label, rest = name.split(".", 1)
+            new = f"{labels[label]}.{rest}"
+            if not graph.is_name(new):
+                self.fail(f"{new} has more than 32 letters", "parts")
+            return new
+
+        document = dict(it.graph.document)
+        document["process"] = [{**entry, "name": renamed(entry["name"])} for entry in document["process"]]
+        document["edge"] = [{**entry, "from": renamed(entry["from"]), "to": renamed(entry["to"])} for entry in document.get("edge", [])]
+        found = instances.of(Graph.of(document))
+        assert found is not None
+        return found
 
     def fail(self, what: str, *path: str | int) -> NoReturn:
         cli.fail(self.file.at(what, *path))
 
     def end(self, number: int, key: str) -> End:
         """The process that a rule names by a key."""
-        said = self.entries[number].get(key)
-        part, _, name = said.partition(".") if isinstance(said, str) else ("", "", "")
-        if not part.isascii() or not part.isdigit() or not name:
-            self.fail(f"edge {number} has {key} = {shown(said)}, which isn't PART.NAME, as \"0.{self.it.parts[0].names[0]}\"", "edge", number, key)
-        if len(part) > 9 or int(part) >= len(self.it.parts):
-            self.fail(f"edge {number}: {key} = {shown(said)}: there are {len(self.it.parts)} parts, counted from 0", "edge", number, key)
-        names = self.it.parts[int(part)].names
+        said, labels = self.entries[number].get(key), [part.label for part in self.it.parts]
+        label, _, name = said.partition(".") if isinstance(said, str) else ("", "", "")
+        if not label or not name:
+            self.fail(f"edge {number} has {key} = {shown(said)}, which isn't PART.NAME, as \"{labels[0]}.{self.it.parts[0].names[0]}\"", "edge", number, key)
+        if label not in labels:
+            self.fail(f"edge {number}: {key} = {shown(said)}: the parts are {', '.join(labels)}", "edge", number, key)
+        names = self.it.parts[labels.index(label)].names
         if name not in names:
-            self.fail(f"edge {number}: {key} = {shown(said)}: part {int(part)} has no process {name}{near(name, names)}", "edge", number, key)
-        return End(int(part), name)
+            self.fail(f"edge {number}: {key} = {shown(said)}: part {label} has no process {name}{near(name, names)}", "edge", number, key)
+        return End(labels.index(label), name)
 
     def pairs(self, number: int, source: End, target: End) -> list[tuple[int, int]]:
         """The instances of a rule."""
@@ -177,7 +204,8 @@ def main() -> None:
     it = instances.of(graph.parsed("cpgc hyper", text))
     if it is None:
         cli.fail("the parts have no processes")
-    edges = Rules(rules, it).all_edges()
-    found = joined(it.graph, edges, said.rules)
+    asked = Rules(rules, it)
+    edges = asked.all_edges()
+    found = joined(asked.it.graph, edges, said.rules)
     cli.write_lines([f"# cpgc hyper {cli.shown(' '.join(said.parts))}, and edges by {cli.shown(said.rules)}:", *(f"#   {edge['from']} > {edge['to']}" for edge in edges)])
     cli.write(found.text())

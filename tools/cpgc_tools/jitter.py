@@ -48,7 +48,7 @@ def offsets(it: Instances, tables: Pack, process: Named) -> Offsets | None:
     part, name = process
     found = Offsets([], [])
     for instance in range(it.parts[part].count):
-        row = tables.row("start", f"{part}.{instance}.{name}")
+        row = tables.row("start", it.name(part, instance, name))
         times = [time - instance * it.parts[part].period for time, _ in row[1].columns] if row else []
         if times:
             found.least.append(min(times))
@@ -85,8 +85,8 @@ def released(cpgc: Program, it: Instances, first: Mapping[Named, int]) -> Found 
     return None
 
 
-def called(process: Named) -> str:
-    return f"{process[0]}.{process[1]}"
+def called(it: Instances, process: Named) -> str:
+    return f"{it.parts[process[0]].label}.{process[1]}"
 
 
 def repeated(it: Instances) -> list[Named]:
@@ -96,7 +96,7 @@ def repeated(it: Instances) -> list[Named]:
 
 def named(it: Instances, names: list[str], path: str) -> list[Named]:
     """The processes whose releases are asked for: those of the names, or those that nothing waits for."""
-    known = {called(process): process for process in repeated(it)}
+    known = {called(it, process): process for process in repeated(it)}
     if unknown := [name for name in names if name not in known]:
         cli.fail(f"{path}: {unknown[0]} is no process with more than one instance; they are {', '.join(list(known)[:12]) or 'none'}{' ..' if len(known) > 12 else ''}")
     sources = {edge.source for edge in it.graph.edges}
@@ -109,13 +109,13 @@ def lines(it: Instances, tables: Pack, found: Mapping[Named, Found | None], ever
         each = offsets(it, tables, process)
         node = it.graph.node_of(it.copy(process[0], 0, process[1]))
         if each is None:
-            rows.append((called(process), node, "never"))
+            rows.append((called(it, process), node, "never"))
             continue
         release: tuple[object, ...] = ()
         if process in found:
             one = found[process]
             release = ("none",) if one is None else (one.releases[process], one.worst)
-        rows.append((called(process), node, min(each.least), max(each.greatest), each.apart, each.within, *release))
+        rows.append((called(it, process), node, min(each.least), max(each.greatest), each.apart, each.within, *release))
         if everything and len(each.least) == it.parts[process[0]].count:
             rows += [(f"  in {number}", "", a, b, "", b - a) for number, (a, b) in enumerate(zip(each.least, each.greatest))]
     yield from (line.rstrip() for line in show.in_columns(rows))
@@ -143,5 +143,5 @@ def main() -> None:
         together = released(cpgc, it, first) if len(first) > 1 else None
     cli.write_lines(lines(it, tables, found, said.all))
     if len(first) > 1:
-        put = together and ", ".join(f"{called(process)} {release}" for process, release in together.releases.items())
+        put = together and ", ".join(f"{called(it, process)} {release}" for process, release in together.releases.items())
         cli.write(f"together: {put}: worst {together.worst}\n" if together else "together: none\n")

@@ -142,6 +142,7 @@ class Program:
 
     def __init__(self, named: str | None = None, folder: str | None = None) -> None:
         self.path, self.ended = found(named), False
+        self.runs, self.tells = 0, True  # how many there were, and whether that is told where they take long
         self.running: set[subprocess.Popen[bytes]] = set()
         try:
             self.folder = folder or tempfile.mkdtemp(prefix="cpgc-")
@@ -190,6 +191,9 @@ class Program:
     def run(self, *words: str, seconds: float | None = SECONDS) -> Ran:
         if self.ended:
             cli.fail("ended")
+        self.runs += 1
+        if self.tells:
+            cli.progress(f"{self.runs} runs of cpgc")
         return run([self.path, *words], seconds=seconds, running=self.running)
 
     def output(self, *words: str) -> bytes:

@@ -46,6 +46,7 @@ def build(tables: Pack, node: int, place: Path, arm: bool, flags: Sequence[str] 
     table.write_text("\n".join([*c_table.source(tables, node), ""]))
     boards = sorted((C / "example/arm").glob("*.c")) if arm else [C / "example/pc.c"]
     files = [table, C / "cpg_node.c", C / "example/node.c", C / "example/wire.c", *boards]
+    cli.progress(f"building node {node + 1} of {len(tables.nodes)}")
     words = [*(ARM if arm else ["gcc", "-O1"]), *WARNINGS, *flags, *c_table.size_words(tables, node), "-I", str(C), *map(str, files), "-o", str(made)]
     ran = program.run(words, seconds=600)
     if ran.status:
@@ -150,6 +151,7 @@ class Cluster:
         for node in nodes:
             node.told()
         for time in range(last + 1):
+            cli.progress(f"{time} of {last} ticks")
             asked = [number for number in range(len(nodes)) if not skip or time in self.turns[number] or (time, number) in self.coming]
             for number in asked:
                 left_out = [f"wait {time - next_tick[number]}"] if time > next_tick[number] else []

@@ -51,7 +51,10 @@ class HyperEdges(Case):
         path = self.folder / "rules.toml"
         for rules, said in [
             ("", " there is no [[edge]]"), ("edge = 3", " there is no [[edge]]"), ("[[edge]", None), (rule('take = "latest"') + "[x]\n", "5: x is no key of rules"),
-            (rule('take = "latest"', "2.control"), '2: edge 0: from = "2.control": there are 2 parts, counted from 0'),
+            ("parts = 3", "1: parts is no list of names, each with a letter first, without dots, and once"), ('parts = ["a"]', "1: parts has 1 names, and there are 2 parts"),
+            ('parts = ["a", "a"]', "1: parts is no list of names, each with a letter first, without dots, and once"),
+            (f'parts = ["a", "{"b" * 30}"]', f"1: {'b' * 30}.0.log has more than 32 letters"),
+            (rule('take = "latest"', "2.control"), '2: edge 0: from = "2.control": the parts are 0, 1'),
             (rule('take = "latest"', "control"), '2: edge 0 has from = "control", which isn\'t PART.NAME, as "0.control"'),
             (rule('take = "latest"', "0.contol"), '2: edge 0: from = "0.contol": part 0 has no process contol; is control meant?'),
             (rule('take = "last"'), '4: edge 0: take = "last" is none of latest before, latest, latest due, all within; is latest meant?'),
@@ -71,6 +74,15 @@ class HyperEdges(Case):
         self.of("hyper-edges", self.file("rules.toml", around), *PARTS, status=1,
                 err=f"hyper-edges: {path}: with these edges a process would wait for itself; `cpgc show` names them in what hyper writes with the edges one by one\n")
         self.of("hyper-edges", path, "20", "none.toml", status=2, err="cpgc: read fault\n")
+
+    def test_names_of_parts(self) -> None:
+        """Parts may have names in place of numbers, in rules and in the graph."""
+        rules = 'parts = ["fast", "slow"]\n'
+        document = tomllib.loads(self.of("hyper-edges", self.file("rules.toml", rules), *PARTS))
+        self.assertEqual([it["name"] for it in document["process"]], ["fast.0.control", "fast.1.control", "fast.2.control", "slow.0.log", "slow.1.log"])
+        self.assertEqual(self.edges(rules + rule('take = "latest due"', "fast.control", "slow.log")), [("fast.0.control", "slow.1.log")])
+        named = self.file("named.toml", self.of("hyper-edges", self.folder / "rules.toml", *PARTS))
+        self.assertEqual(self.of("jitter", named).splitlines()[1].split()[0], "fast.control")
 
     def test_activity(self) -> None:
         """B runs if A is true and J always: an edge from B alone would keep `log` from running, one with `when` is meant so, and none leads to a join."""
