@@ -8,7 +8,7 @@ OLD and NEW are graph files; their tables are compiled, or those of packs, which
 end of all scenarios, how many columns there are, the latest end and the slack of each process for which one of them differs, and what moved:
 each start, message and broadcast that has another time in a scenario of both graphs. Of these stand how much earlier and later it is, and the
 scenario in which it differs the most. Processes are known by their names, messages by both ends, so that other numbers change nothing.
-A scenario of both strikes only what is in both. Of an item with more than 4,000,000 pairs of columns the latest times alone are compared; of a graph
+A scenario of both has the same faults and the same true values, and strikes only what is in both. Of an item with more than 4,000,000 pairs of columns the latest times alone are compared; of a graph
 with more than 4,096 outcomes it isn't asked whether its conditions allow what two columns have in common.
 
 Of a graph that is refused as late or too wide the graphs alone are compared, and then the line and the status are those of cpgc.
@@ -96,6 +96,7 @@ class Side:
         self.rows: dict[Name, Row] = {}
         for _, row in tables.acts():
             self.rows[self.name_of(row)] = row
+        self.valued = {process.number for process in it.deciding}
         self.outcomes = list(itertools.islice(it.outcomes(), MOST_OUTCOMES + 1))
 
     def name_of(self, row: Row) -> Name:
@@ -128,19 +129,28 @@ class Side:
         return min((time for time, _ in self.rows["start", name].columns), default=0)
 
     @functools.cached_property
-    def known(self) -> dict[frozenset[tuple[Variable, int]], bool]:
+    def known(self) -> dict[frozenset[tuple[int, bool | None, bool]], bool]:
         return {}
 
-    def can_be(self, cube: Cube) -> bool:
-        """Whether there is an outcome in which all that a cube speaks of is active, with its values."""
+    def can_be(self, own: Cube, other: Cube) -> bool:
+        """Whether there is an outcome of a column of this graph and one of the other: what the own one speaks of is active. What isn't active has
+        no fault, and a value that the other one asks for isn't true there."""
         if len(self.outcomes) > MOST_OUTCOMES:
             return True
-        asked = frozenset((variable, low if variable[1] else 0) for variable, (low, _) in cube.items() if variable[0] in self.graph.number)
-        if asked not in self.known:
-            self.known[asked] = any(
-                all(active >> (number := self.graph.number[name]) & 1 and (not is_value or true >> number & 1 == value) for (name, is_value), value in asked)
+        asked: set[tuple[int, bool | None, bool]] = set()  # a process, its value or None, and whether it has to be active
+        for cube, is_own in (own, True), (other, False):
+            for (name, is_value), (low, _) in cube.items():
+                number = self.graph.number[name]
+                if is_value and number in self.valued:
+                    asked.add((number, bool(low), is_own or bool(low)))
+                elif is_own or not is_value and low:
+                    asked.add((number, None, True))
+        key = frozenset(asked)
+        if key not in self.known:
+            self.known[key] = any(
+                all((not must or active >> number & 1 == 1) and (value is None or (true >> number & 1 == 1) == value) for number, value, must in key)
                 for active, true in self.outcomes)
-        return self.known[asked]
+        return self.known[key]
 
 
 @dataclass(frozen=True)
@@ -228,7 +238,7 @@ class Comparison:
                 if least <= shift <= greatest and abs(shift) <= most:
                     continue
                 shared = both(cube, its, self.most)
-                if shared is None or not self.old.can_be(shared) or not self.new.can_be(shared):
+                if shared is None or not self.old.can_be(cube, its) or not self.new.can_be(its, cube):
                     continue
                 least, greatest = min(least, shift), max(greatest, shift)
                 if abs(shift) > most:

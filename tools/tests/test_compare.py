@@ -1,8 +1,14 @@
 """The tool compare. Wanted values are worked out by hand from docs/MODEL.md."""
 import json
+import random
 import xml.etree.ElementTree as xml
 
+from cpgc_tools import pack
+from cpgc_tools.compare import Comparison, Side
+from cpgc_tools.play import Scenario
+from cpgc_tools.schedule import matches, numbers_of
 from tests.case import BRANCHING, EXAMPLES, LATE, PAIR, SINGLE, Case
+from tests.drawn import changed, drawn, scenarios
 
 # with a wcet of 20 A lasts 25, and 52 with a fault, so that e0 goes at 40 or 60 and B starts at 50 or 70
 FASTER = """process A: wcet 20, was 30
@@ -94,3 +100,35 @@ class Compare(Case):
         self.assertIn(("473.8", "356.2", "#c4c8cd"), bars)
         self.assertIn(("473.8", "226.7", "#1a1a1a"), bars)
         self.assertIn("-20", [it.text for it in root.iter("{http://www.w3.org/2000/svg}text")])
+
+    def times(self, side: Side, scenario: Scenario) -> dict[tuple[str, ...], int]:
+        """When each item is in a scenario."""
+        numbers = numbers_of(side.graph, scenario)
+        return {name: time for name, row in side.rows.items() for time, cube in row.columns if matches(cube, numbers)}
+
+    def test_drawn(self) -> None:
+        """Of drawn graphs and others made of them, how far each item moves is what it is scenario by scenario, where each scenario of the one is
+        beside those of the other with the same faults and the same true values."""
+        rng, moved = random.Random(2), 0
+        for number in range(60):
+            graphs = [drawn(rng)]
+            graphs.append(changed(rng, graphs[0]))
+            made = [self.cpgc("compile", self.file(f"{n}.toml", it.text())) for n, it in enumerate(graphs)]
+            if any(it.returncode for it in made):
+                continue
+            with self.subTest(number, old=graphs[0].text(), new=graphs[1].text()):
+                old, new = (Side(it, pack.parsed(done.stdout)) for it, done in zip(graphs, made))
+                valued = {it.name for it in old.graph.deciding} & {it.name for it in new.graph.deciding}
+                there: dict[tuple[frozenset[tuple[str, int]], frozenset[str]], list[Scenario]] = {}
+                for scenario in scenarios(new.graph):
+                    there.setdefault((frozenset(scenario.faults.items()), scenario.true & valued), []).append(scenario)
+                shifts: dict[tuple[str, ...], set[int]] = {}
+                for scenario in scenarios(old.graph):
+                    for other in there.get((frozenset(scenario.faults.items()), scenario.true & valued), []):
+                        before, after = self.times(old, scenario), self.times(new, other)
+                        for name in before.keys() & after.keys():
+                            shifts.setdefault(name, set()).add(after[name] - before[name])
+                wanted = {name: (max(-min(it), 0), max(max(it), 0)) for name, it in shifts.items() if it != {0}}
+                self.assertEqual({it.name: (it.earlier, it.later) for it in Comparison(old, new).items() if it.times}, wanted)
+                moved += bool(wanted)
+        self.assertGreater(moved, 10)

@@ -1,7 +1,11 @@
 """The tool lint. Wanted lines are worked out by hand from docs/MODEL.md."""
 import json
+import random
 
+from cpgc_tools import lint, pack
+from cpgc_tools.graph import File
 from tests.case import BRANCHING, EXAMPLES, LATE, PAIR, Case
+from tests.drawn import drawn
 
 NO_JOIN = BRANCHING.replace("join = true, ", "")
 CLEAN = """faults = 0
@@ -136,6 +140,24 @@ class Lint(Case):
              "text": "a round of 20 doesn't divide the deadline of 105: the tables repeat after 120 at the earliest"}])
         named = json.loads(self.of("lint", "--json", self.file("x.toml", NO_JOIN)))[-1]
         self.assertEqual((named["line"], named["column"], named["grade"], named["kind"], named["name"]), (9, 3, "warning", "never-runs", "J"))
+
+    def test_drawn(self) -> None:
+        """Of drawn graphs: what never runs is what the tables of cpgc never start, and nothing that runs ends before its least end."""
+        rng, idle = random.Random(1), 0
+        for number in range(60):
+            text = drawn(rng).text()
+            path = self.file("x.toml", text)
+            made = self.cpgc("compile", path)
+            if made.returncode == 0:
+                with self.subTest(number, graph=text):
+                    tables, it = pack.parsed(made.stdout), lint.Lint(File(path))
+                    self.assertEqual(it.idle, {row.item.of for _, row in tables.acts() if row.item.kind == "start" and not row.columns})
+                    least, ends = it.least_ends(), tables.latest_ends()
+                    self.assertEqual({it.graph.processes[p].name for p in least}, set(ends))
+                    for p, ways in least.items():
+                        self.assertLessEqual(ways[-1][0], ends[it.graph.processes[p].name])
+                    idle += len(it.idle)
+        self.assertGreater(idle, 0)
 
     def test_no_graph(self) -> None:
         for text in "faults = 0\n", CLEAN.replace('to = "B"', 'to = "A"'), CLEAN.replace('to = "C"', 'to = "A"'):
