@@ -138,6 +138,7 @@ REFUSED: list[tuple[list[str], Mapping[str, Content], str, list[str]]] = [
     (["show", "w.toml"], {"w.toml": (EXAMPLES / "too-wide.toml").read_text().replace("node = [", f"order = [{TEN}]\nnode = [", 1)}, "too wide start p10",
      ["w.toml:18: the start of p10 might need more", "w.toml:6: under this order a row as made has more than 16,384 columns"]),
     (["show", "pair.tml"], {}, "read fault", ["pair.tml: the graph can't be read: No such file or directory", "to mend it: is pair.toml meant?"]),
+    (["show", "nosuch.toml"], {}, "read fault", ["nosuch.toml: the graph can't be read", "to mend it: name a file that is there and may be read"]),
     (["check", "pair.toml", "."], {}, "read fault", [".: the pack can't be read: Is a directory"]),
     ([], {}, "words", ["the commands of cpgc are", "  show GRAPH                          writes the tables of a graph as text"]),
     (["chekc", "pair.toml", "pair.pack"], {}, "words", ["chekc is no command", "to mend it: cpgc check GRAPH PACK"]),
@@ -294,6 +295,22 @@ to mend it: ask `why {file}` what held it up; `slack` says how far a wcet has to
                 found = json.loads(self.run_tool("explain", "--json", *words[1:], stdin=f"cpgc: {line}")[1]) if words[1:] and not any(it.startswith("--") for it in words) else {}
             if found:
                 self.assertEqual((found["number"], found["said"]), (int(line.split()[1]) if line.startswith("refused") else None, f"cpgc: {line}"))
+
+    def test_audit(self) -> None:
+        """Of a log that no scenario gives it is said from when on. e0 goes at 40 without a fault in A and at 80 with one; then B starts 10 later."""
+        for log, said in [
+            ("until 200\n0 N1 start A\n40 N1 send e0\n90 N2 start B\n",
+             "x.log: at 50 each scenario that is left has an act, and the log has none; before, it is the log of the scenario none, and perhaps of others"),
+            ("until 200\n0 N1 start A\n80 N1 send e0\n91 N2 start B\n",
+             "x.log: at 90 each scenario that is left has an act, and the log has none; before, it is the log of the scenario A faults 1, and perhaps of others"),
+            ("until 200\n0 N1 start A\n70 N1 send e0\n",
+             "x.log:3: at 70 no scenario has just N1 send e0; before, it is the log of the scenario A faults 1, and perhaps of others"),
+            ("until 200\n", "x.log: at 0 each scenario that is left has an act, and the log has none"),
+            ("until 200\n0 N1 start A\n80 N1 send e0\n90 N2 start B\n", None),
+        ]:
+            self.made({"x.log": log})
+            done = subprocess.run([TOOLS / "explain", "--", CPGC, *AUDIT], cwd=self.folder, capture_output=True, text=True, check=False)
+            self.assertEqual((done.returncode, done.stderr), (0, f"{said}\n" if said else ""), done.stdout)
 
     def test_files_of_hyper(self) -> None:
         """What is wrong in the second part is told of its file, whatever the first one has there."""

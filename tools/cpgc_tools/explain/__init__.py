@@ -7,7 +7,8 @@
 
 Behind `--` stands a command. It is run, its outputs stay as they are, and behind its line on the error stream comes what that line
 means. The status is that of the command. It may also be another tool that passes a line of cpgc on. Behind `cpgc show`, `compile` and `check`
-stand the warnings that `lint` has of the graph, such as that of a process that never runs.
+stand the warnings that `lint` has of the graph, such as that of a process that never runs. Behind `impossible` of `cpgc audit` stands up to
+which time the log is one of the tables, and what goes wrong then.
 
 Without `--` the lines come on standard input, and all of them are written again. The files are those of the command, in its order. The
 status is the one that cpgc has with such a line, and 0 where there is none.
@@ -30,7 +31,7 @@ import sys
 from collections.abc import Sequence
 
 from cpgc_tools import cli, lint, program
-from cpgc_tools.explain import graph, pack, run, scenario, stream
+from cpgc_tools.explain import audit, graph, pack, run, scenario, stream
 from cpgc_tools.explain.files import COMMANDS, Files, mend
 from cpgc_tools.explain.table import explained, patterns
 from cpgc_tools.graph import Sentence
@@ -44,6 +45,9 @@ PARTS = graph, pack, run, scenario, stream  # whose functions explain the lines 
 def run_command(words: Sequence[str], as_json: bool) -> int:
     """Runs a command, and explains its line."""
     ran = program.run(words, seconds=None, passed_on=True)
+    if words[1:2] == ["audit"] and ran.status == 0 and not as_json:
+        for line in audit.told(files_of(words), program_of(words)):
+            cli.tell(line)
     if not as_json:
         cli.tell_bytes(ran.err)
     if ran.err:

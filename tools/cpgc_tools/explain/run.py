@@ -12,6 +12,13 @@ from cpgc_tools.graph import File, Sentence
 from cpgc_tools.program import Program
 
 
+def like(name: str, names: list[str]) -> str | None:
+    """The name of a file that may have been meant: one that is like it also without their endings."""
+    found = nearest(name, names)
+    stems = [os.path.splitext(it)[0] for it in (name, found or "")]
+    return found if found and nearest(stems[0], stems[1:]) else None
+
+
 def listed_in(folder: str) -> list[str]:
     """The names in a folder, none where it can't be looked at."""
     try:
@@ -74,8 +81,7 @@ def read_fault(files: Files) -> Sentences:
         if file.fault:
             yield Sentence.of(f"the {kind if kind != 'other' else 'file'} can't be read: {file.fault}", file.path)
             folder = os.path.dirname(file.path) or "."
-            names = listed_in(folder)
-            found = nearest(os.path.basename(file.path), [it for it in names if it != os.path.basename(file.path)])
+            found = like(os.path.basename(file.path), [it for it in listed_in(folder) if it != os.path.basename(file.path)])
             yield mend(f"is {os.path.join(os.path.dirname(file.path), found)} meant?" if found else "name a file that is there and may be read")
             return
     yield "a file can't be read" + (f": one of {listed(file.path for _, file in files.order)}" if files.order else "")
