@@ -8,7 +8,7 @@ OLD and NEW are graph files; their tables are compiled, or those of packs, which
 end of all scenarios, how many columns there are, the latest end and the slack of each process for which one of them differs, and what moved:
 each start, message and broadcast that has another time in a scenario of both graphs. Of these stand how much earlier and later it is, and the
 scenario in which it differs the most. Processes are known by their names, messages by both ends, so that other numbers change nothing.
-A scenario of both has the same faults and the same true values, and strikes only what is in both. Of an item with more than 4,000,000 pairs of columns the latest times alone are compared; of a graph
+A scenario of both has the same faults and the same true values, and strikes only what is in both. Of an item with more than 1,000,000 pairs of columns the latest times alone are compared; of a graph
 with more than 4,096 outcomes it isn't asked whether its conditions allow what two columns have in common.
 
 Of a graph that is refused as late or too wide the graphs alone are compared, and then the line and the status are those of cpgc.
@@ -32,7 +32,7 @@ from cpgc_tools.play import Scenario
 from cpgc_tools.program import Program
 from cpgc_tools.svg import INK, RULE, SOFT, STRONG, Axis, Canvas, cut_to, heading, legend, width_of
 
-MOST_PAIRS, MOST_OUTCOMES = 4_000_000, 4096
+MOST_PAIRS, MOST_OUTCOMES = 1_000_000, 4096
 MOST_LISTED = 20
 LANE, NAMES = 20, 150  # of the picture, in pixels
 Name = tuple[str, ...]  # of an item: start and a process, send and both ends with how many there were before, or tell and a process
@@ -226,13 +226,15 @@ class Comparison:
         counts = len(before.columns) if before else 0, len(after.columns) if after else 0
         if not before or not after or 0 in counts:
             return Item(name, counts) if counts[0] != counts[1] else None
+        cubes, new = self.cubes(self.old, before), self.cubes(self.new, after)
+        if cubes == new:
+            return None
         if counts[0] * counts[1] > MOST_PAIRS:
             times = max(time for time, _ in before.columns), max(time for time, _ in after.columns)
             shift = times[1] - times[0]
             return Item(name, counts, max(-shift, 0), max(shift, 0), times, "the latest of its columns") if shift else None
         least, greatest, most, found = 10**20, -10**20, 0, None
-        new = self.cubes(self.new, after)
-        for time, cube in self.cubes(self.old, before):
+        for time, cube in cubes:
             for other, its in new:
                 shift = other - time
                 if least <= shift <= greatest and abs(shift) <= most:
@@ -248,7 +250,11 @@ class Comparison:
         return Item(name, counts, max(-least, 0), max(greatest, 0), *found, always=least == greatest)
 
     def items(self) -> list[Item]:
-        found = [it for name in dict.fromkeys((*self.old.rows, *self.new.rows)) if (it := self.item(name))]
+        names, found = list(dict.fromkeys((*self.old.rows, *self.new.rows))), []
+        for number, name in enumerate(names):
+            cli.progress(f"{number} of {len(names)} items")
+            if it := self.item(name):
+                found.append(it)
         return sorted(found, key=lambda it: -max(it.earlier, it.later))
 
     def processes(self) -> list[tuple[str, str, int | None, int | None, int | None, int | None]]:

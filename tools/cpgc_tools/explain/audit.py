@@ -9,7 +9,7 @@ from cpgc_tools.explain.files import Files, listed
 from cpgc_tools.graph import Sentence
 from cpgc_tools.program import Program
 
-SECONDS = 600.0  # of one of the runs
+SECONDS = 60.0  # of one of the runs
 
 
 def told(files: Files, program: str | None) -> Iterator[str]:
@@ -23,7 +23,7 @@ def told(files: Files, program: str | None) -> Iterator[str]:
     if until is None or len(acts) < len(lines):
         return
     try:
-        with Program(program) as cpgc:
+        with Program(program, seconds=SECONDS) as cpgc:
             paths = cpgc.file("graph.toml", graph.bytes), cpgc.file("tables.pack", pack.bytes)
 
             def asked(time: int) -> str:

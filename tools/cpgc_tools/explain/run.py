@@ -12,6 +12,9 @@ from cpgc_tools.graph import File, Sentence
 from cpgc_tools.program import Program
 
 
+SECONDS = 60.0  # of each run that asks for more: what isn't known by then isn't said
+
+
 def like(name: str, names: list[str]) -> str | None:
     """The name of a file that may have been meant: one that is like it also without their endings."""
     found = nearest(name, names)
@@ -151,7 +154,7 @@ def true_miss(files: Files, file: File) -> tuple[bool, list[str]]:
     if files.program is None or it is None or found is None or found[2] not in it.number:
         return False, []
     try:
-        with Program(files.program) as cpgc:
+        with Program(files.program, seconds=SECONDS) as cpgc:
             case = why.Case(cpgc, it, why.late_by(files.line, it))
             over = {name: end - it.processes[it.number[name]].due for name, end in case.ends.items()}
             worst = max(over, key=over.__getitem__)
