@@ -238,6 +238,7 @@ class Explain(Case):
         for change, line, advice in [
             (("faults = 1", "period = 9\nfaults = 1"), "refused 2 field top unknown", "periods stand in no graph file: cpgc hyper PERIOD GRAPH .. repeats"),
             (("faults = 1", 'unit = "us"\nfaults = 1'), "refused 2 field top unknown", "no unit is written"),
+            (("wcet = 30", "wcet = 30, priority = 1"), "refused 2 field process 0 unknown", "there are no priorities: the key order"),
             (("wcet = 30", "wcet = 1.5"), "refused 2 field process 0 wcet", "give it a whole number from 1 to 1,000,000,000; for fractions take a smaller"),
             (("wcet = 30", 'wcet = "30us"'), "refused 2 field process 0 wcet", "give it a whole number from 1 to 1,000,000,000, without quotes; no unit"),
         ]:
@@ -252,6 +253,10 @@ class Explain(Case):
             "pair.toml:7: process B ends at 105, 93 after its due of 12, in A faults 1; no order ends it before 105 in all scenarios",
             "pair.toml:2: one process has a wcet above the deadline of 12 (A): is it in the same unit?",
             "pair.toml:4: a round of all slots lasts 20, longer than the deadline of 12: is it in the same unit?"])
+        self.made(pair("length = 10", "length = 40"))
+        with contextlib.chdir(self.folder):
+            said = explained("cpgc: late 155 by B in A faults 1", Files(["pair.toml"], "show"))[1]
+        self.assertEqual(said[1], "pair.toml:4: a way with 1 message may wait for a round of 80, half of the deadline or more: are slots in the same unit?")
 
     def test_true_miss(self) -> None:
         """The line names A, which is 11 late under the urgency order. Under the track order X, released at 30, is 4 late."""

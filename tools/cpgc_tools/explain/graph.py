@@ -12,7 +12,7 @@ from cpgc_tools.toml_places import Path, Places, fault_at
 COUNTS = {"node": "nodes", "slot": "slots", "process": "processes", "edge": "edges"}
 DEEPEST = 8  # up to which the place of a value is told
 TWICE = re.compile("Cannot (overwrite|declare|redefine|mutate)|Duplicate inline table key")  # as tomllib says that a key stands there twice
-PERIODS, UNITS = ("period", "periods", "cycle", "hyperperiod", "rate"), ("unit", "units", "time_unit")
+PERIODS, UNITS, PRIORITIES = ("period", "periods", "cycle", "hyperperiod", "rate"), ("unit", "units", "time_unit"), ("priority", "prio", "priorities")
 PLACE = "(top|(node|slot|process|edge) [0-9]+) ([a-z]+)"
 
 
@@ -118,6 +118,8 @@ def unknown_field(file: File, table: str, number: int) -> Sentences:
         yield file.at(f"{file.called(table, number)}: {key} is none of its keys{near(key, keys_of(table))}", *path_of(table, number, key))
     if keys[0] in PERIODS:
         yield mend("periods stand in no graph file: cpgc hyper PERIOD GRAPH .. repeats a graph by its period; its deadline is at most that")
+    elif keys[0] in PRIORITIES:
+        yield mend("there are no priorities: the key order of the graph lists all processes, and each node runs its own in that order")
     elif keys[0] in UNITS:
         yield mend("no unit is written: all times of a file are whole numbers in the same one")
     elif elsewhere and elsewhere[0] == "top":

@@ -146,6 +146,25 @@ def other_units(file: File) -> Sentences:
     length = sum(it.get("length", 0) for it in file.entries("slot"))
     if deadline is not None and length > deadline:
         yield file.at(f"a round of all slots lasts {length}, longer than the deadline of {deadline}: is it in the same unit?", "slot")
+        return
+    most = most_messages(file)
+    if deadline is not None and 2 * most * length >= deadline:
+        rounds = "a round" if most == 1 else f"{most} rounds"
+        yield file.at(f"a way with {most} message{'s' * (most != 1)} may wait for {rounds} of {length}, half of the deadline or more: are slots in the same unit?", "slot")
+
+
+def most_messages(file: File) -> int:
+    """How many messages the way with the most has, 0 where that isn't known."""
+    it = file.graph()
+    if it is None:
+        return 0
+    try:
+        found = [0] * len(it.processes)
+        for number in it.sources_first():
+            found[number] = max((found[edge.source] + it.is_message(edge) for edge in it.inputs(it.processes[number])), default=0)
+        return max(found, default=0)
+    except ValueError:
+        return 0
 
 
 def true_miss(files: Files, file: File) -> tuple[bool, list[str]]:
