@@ -69,4 +69,21 @@ _cpgc_files() {
     ((${#found[@]})) && COMPREPLY=("${found[@]}")
 }
 
+# The words of a tool: its options, as its --help has them, else graph files and packs.
+_cpgc_tool() {
+    local word=${COMP_WORDS[COMP_CWORD]} toml=() pack=()
+    COMPREPLY=()
+    if [[ $word == -* ]]; then
+        mapfile -t COMPREPLY < <(compgen -W "$("$1" --help 2>/dev/null | grep -oE -- '(^|[ [])--[a-z-]+' | grep -oE -- '--[a-z-]+' | sort -u)" -- "$word")
+        return
+    fi
+    _cpgc_files "$word" toml
+    toml=("${COMPREPLY[@]}")
+    _cpgc_files "$word" pack
+    pack=("${COMPREPLY[@]}")
+    mapfile -t COMPREPLY < <(printf '%s\n' "${toml[@]}" "${pack[@]}" | sed '/^$/d' | sort -u)
+}
+
 complete -F _cpgc cpgc
+complete -F _cpgc_tool cpgc-c-table cpgc-compare cpgc-cycle cpgc-draw cpgc-explain cpgc-explore cpgc-from-tgff cpgc-hyper-edges cpgc-jitter cpgc-lint cpgc-pack \
+    cpgc-page cpgc-slack cpgc-stream cpgc-timeline cpgc-tuned cpgc-why

@@ -14,12 +14,16 @@ from cpgc_tools import cli
 # of each tool what it does; its module has its name, with _ for -, and a function main()
 TOOLS = {
     "c-table": "writes the table of a node as C",
+    "compare": "says what changed between two graphs",
     "cycle": "says the least cycle time of tables",
     "draw": "draws tables or plays as SVG",
     "explain": "says what a line of cpgc means",
     "explore": "searches for a better order or design",
     "from-tgff": "makes a graph file of a task graph of TGFF",
     "pack": "reads a pack as JSON, or writes one",
+    "hyper-edges": "joins graphs of several periods by edges",
+    "jitter": "says how far starts differ between instances",
+    "lint": "warns of what a graph can hardly mean",
     "page": "makes a page that shows tables in a browser",
     "run-nodes": "runs the nodes of a pack as programs in C",
     "slack": "says how far each wcet may grow",
@@ -38,7 +42,7 @@ def tool(name: str, called: str) -> int:
 def listed() -> int:
     """Lists the tools."""
     words = cli.Words(__doc__)
-    words.epilog = "\n".join(["tools:", *(f"  {name:<10} {what}" for name, what in TOOLS.items())])
+    words.epilog = "\n".join(["tools:", *(f"  {name:<11} {what}" for name, what in TOOLS.items())])
     words.add_argument("name", metavar="NAME", help="a tool")
     said = words.parse_args(sys.argv[1:2])
     cli.fail(f"{said.name} is no tool; they are {', '.join(TOOLS)}")

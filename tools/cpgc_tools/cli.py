@@ -17,6 +17,8 @@ import os
 import re
 import signal
 import sys
+import threading
+import time
 from collections.abc import Callable, Iterable
 from typing import IO, NoReturn
 
@@ -28,12 +30,16 @@ OUTPUT_FAILED = 3  # standard output, or a file that was to be written
 NO_PROGRAM = 127  # cpgc, or another program that is wanted, isn't there or can't be run
 STOPPED = 130  # by ^C; 143 by SIGTERM
 
+SILENT, APART = 2.0, 0.2  # seconds: after which a tool says how far it has come, and how often
+
 # How many bytes each kind of file has at most, as cpgc reads them.
 GRAPH = SCENARIO = LOG = 2**24
 PACK = 2**28
 STREAM = 14 * 2**24
 
 _name = "cpgc_tools"
+_begun = time.monotonic()
+_progress, _told, _lock = "", 0.0, threading.Lock()  # what stands on the terminal of how far a tool has come, and since when
 
 
 class Failure(Exception):
@@ -77,7 +83,32 @@ def tell(line: str) -> None:
     tell_bytes((shown(line) + "\n").encode(errors="backslashreplace"))
 
 
+def progress(text: str) -> None:
+    """Says on a terminal how far a tool has come, once it has run for two seconds, in place of what it said so before. What is written next takes
+    its place."""
+    global _progress, _told
+    with _lock:
+        now = time.monotonic()
+        if now < _begun + SILENT or now < _told + APART or sys.stderr is None or not sys.stderr.isatty():
+            return
+        line = shown(f"{_name}: {text}")
+        sys.stderr.write("\r" + line.ljust(len(_progress)))
+        sys.stderr.flush()
+        _progress, _told = line, now
+
+
+def _clear() -> None:
+    """Takes what `progress` has said off the terminal."""
+    global _progress
+    with _lock:
+        if _progress and sys.stderr is not None:
+            sys.stderr.write("\r" + " " * len(_progress) + "\r")
+            sys.stderr.flush()
+        _progress = ""
+
+
 def tell_bytes(content: bytes) -> None:
+    _clear()
     try:
         sys.stderr.buffer.write(content)
         sys.stderr.flush()
@@ -160,6 +191,7 @@ def lines_of_input(most: int = GRAPH) -> list[str]:
 
 def write(content: str | bytes) -> None:
     """Writes on standard output: a text as UTF-8, whatever the locale."""
+    _clear()
     try:
         if sys.stdout is None:
             raise OSError("it is closed")
@@ -202,13 +234,14 @@ def _stop(number: int, _: object) -> None:
 
 def run(called: str, main: Callable[[], int | None]) -> int:
     """Runs a tool and answers with its status."""
-    global _name
-    _name = called
+    global _name, _begun
+    _name, _begun = called, time.monotonic()
     try:
         for number in (signal.SIGTERM, signal.SIGHUP):
             if signal.getsignal(number) == signal.SIG_DFL:
                 signal.signal(number, _stop)
         status = main() or 0
+        _clear()
         flush()
         return status
     except Refused as refused:
@@ -233,6 +266,7 @@ def run(called: str, main: Callable[[], int | None]) -> int:
 
 def _ended(status: int) -> int:
     """What was written before the end goes out, where it can."""
+    _clear()
     try:
         flush()
     except (Failure, SystemExit):

@@ -16,7 +16,7 @@ import json
 import os
 import pkgutil
 import re
-from collections.abc import Mapping, Sequence
+from collections.abc import Iterator, Mapping, Sequence
 from dataclasses import dataclass
 from typing import Any
 
@@ -277,6 +277,23 @@ class Graph:
                 found.add(number)
         return found
 
+    def outcomes(self) -> Iterator[tuple[int, int]]:
+        """The outcomes of the conditions, without values of inactive processes: the processes that are active, and those whose condition is true,
+        as bits. Raises ValueError where the edges lead around."""
+        order = self.sources_first()
+        inputs = [[(edge.source, edge.when) for edge in self.inputs(process)] for process in self.processes]
+        left = [(0, 0, 0)]  # how far in the order, what is active, which values are true
+        while left:
+            at, active, true = left.pop()
+            for place in range(at, len(order)):
+                number = order[place]
+                live = [active >> source & 1 == 1 and when in (None, bool(true >> source & 1)) for source, when in inputs[number]]
+                if not live or (any if self.processes[number].join else all)(live):
+                    active |= 1 << number
+                    if self.processes[number].condition is not None:
+                        left.append((place + 1, active, true | 1 << number))
+            yield active, true
+
     def sources_first(self) -> list[int]:
         """The processes, each behind the sources of its inputs. Raises ValueError where the edges lead around."""
         waiting, found = [0] * len(self.processes), []
@@ -352,14 +369,31 @@ def spelled(document: Table) -> str:
 # Files.
 
 
+class Sentence(str):
+    """A sentence on a place of a file, with which it begins."""
+
+    path: str
+    line: int | None  # counted from 1
+    column: int | None
+    name: str | None  # of the entry
+    said: str  # behind the place
+
+    @classmethod
+    def of(cls, said: str, path: str, line: int | None = None, column: int | None = None, name: str | None = None) -> Sentence:
+        it = cls(f"{path}:{line}: {said}" if line else f"{path}: {said}")
+        it.path, it.line, it.column, it.name, it.said = path, line, column, name, said
+        return it
+
+
 class File:
     """A TOML file, and whatever stands in it: its bytes, its text, its document and the places there. Nothing is asked of it, so that it can
     be looked at where it is refused, too."""
 
-    def __init__(self, path: str, most: int = cli.GRAPH) -> None:
-        self.path, self.bytes, self.fault, self.known = path, b"", "", os.path.isfile(path)
+    def __init__(self, path: str, most: int = cli.GRAPH, content: bytes | None = None) -> None:
+        """The file of a path, of which the bytes may have been read."""
+        self.path, self.bytes, self.fault, self.known = path, content or b"", "", os.path.isfile(path)
         try:
-            if self.known or os.path.isdir(path) or not os.path.exists(path):  # else a pipe, which has gone by
+            if content is None and (self.known or os.path.isdir(path) or not os.path.exists(path)):  # else a pipe, which has gone by
                 with open(path, "rb") as it:
                     self.bytes = it.read(most + 1)
         except (OSError, ValueError) as fault:
@@ -379,11 +413,12 @@ class File:
     def size(self) -> int:
         return os.path.getsize(self.path) if self.known else len(self.bytes)
 
-    def at(self, what: str, *path: str | int) -> str:
+    def at(self, what: str, *path: str | int) -> Sentence:
         """A sentence on a place of the file: the first of its path that is found."""
+        name = self.entry(path[0], path[1]).get("name") if len(path) > 1 and isinstance(path[0], str) and isinstance(path[1], int) else None
         while path and self.places.line(*path) is None:
             path = path[:-1]
-        return f"{self.path}:{self.places.line(*path)}: {what}" if path else f"{self.path}: {what}"
+        return Sentence.of(what, self.path, self.places.line(*path), self.places.column(*path), name)
 
     def written(self, kind: str, number: int) -> Table:
         """An entry as it stands there, or the graph itself, which is of the kind `top`."""
@@ -421,7 +456,7 @@ class File:
         names = self.names(kind)
         return names.index(name) if name in names else None
 
-    def named(self, what: str, kind: str, name: str, *key: str) -> str:
+    def named(self, what: str, kind: str, name: str, *key: str) -> Sentence:
         """A sentence on the entry of a name."""
         number = self.of_name(kind, name)
         return self.at(what) if number is None else self.at(what, kind, number, *key)

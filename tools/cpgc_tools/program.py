@@ -140,8 +140,9 @@ def missing(names: Sequence[str]) -> list[str]:
 class Program:
     """cpgc, and a folder for the files that it is given: one that is gone afterwards, or one to keep. Threads may share it."""
 
-    def __init__(self, named: str | None = None, folder: str | None = None) -> None:
-        self.path, self.ended = found(named), False
+    def __init__(self, named: str | None = None, folder: str | None = None, seconds: float = SECONDS) -> None:
+        self.path, self.ended, self.seconds = found(named), False, seconds
+        self.runs, self.tells = 0, True  # how many there were, and whether that is told where they take long
         self.running: set[subprocess.Popen[bytes]] = set()
         try:
             self.folder = folder or tempfile.mkdtemp(prefix="cpgc-")
@@ -187,10 +188,13 @@ class Program:
             cli.fail(f"{path}: {cli.why(fault)}", cli.OUTPUT_FAILED)
         return path
 
-    def run(self, *words: str, seconds: float | None = SECONDS) -> Ran:
+    def run(self, *words: str) -> Ran:
         if self.ended:
             cli.fail("ended")
-        return run([self.path, *words], seconds=seconds, running=self.running)
+        self.runs += 1
+        if self.tells:
+            cli.progress(f"{self.runs} runs of cpgc")
+        return run([self.path, *words], seconds=self.seconds, running=self.running)
 
     def output(self, *words: str) -> bytes:
         """Standard output of a run that has to end with status 0; else its line and its status are the tool's."""

@@ -1,12 +1,15 @@
 """Builds each node of a pack as a program of its own, with its table alone, and runs them as a cluster in one scenario.
 
     run-nodes GRAPH PACK SCENARIO [--arm]
+    run-nodes GRAPH PACK SCENARIO --lose e0 --hang A
 
 The nodes are those of runtime/c/example. They run on this machine, or with --arm each on an emulated Cortex-M3
 (gcc-arm-none-eabi, libnewlib-arm-none-eabi and qemu-system-arm of Debian). This tool is their bus and their processes, tick by
-tick: a frame is there so much later than it was sent as the slot of its node lasts, an execution ends when the scenario says. It
+tick: a frame is there so much later than it was sent as the slot of its node lasts, an execution ends when the scenario says. Ticks
+of a node in which nothing arrives, ends or is due are left out, as docs/MODEL.md allows. It
 writes what `cpgc play` writes but for the line `waits`, and what the watch of a node tells, as TIME NODE overrun, missing or
-strange ITEM. Tables that go on for more than 1,000,000 time units are refused. That they are safe, and that the scenario is one of the
+strange ITEM. To see the watch at work, --lose loses the frame of a message or, by the name of its process, of a broadcast, and --hang lets an
+execution never report its end. Tables that go on for more than 1,000,000 time units are refused. That they are safe, and that the scenario is one of the
 graph, is asked of cpgc first. It runs in a checkout of cpgc alone, which has the nodes in C.
 
 For example, `run-nodes pair.toml pair.pack pair-scenario.toml`.
@@ -15,7 +18,7 @@ from __future__ import annotations
 
 import subprocess
 import tempfile
-from collections.abc import Sequence
+from collections.abc import Collection, Sequence
 from pathlib import Path
 
 from cpgc_tools import c_table, cli, graph, pack, play, program
@@ -45,6 +48,7 @@ def build(tables: Pack, node: int, place: Path, arm: bool, flags: Sequence[str] 
     table.write_text("\n".join([*c_table.source(tables, node), ""]))
     boards = sorted((C / "example/arm").glob("*.c")) if arm else [C / "example/pc.c"]
     files = [table, C / "cpg_node.c", C / "example/node.c", C / "example/wire.c", *boards]
+    cli.progress(f"building node {node + 1} of {len(tables.nodes)}")
     words = [*(ARM if arm else ["gcc", "-O1"]), *WARNINGS, *flags, *c_table.size_words(tables, node), "-I", str(C), *map(str, files), "-o", str(made)]
     ran = program.run(words, seconds=600)
     if ran.status:
@@ -97,9 +101,12 @@ class Node:
 class Cluster:
     """What happens to the nodes, and what they did, as lines of a play."""
 
-    def __init__(self, it: Graph, tables: Pack, scenario: Scenario) -> None:
+    def __init__(self, it: Graph, tables: Pack, scenario: Scenario, lost: Collection[str] = (), hung: Collection[str] = ()) -> None:
         self.graph, self.tables, self.scenario = it, tables, scenario
+        self.lost, self.hung = lost, hung  # names of items and of processes
         self.coming: dict[tuple[int, int], list[str]] = {}
+        times = [{0, *(time for row in rows for time, _ in row.columns)} for rows in tables.rows]
+        self.turns = [it | {time + 1 for time in it} for it in times]  # of each node the instants at which something may be due
         self.lines: list[Line] = []
         self.finish = 0
 
@@ -124,6 +131,9 @@ class Cluster:
         real = self.scenario.lengths.get(about.name, planned)
         end = f"end {about.name} faults {faults}" + (f" value {str(value).lower()}" if about.condition else "")
         self.lines.append((time, node, START, process, self.text(process)))
+        self.turns[node].update(time + it + more for it in about.durations for more in (0, 1))
+        if about.name in self.hung:
+            return
         self.lines.append((time + planned, node, END, process, end + (f" ran {real}" if real < planned else "")))
         self.tell(time + real, node, f"end {process} {faults} {int(value)}")
         self.finish = max(self.finish, time + planned)
@@ -135,20 +145,25 @@ class Cluster:
             self.started(time, node, numbers[0])
         elif kind == "send":
             self.lines.append((time, node, SEND, numbers[0], self.text(numbers[0])))
-            for hearer in self.hearers(numbers[0], node):
+            for hearer in self.hearers(numbers[0], node) if self.text(numbers[0]).split(" ")[1] not in self.lost else ():
                 self.tell(self.graph.arrival(node, time), hearer, "frame {} {} {}".format(*numbers))
         else:
             self.lines.append((time, node, WATCH, numbers[0], f"{kind} {self.text(numbers[0])}"))
 
-    def run(self, nodes: Sequence[Node], last: int) -> None:
-        """All ticks up to the last one."""
+    def run(self, nodes: Sequence[Node], last: int, skip: bool = False) -> None:
+        """All ticks up to the last one, or those alone in which something may be due."""
+        next_tick = [0] * len(nodes)
         for node in nodes:
             node.told()
         for time in range(last + 1):
-            for number, node in enumerate(nodes):
-                node.say([*self.coming.pop((time, number), []), "tick"])
-            for number, node in enumerate(nodes):
-                for words in node.told():
+            cli.progress(f"{time} of {last} ticks")
+            asked = [number for number in range(len(nodes)) if not skip or time in self.turns[number] or (time, number) in self.coming]
+            for number in asked:
+                left_out = [f"wait {time - next_tick[number]}"] if time > next_tick[number] else []
+                nodes[number].say([*left_out, *self.coming.pop((time, number), []), "tick"])
+                next_tick[number] = time + 1
+            for number in asked:
+                for words in nodes[number].told():
                     self.did(time, number, words)
 
     def trace(self) -> list[str]:
@@ -161,13 +176,14 @@ def last_instant(tables: Pack) -> int:
     return tables.last_time() + max((time for process in tables.processes for time in process.durations), default=0) + 1
 
 
-def simulated(it: Graph, tables: Pack, scenario: Scenario, place: Path, arm: bool = False, flags: Sequence[str] = ()) -> list[str]:
-    """The trace of a cluster in a scenario."""
-    cluster, nodes = Cluster(it, tables, scenario), list[Node]()
+def simulated(it: Graph, tables: Pack, scenario: Scenario, place: Path, arm: bool = False, flags: Sequence[str] = (), every: bool = False,
+              lost: Collection[str] = (), hung: Collection[str] = ()) -> list[str]:
+    """The trace of a cluster in a scenario, with every tick or with those in which something may be due."""
+    cluster, nodes = Cluster(it, tables, scenario, lost, hung), list[Node]()
     programs = [build(tables, node, place, arm, flags) for node in range(len(tables.nodes))]
     try:
         nodes += [Node(made, arm) for made in programs]
-        cluster.run(nodes, last_instant(tables))
+        cluster.run(nodes, last_instant(tables), not every)
     finally:
         for node in nodes:
             node.stop()
@@ -179,6 +195,8 @@ def main() -> None:
     for name in ("graph", "pack", "scenario"):
         words.add_argument(name, metavar=name.upper())
     words.add_argument("--arm", action="store_true", help="on emulated Cortex-M3s")
+    words.add_argument("--lose", metavar="ITEM", action="append", default=[], help="lose this frame; may be said again")
+    words.add_argument("--hang", metavar="PROCESS", action="append", default=[], help="never end this process; may be said again")
     said = words.parse_args()
     missing = missing_programs(said.arm)
     if missing:
@@ -191,8 +209,12 @@ def main() -> None:
         cpgc.asked("check", *files[:2])
         cpgc.asked("play", *files, "--turns", "0")
     it, tables = graph.parsed(said.graph, contents[0]), pack.of_file(said.pack, contents[1])
+    sent = {tables.name_of(row.item) for _, row in tables.acts() if row.item.kind != "start"}
+    for kind, names, known in ("frame", said.lose, sent), ("process", said.hang, set(it.number)):
+        if unknown := [name for name in names if name not in known]:
+            cli.fail(f"{said.graph}: there is no {kind} {unknown[0]}")
     scenario = play.scenario_of_document(graph.toml_of(said.scenario, contents[2])[1])
     if last_instant(tables) > MOST_TICKS:
         cli.fail(f"{said.pack}: it goes on to {last_instant(tables):,}, and this tool takes {MOST_TICKS:,} ticks at most")
     with tempfile.TemporaryDirectory(prefix="cpgc-") as place:
-        cli.write_lines(simulated(it, tables, scenario, Path(place), said.arm))
+        cli.write_lines(simulated(it, tables, scenario, Path(place), said.arm, lost=said.lose, hung=said.hang))

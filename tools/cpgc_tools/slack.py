@@ -38,6 +38,7 @@ class Tries:
         self.cpgc, self.graph, self.samples = cpgc, it, samples
         self.reckons = len(it.deciding) <= CONDITIONS
         self.tried: dict[tuple[int, int], bool] = {}
+        self.rows = 0  # that are found
 
     def compiles(self, number: int, wcet: int) -> bool:
         """Whether the graph compiles with this wcet: as it is reckoned, or as cpgc says."""
@@ -149,7 +150,15 @@ def main() -> None:
             cli.fail(f"{said.graph}: {unknown[0]} is no process")
         tries, late = Tries(cpgc, it, said.samples), ran.status != 0
         asked = [process.number for process in it.processes if process.name not in idle and (not said.names or process.name in said.names)]
-        rows = cpgc.each(lambda number: row(tries, number, late), asked)
+        cpgc.tells = False
+
+        def found(number: int) -> Row:
+            made = row(tries, number, late)
+            tries.rows += 1
+            cli.progress(f"{tries.rows} of {len(asked)} processes")
+            return made
+
+        rows = cpgc.each(found, asked)
     cli.write_lines([ran.line or f"compiles, {show.worst(ran.text)}"])
     head = ["process", "node", "wcet", "up to", "by", "", f"tried {len(tries.tried)}"]
     cli.write_lines(show.in_columns([head, *(it.cells() for it in sorted(rows, key=lambda it: it.growth, reverse=late))]))

@@ -2,19 +2,23 @@
 
     cpgc play GRAPH PACK SCENARIO --turns 0 | timeline [GRAPH]
     cpgc play GRAPH PACK SCENARIO --turns 0 | timeline --svg [GRAPH] > play.svg
+    timeline GRAPH PACK SCENARIO
 
-An execution is drawn from its start to its end, with a `!` for each fault, and a frame at the time at which its slot begins. If a bar is
-too short, its name and marks are cut. With the graph file, nodes are in its order, and those that do nothing are shown too. Without it they
-are in the order of their names, except for those whose order the play shows.
+With three files it plays the scenario itself. An execution is drawn from its start to its end, with a `!` for each fault, and a frame at the
+time at which its slot begins. If a bar is too short, its name and marks are cut; of the name of a copy of `hyper` what is before it goes first.
+With the graph file, nodes are in its order, and those that do nothing are shown too. Without it they are in the order of their names, except
+for those whose order the play shows.
 
-For example, `cpgc play pair.toml pair.pack pair-scenario.toml --turns 0 | timeline pair.toml`.
+For example, `timeline pair.toml pair.pack pair-scenario.toml`.
 """
 from __future__ import annotations
 
 from collections.abc import Iterator, Sequence
 
 from cpgc_tools import cli, graph, play
+from cpgc_tools.instances import short
 from cpgc_tools.play import Play
+from cpgc_tools.program import Program
 from cpgc_tools.svg import escape
 
 WIDTH = 100  # of a line, in letters
@@ -64,9 +68,14 @@ def as_text(nodes: Sequence[str], acts: Play) -> Iterator[str]:
 
     yield lane("", [(at(time), str(time)) for time in ticks(acts)])
     for node in nodes:
-        yield lane(node, [(at(a), "|" + name.ljust(max(at(b) - at(a) - 1, 0), "-") + "|") for a, b, name in bars(acts, node)])
+        yield lane(node, [(at(a), "|" + fitting(name, at(b) - at(a) - 1).ljust(max(at(b) - at(a) - 1, 0), "-") + "|") for a, b, name in bars(acts, node)])
         if sent := frames(acts, node):
             yield lane(f"{node} bus", [(at(time), f"^{name}") for time, name in sent])
+
+
+def fitting(name: str, room: int) -> str:
+    """A name, without the part and the instance where there is no room for them."""
+    return name if len(name) <= room else short(name)
 
 
 def ticks(acts: Play) -> list[int]:
@@ -103,13 +112,23 @@ def nodes_of(path: str | None, acts: Play) -> Sequence[str]:
     return [node for node in nodes if graph.is_name(node)]
 
 
+def played(named: str | None, *paths: str) -> list[str]:
+    """The lines of a play of three files."""
+    with Program(named) as cpgc:
+        return cpgc.text("play", *paths, "--turns", "0").splitlines()
+
+
 def main() -> None:
-    words = cli.Words(__doc__)
+    words = cli.Words(__doc__).with_program()
     words.add_argument("--svg", action="store_true", help="an SVG picture; `draw` makes better ones")
     words.add_argument("graph", metavar="GRAPH", nargs="?", help="the graph file, for the order of the nodes")
+    words.add_argument("pack", metavar="PACK", nargs="?")
+    words.add_argument("scenario", metavar="SCENARIO", nargs="?")
     said = words.parse_args()
+    if said.pack and not said.scenario:
+        words.error("SCENARIO is missing behind PACK")
     try:
-        acts = play.parsed(cli.lines_of_input())
+        acts = play.parsed(played(said.program, said.graph, said.pack, said.scenario) if said.scenario else cli.lines_of_input())
     except ValueError:
         cli.fail("no play on standard input: cpgc play GRAPH PACK SCENARIO --turns 0 | timeline")
     nodes = nodes_of(said.graph, acts)

@@ -6,6 +6,7 @@
     places.line("process", 3, "wcet")          # the line of a key, counted from 1; of a table or an entry of an array where it begins
     places.values["process", 3, "wcet"]        # where the value begins and ends
     places.sections                            # the paths of the tables that have a header, as [[process]]
+    Places(text).doubled                       # of any text: the first key that stands there twice, and where both begin
 
 A path is made of keys and, within an array, of numbers that count from 0. What a text spells in a way that isn't seen here, such as a
 key by the numbers of its letters, has no place. Each of these takes time in proportion to the text, whatever stands in it.
@@ -135,6 +136,7 @@ class Places:
         self.values: dict[Path, tuple[int, int]] = {}
         self.sections: set[Path] = set()
         self.counts: dict[Path, int] = {}
+        self.doubled: tuple[Path, int, int] | None = None
         at = 0
         for word in WORD.findall(text):
             if not word.isspace() and not word.startswith("#") or word == "\n":
@@ -148,6 +150,14 @@ class Places:
     def line(self, *path: str | int) -> int | None:
         """The line on which it begins, or nothing."""
         return self.text.count("\n", 0, self.begins[path]) + 1 if path in self.begins else None
+
+    def column(self, *path: str | int) -> int | None:
+        """How many letters from the begin of its line it begins, counted from 1, or nothing."""
+        return self.place(self.begins[path])[1] if path in self.begins else None
+
+    def place(self, at: int) -> tuple[int, int]:
+        """The line and the column of a letter, counted from 1."""
+        return self.text.count("\n", 0, at) + 1, at - self.text.rfind("\n", 0, at)
 
     def keys(self, *path: str | int) -> list[str]:
         """The keys of a table, in the order of the text."""
@@ -188,9 +198,15 @@ class Places:
                 self.counts[path] = self.counts.get(path, -1) + 1
             if path in self.counts:
                 path += (self.counts[path],)
+        if path in self.sections or path in self.values or array and path[:-1] in self.values:
+            self.double(path[:-1] if array else path, begin)
         self.begins[path] = begin
         self.sections.add(path)
         return path
+
+    def double(self, path: Path, begin: int) -> None:
+        """Takes note of a key that was there before."""
+        self.doubled = self.doubled or (path, self.begins[path], begin)
 
     def entry(self, table: Path) -> None:
         """A key with its value."""
@@ -199,6 +215,8 @@ class Places:
         for key in parts(self.upto("="))[:MOST_PARTS]:
             path += (key,)
             self.begins.setdefault(path, begin)
+        if path in self.values:
+            self.double(path, begin)
         self.value(path)
 
     def value(self, path: Path) -> None:

@@ -4,9 +4,9 @@
 
 A file whose first line is `needs PROGRAM ..` is left out, with a line, where one of these programs isn't there.
 
-PROGRAM is crates/cpgc/out/cpgc where nothing is said. Each file examples/NAME.out is a list of commands with what they write: a
+PROGRAM is crates/cpgc/out/cpgc where nothing is said. Each file examples/NAME.out, also of a folder there, is a list of commands with what they write: a
 command behind `$`, its lines on standard output behind `>`, its lines on the error stream behind `!`, and its status. They run in a
-copy of examples/, with docs/examples/ where it is seen from there, and with `cpgc` and the scripts of tools/ on the path, so that what
+copy of examples/, each file's in its folder, with docs/examples/ where it is seen from there, and with `cpgc` and the scripts of tools/ on the path, so that what
 they write is gone afterwards.
 """
 import os
@@ -47,7 +47,7 @@ def run(command: str, folder: Path, path: str) -> list[str]:
 
 
 def run_all(cpgc: str, names: list[str]) -> int:
-    files = [TOP / "examples" / f"{name}.out" for name in names] or sorted((TOP / "examples").glob("*.out"))
+    files = [TOP / "examples" / f"{name}.out" for name in names] or sorted((TOP / "examples").rglob("*.out"))
     wrong = 0
     with tempfile.TemporaryDirectory() as place:
         folder = shutil.copytree(TOP / "examples", Path(place) / "examples")
@@ -58,7 +58,7 @@ def run_all(cpgc: str, names: list[str]) -> int:
                 print(f"{file.name} is left out: there is no {', '.join(missing(file.read_text()))}")
                 continue
             for command, wanted in commands(file.read_text()):
-                got = run(command, folder, f"{place}:{TOP}/tools:{os.environ['PATH']}")
+                got = run(command, folder / file.parent.relative_to(TOP / "examples"), f"{place}:{TOP}/tools:{os.environ['PATH']}")
                 if got != wanted:
                     wrong += 1
                     print(f"{file.name}: $ {command}", *(f"  wanted {line}" for line in wanted), *(f"  got    {line}" for line in got), sep="\n")

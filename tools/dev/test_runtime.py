@@ -323,7 +323,7 @@ def compare_programs(test: Test, file: Path, path: Path, scenario: Path, arm: bo
     place = test.place / f"{path.stem}-{'arm' if arm else 'pc'}"
     place.mkdir()
     try:
-        got = run_nodes.simulated(graph.read(str(file)), read, play.read_scenario(str(scenario)), place, arm, flags)
+        got = run_nodes.simulated(graph.read(str(file)), read, play.read_scenario(str(scenario)), place, arm, flags, every=not arm)
     except (cli.Failure, OSError) as fault:
         got = [str(fault)]
     test.counts["programs"] += len(read.nodes)

@@ -1,8 +1,10 @@
 """What all tools have: help with an example, one line for a mistake, one way to find the program."""
+import io
 import subprocess
 import sys
+from unittest import mock
 
-from cpgc_tools import __version__
+from cpgc_tools import __version__, cli
 from cpgc_tools.__main__ import TOOLS as ALL
 from dev import zipped
 from tests.case import CPGC, PAIR, SINGLE, TOOLS, TOP, Case
@@ -52,3 +54,22 @@ class Every(Case):
                 self.of(tool, "--program", "./none", file, status=127, err=said)
                 self.run_tool(tool, "--program", CPGC, file)
                 self.of(tool, cycle, status=4, err="cpgc: refused 6 cycle A B\n")
+
+    def test_progress(self) -> None:
+        """What takes long says on a terminal how far it has come; what is written next takes its place. Elsewhere it says nothing."""
+
+        class Terminal(io.StringIO):
+            def isatty(self) -> bool:
+                return True
+
+        for stream, wanted in (Terminal(), "\rslack: 1 of 2\rslack: 2 of 2\r             \r"), (io.StringIO(), ""):
+            def main() -> None:
+                cli.progress("0 of 2")
+                with mock.patch.multiple(cli, SILENT=0.0, APART=0.0):
+                    cli.progress("1 of 2")
+                    cli.progress("2 of 2")
+                cli.write("")
+
+            with mock.patch.object(sys, "stderr", stream):
+                self.assertEqual(cli.run("slack", main), 0)
+            self.assertEqual(stream.getvalue(), wanted)

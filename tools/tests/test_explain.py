@@ -1,6 +1,7 @@
 """The tool explain: each line of cpgc, and what it says of it."""
 import contextlib
 import itertools
+import json
 import re
 import subprocess
 from collections.abc import Callable, Mapping
@@ -137,8 +138,9 @@ REFUSED: list[tuple[list[str], Mapping[str, Content], str, list[str]]] = [
     (["show", "w.toml"], {"w.toml": (EXAMPLES / "too-wide.toml").read_text().replace("node = [", f"order = [{TEN}]\nnode = [", 1)}, "too wide start p10",
      ["w.toml:18: the start of p10 might need more", "w.toml:6: under this order a row as made has more than 16,384 columns"]),
     (["show", "pair.tml"], {}, "read fault", ["pair.tml: the graph can't be read: No such file or directory", "to mend it: is pair.toml meant?"]),
+    (["show", "nosuch.toml"], {}, "read fault", ["nosuch.toml: the graph can't be read", "to mend it: name a file that is there and may be read"]),
     (["check", "pair.toml", "."], {}, "read fault", [".: the pack can't be read: Is a directory"]),
-    ([], {}, "words", ["a command is missing: show, compile"]),
+    ([], {}, "words", ["the commands of cpgc are", "  show GRAPH                          writes the tables of a graph as text"]),
     (["chekc", "pair.toml", "pair.pack"], {}, "words", ["chekc is no command", "to mend it: cpgc check GRAPH PACK"]),
     (["check", "pair.toml"], {}, "words", ["check is written as: cpgc check GRAPH PACK; here is 1 where 2 belong"]),
     (PLAY[:4], {}, "words", ["play is written as: cpgc play GRAPH PACK SCENARIO --turns N; here is no --turns N"]),
@@ -213,6 +215,126 @@ class Explain(Case):
             self.assertIn(status, (None, found[0][0]), line)
             met.add(found[0])
         self.assertEqual(met, set(patterns))
+
+    def test_doubled(self) -> None:
+        """A key that stands there twice is told with both places."""
+        more = "process = [{ name = \"A\", node = \"N1\", wcet = 3 }]\n"
+        for text, said in [
+            (PAIR + more, ["pair.toml:10: process stands there a second time", "pair.toml:5: process stands here already"]),
+            (PAIR.replace("faults = 1", "faults = 1\nfaults = 1"), ["pair.toml:2: faults stands there a second time", "pair.toml:1: faults stands here"]),
+            (PAIR.replace("wcet = 30", "wcet = 30, wcet = 31"), ["pair.toml:6: wcet stands there a second time", "pair.toml:6: wcet stands here"]),
+            (PAIR + '[[process]]\nname = "C"\n', ["pair.toml:10: process stands there a second time", "pair.toml:5: process stands here"]),
+            ("a = 1\n[b]\nc = 1\n[b]\nd = 2\n", ["pair.toml:4: b stands there a second time", "pair.toml:2: b stands here"]),
+        ]:
+            with self.subTest(said[0]), contextlib.chdir(self.folder):
+                self.made({"pair.toml": text})
+                self.assertEqual(self.cpgc(*SHOW).stderr, b"cpgc: refused 1 not toml\n")
+                got = explained("cpgc: refused 1 not toml", Files(SHOW[1:], "show"))[1]
+                self.assertEqual([it[:len(begin)] for it, begin in zip(got, said)], said)
+                self.assertTrue(got[-1].startswith("to mend it: leave one of the two out"))
+
+    def test_units(self) -> None:
+        """Periods and units aren't of a graph file, and a deadline in another unit is suspected."""
+        for change, line, advice in [
+            (("faults = 1", "period = 9\nfaults = 1"), "refused 2 field top unknown", "periods stand in no graph file: cpgc hyper PERIOD GRAPH .. repeats"),
+            (("faults = 1", 'unit = "us"\nfaults = 1'), "refused 2 field top unknown", "no unit is written"),
+            (("wcet = 30", "wcet = 30, priority = 1"), "refused 2 field process 0 unknown", "there are no priorities: the key order"),
+            (("wcet = 30", "wcet = 1.5"), "refused 2 field process 0 wcet", "give it a whole number from 1 to 1,000,000,000; for fractions take a smaller"),
+            (("wcet = 30", 'wcet = "30us"'), "refused 2 field process 0 wcet", "give it a whole number from 1 to 1,000,000,000, without quotes; no unit"),
+        ]:
+            with self.subTest(advice), contextlib.chdir(self.folder):
+                self.made(pair(*change))
+                self.assertEqual(self.cpgc(*SHOW).stderr.decode(), f"cpgc: {line}\n")
+                self.assertTrue(explained(f"cpgc: {line}", Files(SHOW[1:], "show"))[1][-1].startswith(f"to mend it: {advice}"))
+        self.made(pair("deadline = 105", "deadline = 12"))
+        with contextlib.chdir(self.folder):
+            said = explained("cpgc: late 105 by B in A faults 1", Files(["pair.toml"], "show"))[1]
+        self.assertEqual(said[:3], [
+            "pair.toml:7: process B ends at 105, 93 after its due of 12, in A faults 1; no order ends it before 105 in all scenarios",
+            "pair.toml:2: one process has a wcet above the deadline of 12 (A): is it in the same unit?",
+            "pair.toml:4: a round of all slots lasts 20, longer than the deadline of 12: is it in the same unit?"])
+        self.made(pair("length = 10", "length = 40"))
+        with contextlib.chdir(self.folder):
+            said = explained("cpgc: late 155 by B in A faults 1", Files(["pair.toml"], "show"))[1]
+        self.assertEqual(said[1], "pair.toml:4: a way with 1 message may wait for a round of 80, half of the deadline or more: are slots in the same unit?")
+
+    def test_true_miss(self) -> None:
+        """The line names A, which is 11 late under the urgency order. Under the track order X, released at 30, is 4 late."""
+        file = self.file("x.toml", "faults = 0\ndeadline = 100\nnode = [{ name = \"N\" }]\nprocess = [\n{ name = \"A\", node = \"N\", wcet = 12, deadline = 60 },\n"
+                         "{ name = \"X\", node = \"N\", wcet = 29, release = 30, deadline = 55 }]\n")
+        self.assertEqual(self.run_tool("explain", "--", CPGC, "show", file), (5, "", f"""cpgc: late 71 by A in none
+{file}:5: process A ends at 71, 11 after its due of 60, in none
+{file}:6: under the track order, which misses by less, X ends at 59, 4 after its due, in none
+to mend it: ask `why {file}` what held it up; `slack` says how far a wcet has to shrink
+"""))
+        piped = self.of("explain", file, stdin="cpgc: late 71 by A in none\n", status=5).splitlines()
+        self.assertEqual(piped[2], f"to mend it: ask `why {file}` what held it up: another process may be what misses by less; `slack` says how far a wcet has to shrink")
+
+    def test_warnings(self) -> None:
+        """Behind a run the warnings of lint stand, five at most, and none where the graph isn't one."""
+        many = ", ".join(f'{{ from = "A", to = "B", when = {value} }}' for value in ("true", "false"))
+        self.made(pair('{ from = "A", to = "B", bytes = 1 }', many + ', { from = "A", to = "B" }' * 3))
+        done = subprocess.run([TOOLS / "explain", "--", CPGC, "compile", "pair.toml"], cwd=self.folder, capture_output=True, check=False)
+        lines = done.stderr.decode().splitlines()
+        self.assertEqual((done.returncode, done.stdout[:4], len(lines), lines[-1]), (0, b"CPGT", 6, "and 3 more warnings, which `lint pair.toml` has"))
+        self.made(pair("wcet = 10", "wcet = 0"))
+        self.assertNotIn("warning", self.run_tool("explain", "--", CPGC, "show", self.folder / "pair.toml")[2])
+
+    def test_json(self) -> None:
+        """A line as an object in its place, of a run and on standard input; a warning, too."""
+        self.made(pair("wcet = 10", "wcet = 0"))
+        wanted = {"grade": "error", "status": 4, "number": 5, "kind": "limit", "file": "pair.toml", "line": 7, "column": 30, "name": "B",
+                  "text": "process 1 (B) has wcet = 0, which isn't a whole number from 1 to 1,000,000,000", "advice": "give it a whole number from 1 to 1,000,000,000",
+                  "more": [], "said": "cpgc: refused 5 limit process 1 wcet"}
+        with contextlib.chdir(self.folder):
+            status, out, err = self.run_tool("explain", "--json", "--", CPGC, "show", "pair.toml")
+            self.assertEqual((status, out, json.loads(err)), (4, "", wanted))
+            status, out, err = self.run_tool("explain", "--json", "pair.toml", stdin="a line\ncpgc: refused 5 limit process 1 wcet\n")
+            self.assertEqual((status, out.splitlines()[0], json.loads(out.splitlines()[1]), err), (4, "a line", wanted, ""))
+            self.made(pair(", bytes = 1", ""))
+            done = subprocess.run([TOOLS / "explain", "--json", "--", CPGC, "compile", "pair.toml"], capture_output=True, check=False)
+            warned = json.loads(done.stderr)
+            self.assertEqual((warned["grade"], warned["kind"], warned["line"], warned["name"]), ("warning", "no-bytes", 9, None))
+        for words, _, line, _ in REFUSED:
+            with contextlib.chdir(self.folder):
+                found = json.loads(self.run_tool("explain", "--json", *words[1:], stdin=f"cpgc: {line}")[1]) if words[1:] and not any(it.startswith("--") for it in words) else {}
+            if found:
+                self.assertEqual((found["number"], found["said"]), (int(line.split()[1]) if line.startswith("refused") else None, f"cpgc: {line}"))
+
+    def test_audit(self) -> None:
+        """Of a log that no scenario gives it is said from when on. e0 goes at 40 without a fault in A and at 80 with one; then B starts 10 later."""
+        for log, said in [
+            ("until 200\n0 N1 start A\n40 N1 send e0\n90 N2 start B\n",
+             "x.log: at 50 each scenario that is left has an act, and the log has none; before, it is the log of the scenario none, and perhaps of others"),
+            ("until 200\n0 N1 start A\n80 N1 send e0\n91 N2 start B\n",
+             "x.log: at 90 each scenario that is left has an act, and the log has none; before, it is the log of the scenario A faults 1, and perhaps of others"),
+            ("until 200\n0 N1 start A\n70 N1 send e0\n",
+             "x.log:3: at 70 no scenario has just N1 send e0; before, it is the log of the scenario A faults 1, and perhaps of others"),
+            ("until 200\n", "x.log: at 0 each scenario that is left has an act, and the log has none"),
+            ("until 200\n0 N1 start A\n80 N1 send e0\n90 N2 start B\n", None),
+        ]:
+            self.made({"x.log": log})
+            done = subprocess.run([TOOLS / "explain", "--", CPGC, *AUDIT], cwd=self.folder, capture_output=True, text=True, check=False)
+            self.assertEqual((done.returncode, done.stderr), (0, f"{said}\n" if said else ""), done.stdout)
+
+    def test_files_of_hyper(self) -> None:
+        """What is wrong in the second part is told of its file, whatever the first one has there."""
+        for old, new, line, said in [
+            ("faults = 1", "faults = 9", "refused 5 limit top faults", "p1.toml:1: the graph has faults = 9"),
+            ('to = "B"', 'to = "b"', "refused 4 unknown edge 0 to", "p1.toml:9: edge 0 (A to b)"),
+            ('name = "B"', 'name = "A"', "refused 3 double process 1 name", "p1.toml:7: process 1 is named A"),
+            ("wcet = 10", "wcet = 10, weight = 3", "refused 2 field process 1 unknown", "p1.toml:7: process 1 (B): weight is none"),
+            ("edge = [", 'edge = [{ from = "B", to = "A" }, ', "refused 6 cycle A B", "p1.toml:6: the edges lead around: A B A"),
+            ("faults = 1", "faults =", "refused 1 not toml", "p1.toml:1: Invalid value"),
+            ("bytes = 1 }", "bytes = 9 }", "refused 9 big e0", "p1.toml:9: the message of edge 0 (A to B) has 9 bytes"),
+        ]:
+            with self.subTest(line), contextlib.chdir(self.folder):
+                self.made({"p0.toml": PAIR, "p1.toml": PAIR.replace(old, new)})
+                words = ["hyper", "200", "p0.toml", "200", "p1.toml"]
+                if not line.startswith(("refused 6", "refused 9")):  # hyper leaves these to a compile of what it writes
+                    self.assertEqual(self.cpgc(*words).stderr.decode(), f"cpgc: {line}\n")
+                got = explained(f"cpgc: {line}", Files(words[1:], "hyper"))[1]
+                self.assertTrue(got[0].startswith(said), got)
 
     def test_many_alternatives(self) -> None:
         """Of many live edges twelve are shown."""

@@ -53,12 +53,15 @@ Call = tuple[str, list[str]]  # a tool with its words
 
 
 CALLS: dict[str, list[str]] = {
-    "c-table": ["pair.pack", "N1"], "cycle": ["pair.toml", "pair.pack"], "draw": ["pair.toml", "pair.pack"], "explain": ["--patterns"],
-    "explore": ["--quick", "pair.toml"],
-    "from-tgff": ["--graph", "0", "engine.tgff", "engine-mapping.toml"], "pack": ["read", "pair.pack"], "page": ["pair.toml", "pair.pack"],
+    "c-table": ["pair.pack", "N1"], "compare": ["pair.toml", "pair.toml"], "cycle": ["pair.toml", "pair.pack"], "draw": ["pair.toml", "pair.pack"], "explain": ["--patterns"],
+    "explore": ["--quick", "pair.toml"], "hyper-edges": ["rates.toml", "20", "control.toml", "30", "log.toml"], "jitter": ["joined.toml"],
+    "from-tgff": ["--graph", "0", "engine.tgff", "engine-mapping.toml"], "lint": ["pair.toml", "pair.pack"], "pack": ["read", "pair.pack"], "page": ["pair.toml", "pair.pack"],
     "run-nodes": ["pair.toml", "pair.pack", "s.toml"], "slack": ["pair.toml"], "stream": ["pair.pack", "N2"], "timeline": [], "tuned": ["late.toml"],
     "why": ["late.toml"],
 }
+
+
+ASKING = "slack", "why", "tuned", "draw", "cycle", "run-nodes", "c-table", "compare", "hyper-edges", "jitter"  # which run cpgc
 
 
 def calls(*given: Call) -> list[Call]:
@@ -69,6 +72,9 @@ def calls_of_graphs() -> list[tuple[str, list[str], str]]:
     """Each tool with a file x.toml in each place that takes a graph file or another TOML file, and its standard input."""
     return [
         ("why", ["x.toml"], ""), ("slack", ["x.toml"], ""), ("tuned", ["x.toml"], ""), ("cycle", ["x.toml", "pair.pack"], ""),
+        ("hyper-edges", ["x.toml", "20", "control.toml"], ""), ("hyper-edges", ["rates.toml", "20", "x.toml"], ""), ("jitter", ["x.toml"], ""),
+        ("compare", ["x.toml", "pair.toml"], ""), ("compare", ["pair.toml", "x.toml"], ""),
+        ("lint", ["x.toml"], ""), ("lint", ["pair.toml", "x.toml"], ""),
         ("explore", ["--quick", "x.toml"], ""), ("explore", ["--tries", "9", "--jobs", "1", "pair.toml", "x.toml"], ""),
         ("page", ["x.toml", "pair.pack"], ""), ("page", ["pair.toml", "pair.pack", "--due", "x.toml"], ""), ("draw", ["x.toml", "pair.pack"], ""),
         ("draw", ["pair.toml", "pair.pack", "--worst", "--due", "x.toml"], ""), ("draw", ["pair.toml", "pair.pack", "x.toml"], ""),
@@ -88,6 +94,10 @@ class Hostile(Case):
             self.file(name, text)
         self.pack = self.cpgc("compile", "pair.toml").stdout
         self.file("pair.pack", self.pack)
+        for name in "control.toml", "log.toml":
+            self.file(name, (EXAMPLES / name).read_text())
+        self.file("rates.toml", '[[edge]]\nfrom = "0.control"\nto = "1.log"\ntake = "latest"\n')
+        self.file("joined.toml", self.cpgc("hyper", "20", "control.toml", "30", "log.toml").stdout)
         for file in TOOL_EXAMPLES.iterdir():
             self.file(file.name, file.read_bytes())
 
@@ -164,7 +174,8 @@ class Hostile(Case):
                     for tool, words in calls(
                         ("pack", ["read", "evil.pack"]), ("c-table", ["evil.pack", "--", node]), ("c-table", ["--sizes", "evil.pack", "--", node]),
                         ("stream", ["evil.pack", "--", node]), ("page", ["pair.toml", "evil.pack"]), ("draw", ["pair.toml", "evil.pack"]),
-                        ("cycle", ["pair.toml", "evil.pack"]), ("run-nodes", ["pair.toml", "evil.pack", "s.toml"]),
+                        ("cycle", ["pair.toml", "evil.pack"]), ("lint", ["pair.toml", "evil.pack"]), ("compare", ["pair.toml", "pair.toml", "evil.pack", "pair.pack"]),
+                        ("run-nodes", ["pair.toml", "evil.pack", "s.toml"]),
                     ):
                         status, out, _ = self.fine(tool, *words, stdin=LATE_PLAY)
                         self.assertEqual((status > 0, out), (True, ""), tool)
@@ -348,7 +359,7 @@ class Hostile(Case):
         """^C and SIGTERM end a tool without a line, and its folder goes."""
         slow = self.file("slow", '#!/bin/sh\n: > "$STARTED/$$"\nsleep 1000\n')
         os.chmod(slow, 0o755)
-        chosen = {tool: words for tool, words in CALLS.items() if tool in ("slack", "why", "tuned", "draw", "cycle", "run-nodes", "c-table")}
+        chosen = {tool: words for tool, words in CALLS.items() if tool in ASKING}
         for stop, status in (signal.SIGINT, 130), (signal.SIGTERM, 143), (signal.SIGHUP, 129):
             with tempfile.TemporaryDirectory() as room, tempfile.TemporaryDirectory() as started:
                 running = [subprocess.Popen([TOOLS / tool, "--program", slow, *words], cwd=self.folder, env={**os.environ, "TMPDIR": room, "STARTED": started},
@@ -394,7 +405,7 @@ class Hostile(Case):
         """A cpgc that a signal ends is told by a line."""
         killed = self.file("killed", "#!/bin/sh\nkill -9 $$\n")
         os.chmod(killed, 0o755)
-        for tool in "slack", "why", "tuned", "draw", "cycle", "run-nodes", "c-table":
+        for tool in ASKING:
             with self.subTest(tool):
                 status, out, err = self.run_tool(tool, "--program", killed, *CALLS[tool])
                 self.assertEqual((status, out, err), (137, "", "killed: ended by signal 9\n"))
@@ -402,7 +413,7 @@ class Hostile(Case):
     def test_no_program(self) -> None:
         """A cpgc that isn't there or can't be run, by any way of naming it."""
         self.file("plain", "x")
-        for tool in "slack", "why", "tuned", "draw", "cycle", "run-nodes", "c-table":
+        for tool in ASKING:
             for name in "none", "./plain", ".":
                 status, out, err = self.run_tool(tool, "--program", name, *CALLS[tool])
                 self.assertEqual((status, out, err.count("\n")), (127, "", 1), err)
@@ -429,7 +440,9 @@ class Hostile(Case):
             self.file("x.pack", damaged(draws, content))
             for tool, words in calls(
                 ("pack", ["read", "x.pack"]), ("page", [f"{name}.toml", "x.pack"]), ("stream", ["x.pack", "N2"]),
-                *([("draw", [f"{name}.toml", "x.pack"]), ("c-table", ["x.pack", "N2"])] if count % 5 == 0 else []),
+                ("lint", [f"{name}.toml", "x.pack"]),
+                *([("draw", [f"{name}.toml", "x.pack"]), ("c-table", ["x.pack", "N2"]), ("compare", [f"{name}.toml", f"{name}.toml", "x.pack", "x.pack"])]
+                  if count % 5 == 0 else []),
             ):
                 with self.subTest(count, tool=tool):
                     self.fine(tool, *words, stdin=LATE_PLAY)
@@ -442,7 +455,8 @@ class Hostile(Case):
         for count in range(120):
             self.file("x.toml", damaged_text(draws, texts[count % len(texts)]))
             for tool, words in calls(
-                ("page", ["x.toml", "pair.pack"]), ("timeline", ["x.toml"]),
+                ("page", ["x.toml", "pair.pack"]), ("timeline", ["x.toml"]), ("lint", ["x.toml"]),
+                *([("compare", ["x.toml", "pair.toml"]), ("hyper-edges", ["rates.toml", "200", "x.toml"]), ("jitter", ["x.toml"])] if count % 4 == 2 else []),
                 *([(("why", "slack", "tuned")[count // 4 % 3], ["x.toml"]), ("cycle", ["x.toml", "pair.pack"])] if count % 4 == 0 else []),
             ):
                 with self.subTest(count, tool=tool):
@@ -451,6 +465,16 @@ class Hostile(Case):
                     self.assertTrue(status == 0 or err.count("\n") >= 1)
             with self.subTest(count, tool="explain"):
                 self.explained("show", "x.toml")
+
+    def test_damaged_rules(self) -> None:
+        draws, parts = random.Random(6), ["20", "control.toml", "30", "log.toml"]
+        rules = 'parts = ["fast", "slow"]\n[[edge]]\nfrom = "fast.control"\nto = "slow.log"\ntake = "latest"\nonce = true\nbytes = 3\n'
+        for count in range(150):
+            self.file("x.toml", damaged_text(draws, rules))
+            with self.subTest(count):
+                status, out, _ = self.fine("hyper-edges", "x.toml", *parts)
+                if status == 0 and count % 8 == 0:
+                    self.assertNotIn(b"refused 1 ", self.cpgc("show", self.file("made.toml", out)).stderr)
 
     def test_damaged_tables_in_json(self) -> None:
         text, draws = self.of("pack", "read", "pair.pack"), random.Random(3)

@@ -118,3 +118,15 @@ class Installed(Case):
         done = subprocess.run(["bash", "-c", "\n".join(script)], cwd=self.folder, capture_output=True, text=True, check=False)
         self.assertEqual((dict(zip(cases, done.stdout.split("\n"))), done.stderr), (cases, ""))
         self.assertFalse((self.folder / "x").exists())
+
+    def test_completion_of_tools(self) -> None:
+        """Each tool that is installed has its options and files completed."""
+        for name in "pair.toml", "pair.pack", "other":
+            self.file(name, "")
+        script = ["source " + str(TOP / "completion/cpgc.bash")]
+        for words in "p", "--s", "--j", "o":
+            script += [f"COMP_WORDS=(cpgc-lint {words}); COMP_CWORD=1; _cpgc_tool {TOP}/tools/lint; echo \"${{COMPREPLY[*]}}\""]
+        script += ["complete -p | sed -n 's/.*-F _cpgc_tool cpgc-//p' | sort"]
+        done = subprocess.run(["bash", "-c", "\n".join(script)], cwd=self.folder, capture_output=True, text=True, check=False)
+        self.assertEqual(done.stderr, "")
+        self.assertEqual(done.stdout.splitlines(), ["pair.pack pair.toml", "--strict", "--json", "other", *sorted(INSTALLED)])

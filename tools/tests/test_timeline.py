@@ -1,5 +1,5 @@
 """The tool timeline."""
-from tests.case import SINGLE, Case
+from tests.case import PAIR, SCENARIO, SINGLE, Case
 
 
 class Timeline(Case):
@@ -22,3 +22,17 @@ class Timeline(Case):
             self.of("timeline", status=1, err=said, stdin=stdin)
         graph = self.file("graph.toml", SINGLE)
         self.of("timeline", graph, status=1, err=f"timeline: {graph}: it has no node Z, which the play names\n", stdin=self.PLAY)
+
+    def test_files(self) -> None:
+        """Of three files the scenario is played."""
+        pair, scenario = self.file("pair.toml", PAIR), self.file("s.toml", SCENARIO)
+        pack = self.packed(PAIR, "pair")
+        lines = self.cpgc("play", pair, pack, scenario, "--turns", "0").stdout
+        self.assertEqual(self.of("timeline", pair, pack, scenario), self.of("timeline", pair, stdin=lines))
+        self.of("timeline", pair, pack, status=1, err="timeline: SCENARIO is missing behind PACK (--help says the words)\n")
+        self.of("timeline", pair, pair, scenario, status=4, err="cpgc: refused 10 pack 0\n")
+
+    def test_copies(self) -> None:
+        """Of a copy of hyper the name is cut from its begin: of 100 letters the first bar has 10, the second 30. Another name stays."""
+        stdin = "0 N start 0.0.kalman\n100 N end 0.0.kalman faults 0\n100 N start 0.1.kalman\n400 N end 0.1.kalman faults 0\n400 N start long.name\n410 N end long.name faults 0\nfinish 1000\n"
+        self.assertEqual(self.of("timeline", stdin=stdin).splitlines()[1], "N     |kalman---|0.1.kalman-------------------|long.name|")

@@ -62,6 +62,11 @@ static void take_turn(void)
     }
 }
 
+void node_skip(uint32_t ticks)
+{
+    now += ticks;
+}
+
 void node_tick(void)
 {
     take_turn();

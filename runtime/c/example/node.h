@@ -11,4 +11,7 @@ bool node_open(void);
 /* The handler of the timer interrupt, once in each time unit. */
 void node_tick(void);
 
+/* So many ticks are left out, since nothing arrives, ends or is due in them. */
+void node_skip(uint32_t ticks);
+
 #endif

@@ -1,6 +1,7 @@
 #include "wire.h"
 
 #include "board.h"
+#include "node.h"
 
 #define LINE 64U
 #define ROOM 32U                        /* frames, and ends, of one tick */
@@ -76,7 +77,9 @@ bool wire_wait(void)
         if (line[0] == 't') {
             return true;
         }
-        if (line[0] == 'f') {
+        if (line[0] == 'w') {
+            node_skip(number_at(0U));
+        } else if (line[0] == 'f') {
             note_frame();
         } else if (line[0] == 'e') {
             note_end();

@@ -1,8 +1,8 @@
 /*
  * A board whose bus and processes are elsewhere, at the other end of a wire that carries lines. That end is tools/run-nodes.
  *
- * From the node: `done` when it is there. Then to it, for each tick: `frame ITEM COLUMN VALUE` and `end PROCESS FAULTS VALUE`,
- * then `tick`; or `stop`. And from it: `start PROCESS`, `send ITEM COLUMN VALUE`, `overrun PROCESS`, `missing ITEM COLUMN` and
+ * From the node: `done` when it is there. Then to it, for each tick: `wait TICKS` for those that were left out, `frame ITEM COLUMN VALUE`
+ * and `end PROCESS FAULTS VALUE`, then `tick`; or `stop`. And from it: `start PROCESS`, `send ITEM COLUMN VALUE`, `overrun PROCESS`, `missing ITEM COLUMN` and
  * `strange ITEM`, then `done`.
  */
 #ifndef WIRE_H

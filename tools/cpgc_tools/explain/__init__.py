@@ -2,13 +2,19 @@
 
     explain -- cpgc check graph.toml x.pack
     cpgc check graph.toml x.pack 2>&1 | explain graph.toml x.pack
+    explain --json -- cpgc check graph.toml x.pack
     explain --patterns
 
 Behind `--` stands a command. It is run, its outputs stay as they are, and behind its line on the error stream comes what that line
-means. The status is that of the command. It may also be another tool that passes a line of cpgc on.
+means. The status is that of the command. It may also be another tool that passes a line of cpgc on. Behind `cpgc show`, `compile` and `check`
+stand the warnings that `lint` has of the graph, such as that of a process that never runs. Behind `impossible` of `cpgc audit` stands up to
+which time the log is one of the tables, and what goes wrong then.
 
 Without `--` the lines come on standard input, and all of them are written again. The files are those of the command, in its order. The
 status is the one that cpgc has with such a line, and 0 where there is none.
+
+With --json each line of cpgc, and each warning, is an object on a line in its place: grade (error or warning), status, number and kind of the line,
+file, line, column and name of the entry, text, advice, and more, which are further places. What isn't known is null.
 
 Where no place is said, as for a text that spells keys in a strange way, the sentence alone stands. --patterns writes the status and a
 regular expression for each line that cpgc may write, one a line.
@@ -17,29 +23,89 @@ For example, `explain -- cpgc show late.toml` says by how much control is late, 
 """
 from __future__ import annotations
 
+import json
 import os
+import re
 import shutil
 import sys
 from collections.abc import Sequence
 
-from cpgc_tools import cli, program
-from cpgc_tools.explain import graph, pack, run, scenario, stream
-from cpgc_tools.explain.files import COMMANDS, Files
+from cpgc_tools import cli, lint, program
+from cpgc_tools.explain import audit, graph, pack, run, scenario, stream
+from cpgc_tools.explain.files import COMMANDS, Files, mend
 from cpgc_tools.explain.table import explained, patterns
+from cpgc_tools.graph import Sentence
 
+LINTED, TAKEN = ("show", "compile", "check"), (0, 5, 6, 7)  # the commands behind which warnings stand, and the statuses of a graph that is one
+MOST_WARNINGS = 5
+MEND = mend("")
 PARTS = graph, pack, run, scenario, stream  # whose functions explain the lines of the table
 
 
-def run_command(words: Sequence[str]) -> int:
+def run_command(words: Sequence[str], as_json: bool) -> int:
     """Runs a command, and explains its line."""
     ran = program.run(words, seconds=None, passed_on=True)
-    cli.tell_bytes(ran.err)
+    if words[1:2] == ["audit"] and ran.status == 0 and not as_json:
+        for line in audit.told(files_of(words), program_of(words)):
+            cli.tell(line)
+    if not as_json:
+        cli.tell_bytes(ran.err)
     if ran.err:
         files = files_of(words)
+        files.program = program_of(words)
         for line in ran.err.decode(errors="replace").splitlines():
-            for said in explained(line, files)[1]:
+            for said in told(line, files, as_json):
                 cli.tell(said)
+    if words[1:2] and words[1] in LINTED and ran.status in TAKEN:
+        warn(files_of(words), as_json)
     return ran.status if ran.status >= 0 else 128 - ran.status
+
+
+def program_of(words: Sequence[str]) -> str | None:
+    """The program of a command that is one of cpgc, or any that is found."""
+    try:
+        return program.found(words[0] if os.path.basename(words[0]) == "cpgc" or words[1:2] and words[1] in COMMANDS else None)
+    except cli.Failure:
+        return None
+
+
+def told(line: str, files: Files, as_json: bool) -> list[str]:
+    """What is told of a line: sentences, or an object in its place."""
+    status, said = explained(line, files)
+    if not as_json:
+        return said
+    return [json.dumps(document(line, status, said))] if said else [line]
+
+
+def document(line: str, status: int, said: Sequence[str]) -> dict[str, object]:
+    """A line of cpgc and what it means, by keys."""
+    refused = re.fullmatch("cpgc: refused ([0-9]+) ([a-z]+).*", line)
+    kind = refused[2] if refused else " ".join(line.split(" ")[1:3]) if status in (2, 3, 6) else line.split(" ")[1]
+    places = [place(it) for it in said if not it.startswith(MEND)]
+    advice = [it.removeprefix(MEND) for it in said if it.startswith(MEND)]
+    first = places[0] if places else place("")
+    return {"grade": "error", "status": status, "number": int(refused[1]) if refused else None, "kind": kind, **first, "advice": "; ".join(advice) or None,
+            "more": places[1:], "said": line}
+
+
+def place(said: str) -> dict[str, object]:
+    """A sentence by keys."""
+    if isinstance(said, Sentence):
+        return {"file": said.path, "line": said.line, "column": said.column, "name": said.name, "text": said.said}
+    return {"file": None, "line": None, "column": None, "name": None, "text": said}
+
+
+def warn(files: Files, as_json: bool) -> None:
+    """The warnings of the graph of a command."""
+    found = lint.high(files.graphs[0]) if files.graphs else []
+    if as_json:
+        for it in found:
+            cli.tell(json.dumps(it.document()))
+        return
+    for line in [it.text() for it in found[:MOST_WARNINGS]]:
+        cli.tell(line)
+    if len(found) > MOST_WARNINGS:
+        cli.tell(f"and {len(found) - MOST_WARNINGS} more warnings, which `{cli.named('lint')} {files.graphs[0].path}` has")
 
 
 def files_of(words: Sequence[str]) -> Files:
@@ -50,26 +116,33 @@ def files_of(words: Sequence[str]) -> Files:
     return Files(rest)
 
 
-def read(words: Sequence[str]) -> int:
+def read(words: Sequence[str], as_json: bool) -> int:
     """Writes what comes on standard input again, with what its lines mean."""
     last = 0
     if sys.stdin is None:
         cli.fail("standard input: it is closed")
     for line in iter(lambda: sys.stdin.buffer.readline(cli.GRAPH), b""):
-        cli.write(line if line.endswith(b"\n") or not line.startswith(b"cpgc: ") else line + b"\n")
         text = line.decode(errors="replace").rstrip("\n")
-        if text.startswith("cpgc: "):
-            status, said = explained(text, Files(words))
-            last = status or last
+        if not text.startswith("cpgc: "):
+            cli.write(line)
+            continue
+        status, said = explained(text, Files(words))
+        last = status or last
+        if as_json and said:
+            cli.write_lines([json.dumps(document(text, status, said))])
+        else:
+            cli.write(line if line.endswith(b"\n") else line + b"\n")
             cli.write_lines(map(cli.shown, said))
     return last
 
 
 def main() -> int:
-    given = sys.argv[1:]
+    as_json = sys.argv[1:2] == ["--json"]
+    given = sys.argv[1 + as_json:]
     if given[:1] == ["--"] and len(given) > 1:
-        return run_command(given[1:])
+        return run_command(given[1:], as_json)
     words = cli.Words(__doc__)
+    words.add_argument("--json", action="store_true", help="objects in place of lines, as said first")
     words.add_argument("--patterns", action="store_true", help="write the status and the expression of each line of cpgc")
     words.add_argument("files", metavar="FILE", nargs="*", help="the files of the command")
     said = words.parse_args()
@@ -78,4 +151,4 @@ def main() -> int:
         return 0
     if said.files and not os.path.exists(said.files[0]) and shutil.which(said.files[0]):
         cli.fail(f"-- is missing before the command: explain -- {' '.join(said.files)}")
-    return read(said.files)
+    return read(said.files, said.json)

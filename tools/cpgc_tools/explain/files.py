@@ -13,6 +13,11 @@ COMMANDS = {
     "show": "GRAPH", "compile": "GRAPH", "check": "GRAPH PACK", "play": "GRAPH PACK SCENARIO --turns N", "node": "PACK NAME",
     "hyper": "N GRAPH ..", "tune": "GRAPH", "audit": "GRAPH PACK LOG", "live": "PACK NAME STREAM", "trial": "N",
 }
+DOES = {
+    "show": "writes the tables of a graph as text", "compile": "writes them as a pack", "check": "says whether a pack is safe for a graph",
+    "play": "plays the nodes in one scenario", "node": "writes the table of one node", "hyper": "makes one graph of graphs with periods N",
+    "tune": "finds the best checkpoints", "audit": "finds the scenario of a log", "live": "runs one node on a stream", "trial": "tries a generated graph",
+}
 KINDS = {"GRAPH": "graph", "PACK": "pack", "SCENARIO": "scenario", "LOG": "log", "STREAM": "stream"}
 MOST = {"graph": cli.GRAPH, "scenario": cli.SCENARIO, "log": cli.LOG, "pack": cli.PACK, "stream": cli.STREAM}
 MOST_LISTED = 12
@@ -51,6 +56,7 @@ class Files:
         self.by: dict[str, File] = {}
         self.name: str | None = None
         self.line = ""  # that is explained
+        self.program: str | None = None  # that wrote it, where more may be asked of it
         self.order = list(self.of_form() if command in COMMANDS else self.of_content())
         self.graphs = [file for kind, file in self.order if kind == "graph"]
         for kind, file in self.order:

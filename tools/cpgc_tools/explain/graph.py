@@ -1,22 +1,38 @@
 """The refusals of a graph file, and of several that `hyper` joins."""
 from __future__ import annotations
 
+import re
+
 from cpgc_tools.explain.files import MOST_LISTED, Files, graph_with, listed, mend, near, nearest
 from cpgc_tools.explain.table import Sentences, explains
-from cpgc_tools.graph import LIMIT, File, has_type, in_range, keys_of, rule_of, shown, wanted
+from cpgc_tools.graph import LIMIT, File, Sentence, has_type, in_range, keys_of, rule_of, shown, wanted
 from cpgc_tools.play import scenario_of
-from cpgc_tools.toml_places import Path, fault_at
+from cpgc_tools.toml_places import Path, Places, fault_at
 
 COUNTS = {"node": "nodes", "slot": "slots", "process": "processes", "edge": "edges"}
 DEEPEST = 8  # up to which the place of a value is told
+TWICE = re.compile("Cannot (overwrite|declare|redefine|mutate)|Duplicate inline table key")  # as tomllib says that a key stands there twice
+PERIODS, UNITS, PRIORITIES = ("period", "periods", "cycle", "hyperperiod", "rate"), ("unit", "units", "time_unit"), ("priority", "prio", "priorities")
 PLACE = "(top|(node|slot|process|edge) [0-9]+) ([a-z]+)"
 
 
 @explains(4, "^cpgc: refused 1 not toml$")
 def not_toml(files: Files) -> Sentences:
     file = graph_with(files, lambda it: toml_fault(it))
+    yield from not_toml_of(file, "the graph file is no TOML document")
+
+
+def not_toml_of(file: File, otherwise: str) -> Sentences:
+    """Why a file is no TOML document, or a sentence where no reason is found."""
     fault = toml_fault(file)
-    yield fault or (f"{file.path}: " if file.path else "") + "the graph file is no TOML document"
+    twice = Places(file.text).doubled if fault and TWICE.search(fault) else None
+    if twice:
+        path, first, second = twice
+        for what, at in ("stands there a second time", second), ("stands here already", first):
+            yield Sentence.of(f"{path[-1]} {what}", file.path, *Places(file.text).place(at))
+        yield mend("leave one of the two out, or make them one; [[process]] and its like may stand there many times, but not beside process = ..")
+        return
+    yield fault or (Sentence.of(otherwise, file.path) if file.path else otherwise)
     yield mend(hint_of(fault, file.bytes))
 
 
@@ -28,18 +44,17 @@ def hint_of(fault: str | None, content: bytes) -> str:
     return "put the text right there; an editor with a TOML mode shows the rest"
 
 
-def toml_fault(file: File) -> str | None:
+def toml_fault(file: File) -> Sentence | None:
     """The first place at which a text is no TOML, as far as another reader finds it."""
     try:
         text = file.bytes.decode()
     except UnicodeDecodeError as fault:
-        line = file.bytes.count(b"\n", 0, fault.start) + 1
-        return f"{file.path}:{line}: byte {fault.start} isn't UTF-8"
+        return Sentence.of(f"byte {fault.start} isn't UTF-8", file.path, file.bytes.count(b"\n", 0, fault.start) + 1)
     placed = fault_at(text.replace("\r\n", "\n"))
-    return f"{file.path}:{placed[0]}: {placed[1]}" if placed else great_number(file)
+    return Sentence.of(placed[1], file.path, placed[0]) if placed else great_number(file)
 
 
-def great_number(file: File) -> str | None:
+def great_number(file: File) -> Sentence | None:
     """A whole number that cpgc doesn't take: the first one that isn't deeper than others."""
     left: list[tuple[object, Path]] = [(file.document, ())]
     for value, path in left:
@@ -69,7 +84,9 @@ def field(files: Files, said: str, _: str, key: str) -> Sentences:
     if key in entry:
         yield file.at(f"{called} has {key} = {shown(entry[key])}, which isn't {wanted(table, key)}", *path_of(table, number, key))
         quoted = isinstance(entry[key], str) and wants_no_text(table, key)
-        yield mend(f"give it {wanted(table, key)}" + ", without quotes" * quoted)
+        finer = isinstance(entry[key], float) and wants_no_text(table, key)
+        yield mend(f"give it {wanted(table, key)}" + ", without quotes" * quoted + "; for fractions take a smaller time unit in the whole file" * finer
+                   + "; no unit is written, and all times of a file are in the same" * (quoted and entry[key][:1].isdigit()))
         return
     yield file.at(f"{called} has no {key}, which it needs", *path_of(table, number))
     others: list[tuple[str, int]] = [(kind, n) for kind in COUNTS for n in range(len(file.entries(kind))) if table == "top" and key in file.written(kind, n)]
@@ -99,7 +116,13 @@ def unknown_field(file: File, table: str, number: int) -> Sentences:
     elsewhere = [kind for kind in ("top", *COUNTS) if kind != table and keys[0] in keys_of(kind)]
     for key in keys:
         yield file.at(f"{file.called(table, number)}: {key} is none of its keys{near(key, keys_of(table))}", *path_of(table, number, key))
-    if elsewhere and elsewhere[0] == "top":
+    if keys[0] in PERIODS:
+        yield mend("periods stand in no graph file: cpgc hyper PERIOD GRAPH .. repeats a graph by its period; its deadline is at most that")
+    elif keys[0] in PRIORITIES:
+        yield mend("there are no priorities: the key order of the graph lists all processes, and each node runs its own in that order")
+    elif keys[0] in UNITS:
+        yield mend("no unit is written: all times of a file are whole numbers in the same one")
+    elif elsewhere and elsewhere[0] == "top":
         yield mend(f"{keys[0]} is of the graph, and goes before the first [[..]]")
     else:
         yield mend(f"its keys are {', '.join(keys_of(table))}" + (f"; {keys[0]} is of a {elsewhere[0]}" if elsewhere else ""))
@@ -286,11 +309,18 @@ def no_slot(files: Files, name: str) -> Sentences:
 @explains(4, "^cpgc: refused 9 big e([0-9]+)$")
 def big(files: Files, said: str) -> Sentences:
     number = int(said)
-    file = graph_with(files, lambda it: number < len(it.entries("edge")))
-    edge = file.entry("edge", number)
-    on = {it.get("name"): it.get("node") for it in file.entries("process")}
-    slot = next((n for n, it in enumerate(file.entries("slot")) if it.get("node") == on.get(edge.get("from"))), None)
-    size = edge.get("bytes", 1)
+
+    def slot_of(it: File) -> int | None:
+        on = {process.get("name"): process.get("node") for process in it.entries("process")}
+        sender = on.get(it.entry("edge", number).get("from"))
+        return next((n for n, slot in enumerate(it.entries("slot")) if slot.get("node") == sender), None)
+
+    def is_big(it: File) -> bool:
+        slot = slot_of(it)
+        return slot is not None and it.entry("edge", number).get("bytes", 1) > it.entry("slot", slot).get("bytes", 0)
+
+    file = graph_with(files, is_big)
+    slot, size = slot_of(file), file.entry("edge", number).get("bytes", 1)
     yield file.at(f"the message of {file.called('edge', number)} has {size} bytes", "edge", number, "bytes")
     if slot is not None:
         yield file.at(f"{file.called('slot', slot)} takes {file.entry('slot', slot).get('bytes')}", "slot", slot, "bytes")

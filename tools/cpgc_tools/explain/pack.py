@@ -4,7 +4,7 @@ from __future__ import annotations
 from cpgc_tools.explain.files import Files, listed, mend, near
 from cpgc_tools.explain.run import item_at, item_said
 from cpgc_tools.explain.table import Sentences, explains
-from cpgc_tools.graph import File
+from cpgc_tools.graph import File, Sentence
 from cpgc_tools.pack import Pack, Reader, decoded, difference
 
 RULES = {
@@ -35,20 +35,23 @@ def part_at(content: bytes, at: int) -> str:
 def no_pack(files: Files, said: str) -> Sentences:
     file, at = files.get("pack"), int(said)
     path, content = (file.path, file.bytes) if file else ("", b"")
-    place_of = f"{path}: " if path else ""
+
+    def told(what: str) -> str:
+        return Sentence.of(what, path) if path else what
+
     if file and file.known and not content:
-        yield f"{place_of}the pack is empty"
+        yield told("the pack is empty")
         yield mend("a compile that is refused leaves an empty file: compile again, and look at its line")
     elif file and at < 4 and not content.startswith(b"CPGT"):
-        yield f"{place_of}this is no pack: one begins with CPGT"
+        yield told("this is no pack: one begins with CPGT")
         is_graph = any(key in file.document for key in ("faults", "process", "node", "deadline"))
         yield mend("it is a graph file; " * is_graph + "cpgc compile makes a pack; the words name the graph first, then the pack")
     elif file and at == len(content):
-        yield f"{place_of}the pack ends too early, after {at} bytes: {part_at(content, at)} is missing"
+        yield told(f"the pack ends too early, after {at} bytes: {part_at(content, at)} is missing")
         yield mend("copy it once more, or compile the graph again")
     else:
         byte = f" ({content[at]:02x})" if at < len(content) else ""
-        yield f"{place_of}byte {at}{byte} can't stand there: {part_at(content, at)}"
+        yield told(f"byte {at}{byte} can't stand there: {part_at(content, at)}")
         yield mend("compile the graph again; docs/FORMATS.md has the bytes of a pack")
 
 
@@ -84,7 +87,7 @@ def no_node(files: Files) -> Sentences:
     file, pack = files.get("pack"), files.pack()
     names = pack.nodes if pack else ()
     name = files.name or "the name"
-    yield f"{file.path if file else 'the pack'}: no node is named {name}{near(name, names)}"
+    yield Sentence.of(f"no node is named {name}{near(name, names)}", file.path if file else "the pack")
     yield mend(f"its nodes are {listed(names)}" if pack else "cpgc show names the nodes of a graph")
 
 
@@ -97,9 +100,9 @@ def unsafe(files: Files, rule: str, kind: str, name: str, column: str, in_: str)
         node, row = pack.nodes[found[0]], found[1]
         if column.isdigit() and int(column) < len(row.columns):
             time, cube = row.columns[int(column)]
-            yield f"{file.path}: column {column} of {kind} {name} on {node} is {time}: {pack.cube_text(cube)}"
+            yield Sentence.of(f"column {column} of {kind} {name} on {node} is {time}: {pack.cube_text(cube)}", file.path)
         else:
-            yield f"{file.path}: {kind} {name} on {node} has {len(row.columns)} columns"
+            yield Sentence.of(f"{kind} {name} on {node} has {len(row.columns)} columns", file.path)
     yield mend({
         8: "the pack is older than `frozen` in the graph: compile it again",
         9: "compile the graph again, which refuses it as late where no tables are found",

@@ -4,11 +4,22 @@ from __future__ import annotations
 import os
 import re
 
-from cpgc_tools import cli
-from cpgc_tools.explain.files import COMMANDS, MOST, Files, graph_with, listed, mend, near, nearest
+from cpgc_tools import cli, lint, why
+from cpgc_tools.explain.files import COMMANDS, DOES, MOST, Files, graph_with, listed, mend, near, nearest
 from cpgc_tools.explain.table import Sentences, explains
 from cpgc_tools.explore.offer import offered
-from cpgc_tools.graph import File
+from cpgc_tools.graph import File, Sentence
+from cpgc_tools.program import Program
+
+
+SECONDS = 60.0  # of each run that asks for more: what isn't known by then isn't said
+
+
+def like(name: str, names: list[str]) -> str | None:
+    """The name of a file that may have been meant: one that is like it also without their endings."""
+    found = nearest(name, names)
+    stems = [os.path.splitext(it)[0] for it in (name, found or "")]
+    return found if found and nearest(stems[0], stems[1:]) else None
 
 
 def listed_in(folder: str) -> list[str]:
@@ -27,7 +38,12 @@ def edge_of(name: str) -> int:
 @explains(1, "^cpgc: words$")
 def words(files: Files) -> Sentences:
     forms = [f"{name} {form}" for name, form in COMMANDS.items()]
-    if files.command is None:
+    if files.command == "" and not files.words:
+        yield "the commands of cpgc are"
+        width = max(len(form) for form in forms)
+        yield from (f"  {form:<{width}}  {DOES[name]}" for form, name in zip(forms, COMMANDS))
+        yield mend("begin with one of these; man cpgc has more on each")
+    elif files.command is None:
         yield f"the words of the command have no form; the forms are: {', '.join(forms)}"
         yield mend("write the command as one of these")
     elif files.command not in COMMANDS:
@@ -66,10 +82,9 @@ def wrong_word(files: Files) -> str:
 def read_fault(files: Files) -> Sentences:
     for kind, file in files.order:
         if file.fault:
-            yield f"{file.path}: the {kind if kind != 'other' else 'file'} can't be read: {file.fault}"
+            yield Sentence.of(f"the {kind if kind != 'other' else 'file'} can't be read: {file.fault}", file.path)
             folder = os.path.dirname(file.path) or "."
-            names = listed_in(folder)
-            found = nearest(os.path.basename(file.path), [it for it in names if it != os.path.basename(file.path)])
+            found = like(os.path.basename(file.path), [it for it in listed_in(folder) if it != os.path.basename(file.path)])
             yield mend(f"is {os.path.join(os.path.dirname(file.path), found)} meant?" if found else "name a file that is there and may be read")
             return
     yield "a file can't be read" + (f": one of {listed(file.path for _, file in files.order)}" if files.order else "")
@@ -87,7 +102,8 @@ def long(files: Files, kind: str) -> Sentences:
     file = files.get(kind) if kind != "graph" else graph_with(files, lambda it: it.size > MOST["graph"])
     most = "16,777,216 records" if kind == "stream" else f"{MOST[kind]:,} bytes"
     size = f"has {file.size:,} bytes and " if file and file.known else ""
-    yield (f"{file.path}: " if file and file.path else "") + f"the {kind} {size}is longer than {most}"
+    told = f"the {kind} {size}is longer than {most}"
+    yield Sentence.of(told, file.path) if file and file.path else told
     yield mend({"log": "split the log: a beginning of it is audited, too", "stream": "close the stream by then; each cycle is a stream of its own"}.get(
         kind, "is it the right file? No lawful one is so long"))
 
@@ -99,12 +115,74 @@ def late(files: Files, finish: str, name: str, in_: str) -> Sentences:
     own = file.entry("process", number) if number is not None else {}
     dues = [it for it in (file.entry("top", 0).get("deadline"), own.get("deadline")) if it is not None]
     due = f", {int(finish) - min(dues)} after its due of {min(dues)}" if dues else ""
-    yield file.named(f"process {name} ends at {finish}{due}, in {in_}", "process", name)
+    yield file.named(f"process {name} ends at {finish}{due}, in {in_}{any_order(file, name)}", "process", name)
     if "order" in file.entry("top", 0):
         yield file.at("it is so under this order; no other one is tried", "order")
-    yield mend(f"ask `{cli.named('why')} {file.path or 'GRAPH'}` what held it up: another process may be what misses by less; `{cli.named('slack')}` "
-               "says how far a wcet has to shrink")
+    yield from other_units(file)
+    asked, other = true_miss(files, file)
+    yield from other
+    unknown = "" if asked else ": another process may be what misses by less"
+    yield mend(f"ask `{cli.named('why')} {file.path or 'GRAPH'}` what held it up{unknown}; `{cli.named('slack')}` says how far a wcet has to shrink")
     yield from another_order(file)
+
+
+def any_order(file: File, name: str) -> str:
+    """How late a process is in any order at least, as an end of a sentence."""
+    try:
+        it = lint.Lint(file)
+        least = it.least_ends().get(it.graph.number[name])
+    except (LookupError, RecursionError, ValueError):
+        return ""
+    return "" if least is None or least[-1][0] <= it.graph.processes[it.graph.number[name]].due else f"; no order ends it before {least[-1][0]} in all scenarios"
+
+
+def other_units(file: File) -> Sentences:
+    """Whether the deadline and the durations look as if they were in two units."""
+    deadline = file.entry("top", 0).get("deadline")
+    longer = [str(it.get("name")) for it in file.entries("process") if deadline is not None and it.get("wcet", 0) > deadline]
+    if longer:
+        have = "one process has" if len(longer) == 1 else f"{len(longer)} processes have"
+        yield file.at(f"{have} a wcet above the deadline of {deadline} ({listed(longer, 3)}): is it in the same unit?", "deadline")
+    length = sum(it.get("length", 0) for it in file.entries("slot"))
+    if deadline is not None and length > deadline:
+        yield file.at(f"a round of all slots lasts {length}, longer than the deadline of {deadline}: is it in the same unit?", "slot")
+        return
+    most = most_messages(file)
+    if deadline is not None and 2 * most * length >= deadline:
+        rounds = "a round" if most == 1 else f"{most} rounds"
+        yield file.at(f"a way with {most} message{'s' * (most != 1)} may wait for {rounds} of {length}, half of the deadline or more: are slots in the same unit?", "slot")
+
+
+def most_messages(file: File) -> int:
+    """How many messages the way with the most has, 0 where that isn't known."""
+    it = file.graph()
+    if it is None:
+        return 0
+    try:
+        found = [0] * len(it.processes)
+        for number in it.sources_first():
+            found[number] = max((found[edge.source] + it.is_message(edge) for edge in it.inputs(it.processes[number])), default=0)
+        return max(found, default=0)
+    except ValueError:
+        return 0
+
+
+def true_miss(files: Files, file: File) -> tuple[bool, list[str]]:
+    """Whether the program could be asked which order misses by the least; and a sentence on its miss, where the line has another one."""
+    it, found = file.graph(), re.fullmatch("cpgc: late ([0-9]+) by ([^ ]+) in .+", files.line)
+    if files.program is None or it is None or found is None or found[2] not in it.number:
+        return False, []
+    try:
+        with Program(files.program, seconds=SECONDS) as cpgc:
+            case = why.Case(cpgc, it, why.late_by(files.line, it))
+            over = {name: end - it.processes[it.number[name]].due for name, end in case.ends.items()}
+            worst = max(over, key=over.__getitem__)
+            if worst == found[2] and case.ends[worst] == int(found[1]):
+                return True, []
+            scenario, under = case.scenario_of(worst, case.ends[worst] - 1), why.order_line(case).split(":")[0]
+    except (cli.Failure, ValueError):
+        return False, []
+    return True, [file.named(f"{under}, which misses by less, {worst} ends at {case.ends[worst]}, {over[worst]} after its due, in {scenario}", "process", worst)]
 
 
 def another_order(file: File) -> Sentences:

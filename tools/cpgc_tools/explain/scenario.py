@@ -4,7 +4,7 @@ from __future__ import annotations
 from typing import Any
 
 from cpgc_tools.explain.files import Files, listed, mend, near
-from cpgc_tools.explain.graph import deciding, hint_of, toml_fault
+from cpgc_tools.explain.graph import deciding, not_toml_of
 from cpgc_tools.explain.table import Sentences, explains
 from cpgc_tools.graph import LONGEST_SHOWN, File, shown
 
@@ -23,9 +23,7 @@ def scenario(files: Files, why: str) -> Sentences:
 
 
 def scenario_toml(file: File, graph: File, entries: Entries) -> Sentences:
-    fault = toml_fault(file)
-    yield fault or file.at("the scenario file is no TOML document")
-    yield mend(hint_of(fault, file.bytes))
+    yield from not_toml_of(file, "the scenario file is no TOML document")
 
 
 def scenario_field(file: File, graph: File, entries: Entries) -> Sentences:

@@ -7,7 +7,7 @@ from collections.abc import Iterator
 from cpgc_tools import cli
 from cpgc_tools.explain.files import Files, listed, mend, near
 from cpgc_tools.explain.table import Sentences, explains
-from cpgc_tools.graph import File, shown
+from cpgc_tools.graph import File, Sentence, shown
 from cpgc_tools.pack import Pack
 
 SIZE = 14  # of a record
@@ -66,7 +66,8 @@ def stream(files: Files, said: str, why: str) -> Sentences:
         "frame": "the node hears no such item, the item has no such column, the column arrives at another time, or it contradicts what was heard",
         "end": record.of_end(pack, files.name) if known else "it isn't an end that can be",
     }[why]
-    yield (f"{file.path}: " if file else "") + f"record {number}, at byte {SIZE * number}{record.told(pack)}: {what}"
+    told = f"record {number}, at byte {SIZE * number}{record.told(pack)}: {what}"
+    yield Sentence.of(told, file.path) if file else told
     if why == "frame" and record.whole and pack:
         yield from heard(files, pack, record.item)
     yield mend(f"docs/FORMATS.md has the fields; {cli.named('stream')} makes a lawful one of a play")
@@ -92,7 +93,7 @@ def log(files: Files, said: str) -> Sentences:
     file, number = files.get("log") or File(""), int(said)
     lines = file.bytes.decode(errors="replace").split("\n")
     line = lines[number] if number < len(lines) else ""
-    yield f"{file.path}:{number + 1}: {shown(line)}: {log_fault(files, lines, number, line)}"
+    yield Sentence.of(f"{shown(line)}: {log_fault(files, lines, number, line)}", file.path, number + 1)
     yield mend("the first line is `until TIME`, each other one `TIME NODE start NAME`, `TIME NODE send eN` or `TIME NODE tell NAME`")
 
 
