@@ -16,7 +16,6 @@ from cpgc_tools import cli, pack, play
 from cpgc_tools.pack import VALUES, Pack
 
 FRAME, END, CLOSE = range(3)
-MOST_TIME = 2**64
 
 
 def record(kind: int, time: int, item: int = 0, number: int = 0, value: bool = False) -> bytes:
@@ -46,6 +45,12 @@ def stream(tables: Pack, node: int, acts: play.Play) -> Iterator[tuple[int, byte
             yield time, record(END, time, item.number, end.faults, end.value == "true")
 
 
+def records(tables: Pack, node: int, acts: play.Play) -> bytes:
+    """The whole stream. Raises ValueError, KeyError, IndexError or OverflowError where the play isn't one of the pack."""
+    found = sorted(stream(tables, node, acts))
+    return b"".join(it for _, it in found) + record(CLOSE, max([acts.last, *(time for time, _ in found)]))
+
+
 def main() -> None:
     words = cli.Words(__doc__, short_help=False)
     words.add_argument("pack", metavar="PACK", help="the pack that was played")
@@ -57,8 +62,7 @@ def main() -> None:
         cli.fail(f"{said.pack}: no node is named {said.node}; its nodes are {', '.join(tables.nodes)}")
     try:
         acts = play.parsed(cli.lines_of_input())
-        records = sorted(stream(tables, tables.nodes.index(said.node), acts))
-        made = b"".join(it for _, it in records) + record(CLOSE, max([acts.last, *(time for time, _ in records)]))
+        made = records(tables, tables.nodes.index(said.node), acts)
     except (ValueError, KeyError, IndexError, OverflowError):
         cli.fail(f"no play of {said.pack} on standard input: cpgc play GRAPH PACK SCENARIO --turns 0 | stream PACK NODE")
     cli.write(made)
