@@ -32,7 +32,7 @@ import re
 from collections.abc import Iterable, Iterator
 from dataclasses import replace
 
-from cpgc_tools import __version__, cli, graph, pack, show
+from cpgc_tools import __version__, cli, graph, pack, safe, show
 from cpgc_tools.graph import Graph
 from cpgc_tools.pack import Item, Pack
 from cpgc_tools.program import Program
@@ -166,29 +166,19 @@ def costs(tables: Pack, node: int) -> Iterator[str]:
 
 
 def main() -> None:
-    words = cli.Words(__doc__, short_help=False).with_program()
+    words = safe.words_with_node(__doc__).with_program()
     which = words.add_mutually_exclusive_group()
     which.add_argument("--sizes", action="store_true", help="write the macros of cpg_node.h in place of the table")
     which.add_argument("--header", metavar="GRAPH", help="write names for what the node does, by the graph file of the pack")
     which.add_argument("--cost", action="store_true", help="write how many instructions the calls of the node take at most")
     which.add_argument("--whole", action="store_true", help="leave nothing of the head out of the table")
-    words.add_argument("pack", metavar="PACK")
-    words.add_argument("node", metavar="NODE", help="the name of the node")
     said = words.parse_args()
-    said.node = said.node or "--"  # which argparse takes out, wherever it stands
-    content = cli.read(said.pack, cli.PACK)
-    tables = pack.of_file(said.pack, content)
-    if said.node not in tables.nodes:
-        cli.fail(f"{said.pack}: no node is named {said.node}; its nodes are {', '.join(tables.nodes)}")
-    node = tables.nodes.index(said.node)
-    written = cli.read(said.header, cli.GRAPH) if said.header else b""
+    content, tables, node = safe.node_of(said)
     with Program(said.program) as cpgc:
-        file = cpgc.file("tables.pack", content)
-        cpgc.asked("node", file, "--", said.node)
-        if said.header:
-            cpgc.asked("check", cpgc.file("graph.toml", written), file)
-    if said.header:
-        digests = hashlib.sha256(written).hexdigest(), hashlib.sha256(content).hexdigest()
-        cli.write_lines(list(header(graph.parsed(said.header, written), tables, node, said.pack, digests)))
+        cpgc.asked("node", cpgc.file("tables.pack", content), "--", tables.nodes[node])
+        it = safe.read(cpgc, said.header, said.pack).graph if said.header else None
+    if it is not None:
+        digests = hashlib.sha256(cli.read(said.header, cli.GRAPH)).hexdigest(), hashlib.sha256(content).hexdigest()
+        cli.write_lines(list(header(it, tables, node, said.pack, digests)))
     else:
         cli.write_lines([" ".join(size_words(tables, node))] if said.sizes else costs(tables, node) if said.cost else source(tables, node, said.whole))

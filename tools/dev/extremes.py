@@ -9,12 +9,11 @@ import itertools
 import os
 import random
 import resource
-import subprocess
 from collections.abc import Callable, Sequence
 from typing import Any
 
 from cpgc_tools import graph, pack
-
+from dev.measuring import Timed, timed
 
 Files = dict[str, bytes]  # of a case, by what they are
 
@@ -395,9 +394,8 @@ def written(name: str, file: Callable[[str, bytes], str]) -> list[str]:
     return [command, *(file(f"extreme.{kind}", files[kind]) for kind in ORDER[command])]
 
 
-def run(program: str, name: str, file: Callable[[str, bytes], str]) -> tuple[int, bytes, float, float]:
-    """Runs a case with no more stack than it may take, and no more than four times its memory and some of its time: its status, its
-    line of an error, the seconds and the MiB that it took."""
+def run(program: str, name: str, file: Callable[[str, bytes], str]) -> Timed:
+    """Runs a case with no more stack than it may take, and no more than four times its memory and some of its time."""
     _, _, _, seconds, memory, stack = CASES[name]
 
     def begin() -> None:
@@ -405,7 +403,4 @@ def run(program: str, name: str, file: Callable[[str, bytes], str]) -> tuple[int
         resource.setrlimit(resource.RLIMIT_AS, ((4 * memory + 1024) << 20,) * 2)
         resource.setrlimit(resource.RLIMIT_CPU, (int(4 * seconds) + 20,) * 2)
 
-    child = subprocess.Popen([program, *written(name, file)], stdout=subprocess.DEVNULL, stderr=subprocess.PIPE, preexec_fn=begin)
-    line = child.stderr.read() if child.stderr else b""
-    _, status, usage = os.wait4(child.pid, 0)
-    return os.waitstatus_to_exitcode(status), line, usage.ru_utime + usage.ru_stime, usage.ru_maxrss / 1024
+    return timed([program, *written(name, file)], os.devnull, 1, begin)

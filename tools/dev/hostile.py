@@ -279,7 +279,7 @@ def memory(bench: Bench, quick: bool) -> None:
 
 def extremes(bench: Bench, quick: bool) -> None:
     for name, (_, command, wanted, seconds, most, _) in extreme_cases.CASES.items():
-        status, line, took, memory = extreme_cases.run(bench.program, name, bench.file)
+        status, took, memory, line = extreme_cases.run(bench.program, name, bench.file)
         fine = status == wanted and took <= seconds and memory <= most
         bench.runs, bench.faults, bench.slowest = bench.runs + 1, bench.faults + (not fine), max(bench.slowest, took)
         said = "" if fine else f", {line[:60]!r}, where {seconds} s and {most} MiB are the most"

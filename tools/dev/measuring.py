@@ -1,7 +1,7 @@
 """What the tools that measure share: the graph files that they make, and runs of the built program."""
 import os
 import subprocess
-from collections.abc import Iterable, Sequence
+from collections.abc import Callable, Iterable, Sequence
 from pathlib import Path
 from typing import Any
 
@@ -43,12 +43,13 @@ def log_of(trace: str) -> str:
     return "\n".join([f"until {events[-1][0] if events else 0}", *[" ".join(it) for it in events if it[2] != "end"], ""])
 
 
-def timed(words: Sequence[str], out: str, times: int = 3) -> Timed:
-    """Runs, and returns the status, the processor time in seconds, the most memory in MiB and what it said of an error."""
+def timed(words: Sequence[str], out: str, times: int = 3, begin: Callable[[], None] | None = None) -> Timed:
+    """Runs, and returns the status, the processor time in seconds, the most memory in MiB and what it said of an error. Each run calls `begin`
+    first, in the process that runs."""
     best: Timed | None = None
     for _ in range(times):
         with open(out, "wb") as it:
-            child = subprocess.Popen(words, stdout=it, stderr=subprocess.PIPE)
+            child = subprocess.Popen(words, stdout=it, stderr=subprocess.PIPE, preexec_fn=begin)
             said = child.stderr.read() if child.stderr else b""
             _, status, usage = os.wait4(child.pid, 0)
         took = usage.ru_utime + usage.ru_stime
