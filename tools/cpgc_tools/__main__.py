@@ -13,7 +13,7 @@ from cpgc_tools import cli
 
 # of each tool what it does; its module has its name, with _ for -, and a function main()
 TOOLS = {
-    "c-table": "writes the table of a node as C, names for it, and its cost",
+    "c-table": "writes the table of a node as C",
     "cycle": "says the least cycle time of tables",
     "draw": "draws tables or plays as SVG",
     "explain": "says what a line of cpgc means",
