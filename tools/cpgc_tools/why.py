@@ -130,25 +130,28 @@ class Case:
         by_text: dict[str, list[Mend]] = {}
         for it in lists:
             by_text.setdefault(it[0].text, it)
-        tried = Counter[str]()
 
-        def first(numbered: tuple[int, list[Mend]]) -> tuple[Mend, int] | None:
+        def first(numbered: tuple[int, list[Mend]]) -> list[tuple[Mend, int | None]]:
+            """The changes up to the first that mends, each with its latest end."""
+            found: list[tuple[Mend, int | None]] = []
             for change in numbered[1]:
-                tried[change.kind] += 1
-                if (worst := self.worst_with(change, numbered[0])) is not None:
-                    return change, worst
-            return None
+                found.append((change, self.worst_with(change, numbered[0])))
+                if found[-1][1] is not None:
+                    break
+            return found
 
-        found = [it for it in self.cpgc.each(first, enumerate(by_text.values())) if it]
-        least = min((worst for change, worst in found if change.kind == "order"), default=LIMIT)
-        found += [it for it in map(first, ((0, [change]) for change in self.changes.searched(cli.named("explore")))) if it and it[1] < least]
+        tried = [it for some in self.cpgc.each(first, enumerate(by_text.values())) for it in some]
+        least = min((worst for change, worst in tried if worst is not None and change.kind == "order"), default=LIMIT)
+        searched = first((0, self.changes.searched(cli.named("explore"))))
+        found = [(change, worst) for change, worst in [*tried, *(it for it in searched if it[1] is not None and it[1] < least)] if worst is not None]
         for kind in KINDS:
             of_kind = sorted((it for it in found if it[0].kind == kind), key=lambda it: it[1])
             yield from (f"mended by {change.text}: worst {worst}" for change, worst in of_kind[:MOST_LISTED])
             if len(of_kind) > MOST_LISTED:
                 yield f"mended by {len(of_kind) - MOST_LISTED} more changes of {kind}"
         if not found:
-            counts = ", ".join(f"{tried[kind]} of {kind}" for kind in KINDS if tried[kind])
+            count = Counter(change.kind for change, _ in [*tried, *searched])
+            counts = ", ".join(f"{count[kind]} of {kind}" for kind in KINDS if count[kind])
             yield f"no single change was found that mends it: {f'tried were {counts}' if counts else 'there was none to try'}"
 
 
