@@ -41,8 +41,10 @@ def calls() -> list[tuple[str, list[list[str]]]]:
     ]
 
 
-def said_of_scripts() -> list[str]:
-    """What eslint says of the scripts of the page."""
+def said_of_scripts() -> tuple[str, list[str]]:
+    """Whether eslint is asked about the scripts of the page, and what it says of them."""
+    if shutil.which("eslint") is None:
+        return "not asked, as it is not installed", []
     text = "".join(re.findall(r"<script>\n(.*?)</script>", page.inlined("{}"), re.S))
     begins = {text.count("\n", 0, text.index(page.part(path.name))): path for path in sorted((TOP / "tools/cpgc_tools/page").glob("*.js"))}
     # where node isn't Debian's it doesn't look for eslint's modules there
@@ -52,9 +54,9 @@ def said_of_scripts() -> list[str]:
     try:
         found = [it for file in json.loads(ran.out) for it in file["messages"]]
     except ValueError:
-        return [ran.line or "eslint says nothing that can be read"]
+        return f"not asked, as this one can't be: {ran.line or 'it says nothing'}", []
     places = [max(begin for begin in begins if begin < max(it["line"], 1)) for it in found]
-    return [f"{begins[begin].relative_to(TOP)}:{it['line'] - begin}: {it['message']} ({it['ruleId']})" for begin, it in zip(places, found)]
+    return "asked", [f"{begins[begin].relative_to(TOP)}:{it['line'] - begin}: {it['message']} ({it['ruleId']})" for begin, it in zip(places, found)]
 
 
 def main() -> int:
@@ -67,9 +69,8 @@ def main() -> int:
         for words in runs:
             if words[0] not in missing:
                 wrong += subprocess.run(words, cwd=TOP, check=False).returncode != 0
-    cli.write(f"eslint: {'asked' if shutil.which('eslint') else 'not asked, as it is not installed'}\n")
-    said = said_of_scripts() if shutil.which("eslint") else []
-    cli.write_lines(said)
+    how, said = said_of_scripts()
+    cli.write_lines([f"eslint: {how}", *said])
     wrong += said != []
     cli.write("the linters say nothing\n" if not wrong else f"{wrong} of the linters' runs say something\n")
     return int(wrong > 0)
