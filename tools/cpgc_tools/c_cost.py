@@ -157,7 +157,7 @@ class Cost:
         return of("tell") + max(of("start") + of("end_of") + TIME, of("value_of") + of("place_of_value"))
 
     def one_poll(self, time: int) -> int:
-        """One call at an instant: all columns of it, up to an event; the next instant is looked at again where there is none."""
+        """One call at an instant: all columns of it, up to an event; the next instant is looked at again if there is none."""
         columns = sum(self.column(*it) for it in self.columns.get(time, ()))
         return of("cpg_poll", 1) + self.pass_of_poll + columns + of("due_time") + TIME + max(self.event, self.next)
 

@@ -35,7 +35,7 @@ class Mends:
     # Of the order.
 
     def goes_along(self, source: int, target: int) -> bool:
-        """Whether an edge between two processes leaves all as active as they are. It is asked where there are few conditions."""
+        """Whether an edge between two processes leaves all as active as they are. It is asked if there are few conditions."""
         deciding = [it.number for it in self.graph.deciding]
         if len(deciding) > MOST_CONDITIONS or self.graph.processes[target].join:
             return False
@@ -46,7 +46,7 @@ class Mends:
         return all(target not in active or source in active for active in sets)
 
     def edge(self, source: str, target: str) -> Mend | None:
-        """An edge between two processes of a node, or a place before it in the order that the file gives; None where it would change what is
+        """An edge between two processes of a node, or a place before it in the order that the file gives; None if it would change what is
         active, or lead around."""
         a, b = self.graph.number[source], self.graph.number[target]
         if b in self.graph.before(a):
@@ -78,7 +78,7 @@ class Mends:
         return Mend("order", f"e{a} and e{b} in each other's place in the file", self.graph.changed(top={"edge": edges}))
 
     def pairs(self, nodes: set[int]) -> Iterable[Mend]:
-        """An edge between any two processes of these nodes, or none where there are too many."""
+        """An edge between any two processes of these nodes, or none if there are too many."""
         there = {(it.source, it.target) for it in self.graph.edges}
         found = [(a.name, b.name) for a, b in itertools.permutations(self.graph.processes, 2)
                  if a.node == b.node and a.node in nodes and (a.number, b.number) not in there and (b.number, a.number) not in there]
@@ -92,7 +92,7 @@ class Mends:
     # Of checkpoints and what is frozen.
 
     def parts(self, name: str) -> list[Mend]:
-        """The parts with which an execution with all faults lasts shortest, and those below it, where they aren't those of the file."""
+        """The parts with which an execution with all faults lasts shortest, and those below it, if they aren't those of the file."""
         process = self.graph.processes[self.graph.number[name]]
         best = min(range(1, 256), key=lambda parts: duration({**process.entry, "parts": parts}, self.graph.faults))
         counts = [it for it in (best, *range(2, best)) if it != process.parts] if best != process.parts else []

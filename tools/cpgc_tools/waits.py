@@ -265,7 +265,7 @@ class Waits:
 
 
 def merged(graph: Graph, one: bytes, other: bytes, more: dict[int, tuple[int, int]]) -> tuple[dict[int, int], set[int]] | None:
-    """The least scenario of two cubes and ranges, as the faults of processes and those whose value is true, or nothing where there is none."""
+    """The least scenario of two cubes and ranges, as the faults of processes and those whose value is true, or nothing if there is none."""
     ranges = dict(more)
     for variable, low, high in itertools.chain(literals(one), literals(other)):
         before = ranges.get(variable, (low, high))

@@ -120,7 +120,7 @@ class Case:
     # Changes.
 
     def worst_with(self, change: Mend, number: int = 0) -> int | None:
-        """The latest end of the graph changed so, where it compiles."""
+        """The latest end of the graph changed so, if it compiles."""
         ran = self.cpgc.run("show", self.cpgc.file(f"mended-{number}.toml", change.graph.text()))
         return show.latest_end(ran.text) if ran.status == 0 else None
 

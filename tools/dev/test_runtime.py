@@ -15,7 +15,8 @@ It builds the node with gcc under the address and undefined-behaviour sanitizers
 
 and runs cppcheck, clang-tidy and clang, which must report nothing.
 
---arm also runs these on an emulated Cortex-M3. If gcc, or for --arm a package, is missing, a line says so and it is left out.
+--arm also runs these on an emulated Cortex-M3, and counts the instructions of their calls, which are no more than `c-table --cost` says. If gcc,
+or for --arm a package, is missing, a line says so and it is left out.
 The status is 0 if nothing differs.
 """
 from __future__ import annotations
