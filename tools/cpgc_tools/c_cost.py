@@ -76,7 +76,7 @@ def sink(place: int, size: int) -> int:
 
 
 class Execution(NamedTuple):
-    """Of an own process the start with the most turns in its execution, how many these are, and how many instructions."""
+    """Of an own process the start with the most instructions in its execution; the most turns, and these instructions, of all starts."""
 
     process: int
     start: int
@@ -203,7 +203,9 @@ class Cost:
         found = []
         for row in self.rows:
             if row.item.kind == "start" and row.columns:
-                found.append(max((self.execution(row, time, asked(cube)) for time, cube in row.columns), key=lambda it: (it.instructions, it.turns, -it.start)))
+                every = [self.execution(row, time, asked(cube)) for time, cube in row.columns]
+                most = max(every, key=lambda it: (it.instructions, -it.start))
+                found.append(most._replace(turns=max(it.turns for it in every)))
         return found
 
     def execution(self, row: Row, start: int, faults: int) -> Execution:
