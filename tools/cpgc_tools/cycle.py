@@ -11,7 +11,7 @@ For example, `cpgc compile pair.toml > pair.pack && cycle pair.toml pair.pack` w
 """
 from __future__ import annotations
 
-from cpgc_tools import cli, graph, pack
+from cpgc_tools import cli, graph, pack, safe
 from cpgc_tools.program import Program
 
 
@@ -34,7 +34,6 @@ def main() -> None:
     words.add_argument("pack", metavar="PACK")
     said = words.parse_args()
     with Program(said.program) as cpgc:
-        content, tables = cli.read(said.graph, cli.GRAPH), cli.read(said.pack, cli.PACK)
-        cpgc.asked("check", cpgc.file("graph.toml", content), cpgc.file("tables.pack", tables))
-    shown = parts(graph.parsed(said.graph, content), pack.of_file(said.pack, tables))
+        it = safe.read(cpgc, said.graph, said.pack)
+    shown = parts(it.graph, it.tables)
     cli.write_lines(f"{name} {number}" for name, number in list(shown.items())[:None if said.more else 1])

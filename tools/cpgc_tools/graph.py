@@ -16,7 +16,7 @@ import json
 import os
 import pkgutil
 import re
-from collections.abc import Iterator, Mapping, Sequence
+from collections.abc import Collection, Iterator, Mapping, Sequence
 from dataclasses import dataclass
 from typing import Any
 
@@ -240,8 +240,18 @@ class Graph:
         """The name of the node that a process runs on."""
         return self.nodes[process.node]
 
+    @functools.cached_property
+    def into(self) -> list[list[int]]:
+        """The edges that lead to each process, by their numbers."""
+        return [[it.number for it in self.edges if it.target == process.number] for process in self.processes]
+
+    @functools.cached_property
+    def out(self) -> list[list[int]]:
+        """The edges that lead from each process."""
+        return [[it.number for it in self.edges if it.source == process.number] for process in self.processes]
+
     def inputs(self, process: Process) -> list[Edge]:
-        return [it for it in self.edges if it.target == process.number]
+        return [self.edges[e] for e in self.into[process.number]]
 
     def is_message(self, edge: Edge) -> bool:
         return self.processes[edge.source].node != self.processes[edge.target].node
@@ -260,22 +270,31 @@ class Graph:
         found: set[int] = set()
         left = [process]
         while left:
-            now = left.pop()
-            for it in self.edges:
-                if it.target == now and it.source not in found:
+            for it in self.inputs(self.processes[left.pop()]):
+                if it.source not in found:
                     found.add(it.source)
                     left.append(it.source)
         return found
 
-    def active(self, true: set[int]) -> set[int]:
-        """The processes that are active where the conditions of these processes are true and all others false."""
-        found: set[int] = set()
-        for number in self.sources_first():
-            inputs = self.inputs(self.processes[number])
-            live = [it.source in found and it.when in (None, it.source in true) for it in inputs]
-            if not live or (any if self.processes[number].join else all)(live):
-                found.add(number)
-        return found
+    def activations(self, true: Collection[int]) -> tuple[list[int | None], list[tuple[int, ...]]]:
+        """Where the conditions of these processes are true and all others false: of each process by which input it is active if it is a join,
+        else -1, and None if it isn't active; and its live inputs."""
+        active: list[int | None] = [None] * len(self.processes)
+        live: list[tuple[int, ...]] = [()] * len(self.processes)
+        for p, join, inputs in self._ways:
+            found = [e for e, source, when in inputs if active[source] is not None and (when is None or when == (source in true))]
+            if not inputs or (found if join else len(found) == len(inputs)):
+                active[p], live[p] = found[0] if join and found else -1, tuple(found)
+        return active, live
+
+    @functools.cached_property
+    def _ways(self) -> list[tuple[int, bool, list[tuple[int, int, bool | None]]]]:
+        """Of each process, behind the sources of its inputs, whether it is a join, and of its inputs the number, the source and the value."""
+        return [(p, self.processes[p].join, [(it.number, it.source, it.when) for it in self.inputs(self.processes[p])]) for p in self._sorted]
+
+    def active(self, true: Collection[int]) -> set[int]:
+        """The processes that are active then."""
+        return {p for p, it in enumerate(self.activations(true)[0]) if it is not None}
 
     def outcomes(self) -> Iterator[tuple[int, int]]:
         """The outcomes of the conditions, without values of inactive processes: the processes that are active, and those whose condition is true,
@@ -296,16 +315,18 @@ class Graph:
 
     def sources_first(self) -> list[int]:
         """The processes, each behind the sources of its inputs. Raises ValueError where the edges lead around."""
-        waiting, found = [0] * len(self.processes), []
-        for edge in self.edges:
-            waiting[edge.target] += 1
+        return self._sorted
+
+    @functools.cached_property
+    def _sorted(self) -> list[int]:
+        waiting = [len(into) for into in self.into]
         found = [number for number, count in enumerate(waiting) if not count]
         for number in found:
-            for edge in self.edges:
-                if edge.source == number:
-                    waiting[edge.target] -= 1
-                    if not waiting[edge.target]:
-                        found.append(edge.target)
+            for edge in self.out[number]:
+                target = self.edges[edge].target
+                waiting[target] -= 1
+                if not waiting[target]:
+                    found.append(target)
         if len(found) < len(self.processes):
             raise ValueError("the edges lead around")
         return found
@@ -313,8 +334,8 @@ class Graph:
     def urgency_order(self) -> list[str]:
         """The names of the processes by the longest way ahead, as docs/MODEL.md says it."""
         tails = [it.duration(0) for it in self.processes]
-        for number in reversed(self.sources_first()):
-            ahead = [tails[it.target] + (self.round if self.is_message(it) else 0) for it in self.edges if it.source == number]
+        for number in reversed(self._sorted):
+            ahead = [tails[it.target] + (self.round if self.is_message(it) else 0) for it in map(self.edges.__getitem__, self.out[number])]
             tails[number] += max(ahead, default=0)
         return [it.name for it in sorted(self.processes, key=lambda it: -tails[it.number])]
 

@@ -330,6 +330,13 @@ def bytes_of(pack: Pack) -> bytes:
 # A pack beside its graph.
 
 
+def head_of(graph: Graph, version: int = 2) -> Pack:
+    """The head of a graph's packs."""
+    found = [Process(it.name, it.node, int(it.condition is not None), tuple(map(it.duration, range(graph.faults + 1))), it.release, it.deadline) for it in graph.processes]
+    processes = tuple(found if version == 2 else [it._replace(release=0, deadline=None) for it in found])
+    return Pack(version, graph.faults, graph.nodes, processes, tuple((it.source, it.target) for it in graph.edges))
+
+
 class Difference(NamedTuple):
     """What a pack's head says otherwise than a graph."""
 
@@ -342,35 +349,27 @@ class Difference(NamedTuple):
 
 def difference(graph: Graph, pack: Pack) -> Difference | None:
     """The first thing that the head of a pack says otherwise than a graph, as `cpgc` compares them, or nothing."""
-    if graph.faults != pack.faults:
-        return Difference("faults", 0, "faults", str(graph.faults), str(pack.faults))
-    if graph.nodes != pack.nodes:
-        return Difference("nodes", 0, "nodes", " ".join(graph.nodes), " ".join(pack.nodes))
-    for number, process in enumerate(graph.processes[:len(pack.processes)]):
-        for key, here, there in heads(graph, pack, number):
-            if here != there:
-                return Difference("processes", number, key, here, there)
-    if len(graph.processes) != len(pack.processes):
-        return Difference("processes", min(len(graph.processes), len(pack.processes)), "", str(len(graph.processes)), str(len(pack.processes)))
-    ends = tuple((it.source, it.target) for it in graph.edges)
-    number = next((n for n, (a, b) in enumerate(zip(ends, pack.edges)) if a != b), min(len(ends), len(pack.edges)))
-    return Difference("edges", number, "", str(len(ends)), str(len(pack.edges))) if ends != pack.edges else None
+    mine = head_of(graph, pack.version)
+    if mine.faults != pack.faults:
+        return Difference("faults", 0, "faults", str(mine.faults), str(pack.faults))
+    if mine.nodes != pack.nodes:
+        return Difference("nodes", 0, "nodes", " ".join(mine.nodes), " ".join(pack.nodes))
+    for number, (here, there) in enumerate(zip(mine.processes, pack.processes)):
+        for key, our, its in zip(Process._fields, in_words(mine, here), in_words(pack, there)):
+            if our != its:
+                return Difference("processes", number, key, our, its)
+    lists: list[tuple[str, Sequence[object], Sequence[object]]] = [("processes", mine.processes, pack.processes), ("edges", mine.edges, pack.edges)]
+    for part, ours, theirs in lists:
+        if ours != theirs:
+            number = next((n for n, (a, b) in enumerate(zip(ours, theirs)) if a != b), min(len(ours), len(theirs)))
+            return Difference(part, number, "", str(len(ours)), str(len(theirs)))
+    return None
 
 
-def heads(graph: Graph, pack: Pack, number: int) -> Iterator[tuple[str, str, str]]:
-    """What a graph and a pack say of a process, key by key."""
-    mine, its = graph.processes[number], pack.processes[number]
-    yield "name", mine.name, its.name
-    yield "node", graph.node_of(mine), pack.nodes[its.node]
-    yield "condition", str(mine.condition is not None).lower(), str(its.condition != 0).lower()
-    yield "durations", " ".join(str(mine.duration(n)) for n in range(pack.faults + 1)), " ".join(map(str, its.durations))
-    if pack.version == 2:
-        yield "release", str(mine.release), str(its.release)
-        yield "deadline", shown_deadline(mine.deadline), shown_deadline(its.deadline)
-
-
-def shown_deadline(deadline: int | None) -> str:
-    return "none" if deadline is None else str(deadline)
+def in_words(head: Pack, it: Process) -> list[str]:
+    """What a head says of a process, field by field."""
+    deadline = "none" if it.deadline is None else str(it.deadline)
+    return [it.name, head.nodes[it.node], str(it.condition != 0).lower(), " ".join(map(str, it.durations)), str(it.release), deadline]
 
 
 # As JSON.

@@ -21,7 +21,7 @@ import tempfile
 from collections.abc import Collection, Sequence
 from pathlib import Path
 
-from cpgc_tools import c_table, cli, graph, pack, play, program
+from cpgc_tools import c_table, cli, graph, play, program, safe
 from cpgc_tools.graph import Graph
 from cpgc_tools.pack import Pack
 from cpgc_tools.play import Scenario
@@ -203,18 +203,16 @@ def main() -> None:
         cli.fail(f"there is no {', '.join(missing)}", cli.NO_PROGRAM)
     if not (C / "cpg_node.c").is_file():
         cli.fail("the nodes in C aren't there: run it in a checkout of cpgc", cli.NO_PROGRAM)
-    contents = cli.read(said.graph, cli.GRAPH), cli.read(said.pack, cli.PACK), cli.read(said.scenario, cli.SCENARIO)
+    content = cli.read(said.scenario, cli.SCENARIO)
     with Program(said.program) as cpgc:
-        files = [cpgc.file(name, content) for name, content in zip(("graph.toml", "tables.pack", "scenario.toml"), contents)]
-        cpgc.asked("check", *files[:2])
-        cpgc.asked("play", *files, "--turns", "0")
-    it, tables = graph.parsed(said.graph, contents[0]), pack.of_file(said.pack, contents[1])
-    sent = {tables.name_of(row.item) for _, row in tables.acts() if row.item.kind != "start"}
-    for kind, names, known in ("frame", said.lose, sent), ("process", said.hang, set(it.number)):
+        it = safe.read(cpgc, said.graph, said.pack)
+        it.play(content)
+    sent = {it.tables.name_of(row.item) for _, row in it.tables.acts() if row.item.kind != "start"}
+    for kind, names, known in ("frame", said.lose, sent), ("process", said.hang, set(it.graph.number)):
         if unknown := [name for name in names if name not in known]:
             cli.fail(f"{said.graph}: there is no {kind} {unknown[0]}")
-    scenario = play.scenario_of_document(graph.toml_of(said.scenario, contents[2])[1])
-    if last_instant(tables) > MOST_TICKS:
-        cli.fail(f"{said.pack}: it goes on to {last_instant(tables):,}, and this tool takes {MOST_TICKS:,} ticks at most")
+    scenario = play.scenario_of_document(graph.toml_of(said.scenario, content)[1])
+    if last_instant(it.tables) > MOST_TICKS:
+        cli.fail(f"{said.pack}: it goes on to {last_instant(it.tables):,}, and this tool takes {MOST_TICKS:,} ticks at most")
     with tempfile.TemporaryDirectory(prefix="cpgc-") as place:
-        cli.write_lines(simulated(it, tables, scenario, Path(place), said.arm, lost=said.lose, hung=said.hang))
+        cli.write_lines(simulated(it.graph, it.tables, scenario, Path(place), said.arm, lost=said.lose, hung=said.hang))

@@ -11,32 +11,22 @@ one that `cpgc` finds safe for the graph: so check or play first.
 from __future__ import annotations
 
 from collections.abc import Mapping, Sequence
-from typing import NamedTuple
 
 from cpgc_tools.graph import Graph
-from cpgc_tools.pack import VALUES, Column, Pack, asked, literals
+from cpgc_tools.pack import VALUES, Column, Item, Pack, Row, asked, literals
 from cpgc_tools.play import Scenario
 
 Act = tuple[str, int]
+Sent = tuple[int, Row]  # a row, with the node that starts or sends it
 
 
-class Row(NamedTuple):
-    """The row of an act."""
-
-    kind: str
-    number: int
-    node: int  # that starts or sends it
-    columns: Sequence[Column]
-
-    @property
-    def act(self) -> Act:
-        return self.kind, self.number
-
-
-def rows_of(pack: Pack) -> list[Row]:
+def rows_of(pack: Pack) -> list[Sent]:
     """The rows of starts by process, those of messages by edge, and those of broadcasts by condition."""
-    rows = sorted(pack.acts(), key=lambda it: it[1].item.number)
-    return [Row(row.item.kind, row.item.of, node, row.columns) for node, row in rows]
+    return sorted(pack.acts(), key=lambda it: it[1].item.number)
+
+
+def act_of(item: Item) -> Act:
+    return item.kind, item.of
 
 
 def numbers_of(graph: Graph, scenario: Scenario) -> bytes:
@@ -53,13 +43,13 @@ def matches(cube: bytes, numbers: bytes) -> bool:
     return all(low <= numbers[variable] <= high for variable, low, high in literals(cube))
 
 
-def picked(graph: Graph, rows: Sequence[Row], scenario: Scenario) -> dict[Act, Column]:
+def picked(graph: Graph, rows: Sequence[Sent], scenario: Scenario) -> dict[Act, Column]:
     """The column that a scenario picks of each active act."""
     found, numbers = {}, numbers_of(graph, scenario)
-    for row in rows:
+    for _, row in rows:
         column = next((it for it in row.columns if matches(it[1], numbers)), None)
         if column:
-            found[row.act] = column
+            found[act_of(row.item)] = column
     return found
 
 
@@ -70,14 +60,14 @@ def least(graph: Graph, cube: bytes, more: Mapping[str, int]) -> Scenario:
     return Scenario({**counts, **more}, true)
 
 
-def worst(graph: Graph, rows: Sequence[Row]) -> tuple[int, Scenario, int | None]:
+def worst(graph: Graph, rows: Sequence[Sent]) -> tuple[int, Scenario, int | None]:
     """The latest end of all scenarios, a scenario that ends so, and the process that does. Of several it is the first process in the
     order of the file and its first column that ends so, with the least scenario of this column that does: the one that `cpgc check` names
     where the graph's deadline is one time unit before. Where nothing runs there is none."""
     latest, scenario, last = 0, Scenario(), None
-    for row in rows:
-        if row.kind == "start":
-            process = graph.processes[row.number]
+    for _, row in rows:
+        if row.item.kind == "start":
+            process = graph.processes[row.item.of]
             for time, cube in row.columns:
                 faults = graph.faults - asked(cube)
                 if faults < 0:
@@ -89,7 +79,7 @@ def worst(graph: Graph, rows: Sequence[Row]) -> tuple[int, Scenario, int | None]
     return latest, scenario, last
 
 
-def path(graph: Graph, rows: Sequence[Row], scenario: Scenario, last: int | None) -> list[Act]:
+def path(graph: Graph, rows: Sequence[Sent], scenario: Scenario, last: int | None) -> list[Act]:
     """What leads to the end of a process in a scenario, from there back: each act waits for the one after it in the list, which of all that
     it waits for is over last."""
     times = {act: time for act, (time, _) in picked(graph, rows, scenario).items()}

@@ -12,11 +12,10 @@ from __future__ import annotations
 
 from collections.abc import Iterator
 
-from cpgc_tools import cli, pack, play
+from cpgc_tools import cli, pack, play, safe
 from cpgc_tools.pack import VALUES, Pack
 
 FRAME, END, CLOSE = range(3)
-MOST_TIME = 2**64
 
 
 def record(kind: int, time: int, item: int = 0, number: int = 0, value: bool = False) -> bytes:
@@ -46,19 +45,18 @@ def stream(tables: Pack, node: int, acts: play.Play) -> Iterator[tuple[int, byte
             yield time, record(END, time, item.number, end.faults, end.value == "true")
 
 
+def records(tables: Pack, node: int, acts: play.Play) -> bytes:
+    """The whole stream. Raises ValueError, KeyError, IndexError or OverflowError where the play isn't one of the pack."""
+    found = sorted(stream(tables, node, acts))
+    return b"".join(it for _, it in found) + record(CLOSE, max([acts.last, *(time for time, _ in found)]))
+
+
 def main() -> None:
-    words = cli.Words(__doc__, short_help=False)
-    words.add_argument("pack", metavar="PACK", help="the pack that was played")
-    words.add_argument("node", metavar="NODE", help="the name of the node")
-    said = words.parse_args()
-    said.node = said.node or "--"  # which argparse takes out, wherever it stands
-    tables = pack.read(said.pack)
-    if said.node not in tables.nodes:
-        cli.fail(f"{said.pack}: no node is named {said.node}; its nodes are {', '.join(tables.nodes)}")
+    said = safe.words_with_node(__doc__).parse_args()
+    _, tables, node = safe.node_of(said)
     try:
         acts = play.parsed(cli.lines_of_input())
-        records = sorted(stream(tables, tables.nodes.index(said.node), acts))
-        made = b"".join(it for _, it in records) + record(CLOSE, max([acts.last, *(time for time, _ in records)]))
+        made = records(tables, node, acts)
     except (ValueError, KeyError, IndexError, OverflowError):
         cli.fail(f"no play of {said.pack} on standard input: cpgc play GRAPH PACK SCENARIO --turns 0 | stream PACK NODE")
     cli.write(made)

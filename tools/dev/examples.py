@@ -23,7 +23,7 @@ TOP = Path(__file__).resolve().parents[2]
 def missing(text: str) -> list[str]:
     """The programs that a file needs and that aren't there."""
     first = text.partition("\n")[0].split()
-    return [name for name in first[1:] if shutil.which(name) is None] if first[:1] == ["needs"] else []
+    return program.missing(first[1:]) if first[:1] == ["needs"] else []
 
 
 def commands(text: str) -> list[tuple[str, list[str]]]:

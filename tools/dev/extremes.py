@@ -9,12 +9,11 @@ import itertools
 import os
 import random
 import resource
-import subprocess
 from collections.abc import Callable, Sequence
 from typing import Any
 
 from cpgc_tools import graph, pack
-
+from dev.measuring import Timed, timed
 
 Files = dict[str, bytes]  # of a case, by what they are
 
@@ -43,27 +42,22 @@ class Design:
         self.edges.append((source, target, when, frozen))
         return len(self.edges) - 1
 
+    def document(self) -> dict[str, Any]:
+        names = [it["name"] for it in self.processes]
+        edges = [{"from": names[source], "to": names[target], **({} if when is None else {"when": when}), **({"frozen": True} if frozen else {})}
+                 for source, target, when, frozen in self.edges]
+        return {
+            "faults": self.faults, "deadline": self.deadline, "node": [{"name": node} for node in self.nodes],
+            "slot": [{"node": node, "length": 1, "bytes": 9} for node in self.nodes if len(self.nodes) > 1],
+            "process": [{**it, "node": self.nodes[it["node"]]} for it in self.processes], "edge": edges}
+
     def text(self) -> bytes:
         """The graph file."""
-        name = [it["name"] for it in self.processes]
-        lines = [f"faults = {self.faults}", f"deadline = {self.deadline}"]
-        lines += [f'[[node]]\nname = "{node}"' for node in self.nodes]
-        lines += [f'[[slot]]\nnode = "{node}"\nlength = 1\nbytes = 9' for node in self.nodes if len(self.nodes) > 1]
-        for it in self.processes:
-            lines.append(f'[[process]]\nname = "{it["name"]}"\nnode = "{self.nodes[it["node"]]}"\nwcet = {it["wcet"]}')
-            lines += [f"{key} = {str(it[key]).lower()}" for key in ("mu", "join", "frozen") if it.get(key)]
-        for source, target, when, frozen in self.edges:
-            lines.append(f'[[edge]]\nfrom = "{name[source]}"\nto = "{name[target]}"')
-            lines += [f"when = {str(when).lower()}"] * (when is not None) + ["frozen = true"] * frozen
-        return "\n".join([*lines, ""]).encode()
+        return graph.spelled(self.document()).encode()
 
     def pack(self) -> bytes:
         """The pack of its rows, by item as tools/pack names them; what a node hears is what is sent, a slot of 1 later."""
-        deciding = {source for source, _, when, _ in self.edges if when is not None}
-        processes = tuple(
-            pack.Process(it["name"], it["node"], int(p in deciding), tuple(it["wcet"] + n * (it.get("mu", 0) + it["wcet"]) for n in range(self.faults + 1)))
-            for p, it in enumerate(self.processes))
-        head = pack.Pack(1, self.faults, tuple(self.nodes), processes, tuple(edge[:2] for edge in self.edges))
+        head = pack.head_of(graph.Graph.of(self.document()), 1)
 
         def row(item: pack.Item, heard: bool) -> pack.Row:
             columns = [(time + heard, b"".join(map(bytes, cube))) for time, cube in self.rows[head.item_text(item)]]
@@ -400,9 +394,8 @@ def written(name: str, file: Callable[[str, bytes], str]) -> list[str]:
     return [command, *(file(f"extreme.{kind}", files[kind]) for kind in ORDER[command])]
 
 
-def run(program: str, name: str, file: Callable[[str, bytes], str]) -> tuple[int, bytes, float, float]:
-    """Runs a case with no more stack than it may take, and no more than four times its memory and some of its time: its status, its
-    line of an error, the seconds and the MiB that it took."""
+def run(program: str, name: str, file: Callable[[str, bytes], str]) -> Timed:
+    """Runs a case with no more stack than it may take, and no more than four times its memory and some of its time."""
     _, _, _, seconds, memory, stack = CASES[name]
 
     def begin() -> None:
@@ -410,7 +403,4 @@ def run(program: str, name: str, file: Callable[[str, bytes], str]) -> tuple[int
         resource.setrlimit(resource.RLIMIT_AS, ((4 * memory + 1024) << 20,) * 2)
         resource.setrlimit(resource.RLIMIT_CPU, (int(4 * seconds) + 20,) * 2)
 
-    child = subprocess.Popen([program, *written(name, file)], stdout=subprocess.DEVNULL, stderr=subprocess.PIPE, preexec_fn=begin)
-    line = child.stderr.read() if child.stderr else b""
-    _, status, usage = os.wait4(child.pid, 0)
-    return os.waitstatus_to_exitcode(status), line, usage.ru_utime + usage.ru_stime, usage.ru_maxrss / 1024
+    return timed([program, *written(name, file)], os.devnull, 1, begin)

@@ -19,17 +19,18 @@ from __future__ import annotations
 import atexit
 import os
 import random
-import re
 import shutil
 import subprocess
 import sys
 import tempfile
-from collections.abc import Callable
+from collections.abc import Callable, Iterator
 
 from cpgc_tools import program
+from cpgc_tools.graph import parsed
+from cpgc_tools.play import Scenario, scenario_file
 from cpgc_tools.stream import CLOSE, END, FRAME, record
 from dev import extremes
-from dev.measuring import TOP, Timed, graph, timed, words_with_program
+from dev.measuring import TOP, Timed, graph, log_of, timed, words_with_program
 
 ROOM = tempfile.mkdtemp()
 atexit.register(shutil.rmtree, ROOM, True)
@@ -38,6 +39,19 @@ atexit.register(shutil.rmtree, ROOM, True)
 def at(name: str) -> str:
     """A file of the room."""
     return os.path.join(ROOM, name)
+
+
+def written(name: str, content: str | bytes) -> str:
+    """The same with its content."""
+    with open(at(name), "wb") as it:
+        it.write(content if isinstance(content, bytes) else content.encode())
+    return at(name)
+
+
+def played_log() -> str:
+    """The log of the play that was the last output."""
+    with open(at("said")) as it:
+        return log_of(it.read())
 
 
 def apart(count: int, faults: int) -> str:
@@ -104,6 +118,14 @@ GRAPHS: dict[str, Callable[[], str]] = {
 }
 
 
+def chosen(names: list[str]) -> Iterator[tuple[str, str, str]]:
+    """The graphs of these names, or all: the name of each, its text and its file."""
+    for name, make in GRAPHS.items():
+        if not names or any(it in name for it in names):
+            text = make()
+            yield name, text, written("graph.toml", text)
+
+
 def beside(program: str, other: str, names: list[str]) -> None:
     """Both programs on the same files."""
 
@@ -115,12 +137,8 @@ def beside(program: str, other: str, names: list[str]) -> None:
         print(f"| {name} | `{command}` | {ours[1] * 1e3:.1f} ms | {theirs[1] * 1e3:.1f} ms | {ours[1] / max(theirs[1], 1e-6):.1f} | {ours[2]:.0f} MiB |", flush=True)
 
     print("| graph | command | `cpgc` | the other | ratio | memory |")
-    for name, make in GRAPHS.items():
-        if names and not any(it in name for it in names):
-            continue
-        file, own, foreign = at("graph.toml"), at("own.pack"), at("foreign.pack")
-        with open(file, "w") as it:
-            it.write(make())
+    for name, _, file in chosen(names):
+        own, foreign = at("own.pack"), at("foreign.pack")
         row(name, "show", ["show", file])
         row(name, "compile", ["compile", file])
         made = timed([program, "compile", file], own)[0] == 0 and timed([other, "compile", file], foreign)[0] == 0
@@ -133,51 +151,37 @@ def more(program: str, names: list[str]) -> None:
     """Plays and audits beside the check of their pack."""
     logs = ["none", "one", "all in one", "all spread", "half", "impossible"]
     print("| pack | `check` | `play` | " + " | ".join(f"`audit`: {log}" for log in logs) + " |")
-    for name, make in GRAPHS.items():
-        if names and not any(it in name for it in names):
-            continue
-        file, pack, text = at("graph.toml"), at("tables.pack"), make()
-        with open(file, "w") as it:
-            it.write(text)
+    for name, text, file in chosen(names):
+        pack = at("tables.pack")
         if timed([program, "compile", file], pack)[0]:
             continue
-        processes, k = re.findall(r'name = "([^"]+)", node', text), int(re.findall(r"^faults = (\d+)", text, re.M)[0])
+        processes, k = list(parsed(file, text.encode()).number), parsed(file, text.encode()).faults
         middle = len(processes) // 2
         spread = [len(processes) * (part + 1) // (k + 1) for part in range(k)]
         scenarios: dict[str, dict[int, int]] = {"none": {}, "one": {middle: min(k, 1)}, "all in one": {middle: k}, "all spread": dict.fromkeys(spread, 1)}
         runs = {"check": ["check", file, pack]}
         acts: dict[str, tuple[int, list[tuple[int, str]]]] = {}
         for log, faults in scenarios.items():
-            with open(at("scenario"), "w") as out:
-                out.write("[faults]\n" + "".join(f'"{processes[p]}" = {count}\n' for p, count in faults.items() if count))
-            play = ["play", file, pack, at("scenario"), "--turns", "0"]
+            scenario = Scenario({processes[p]: count for p, count in faults.items() if count})
+            play = ["play", file, pack, written("scenario", scenario_file(scenario, processes)), "--turns", "0"]
             if timed([program, *play], at("said"), 1)[0]:
                 continue  # a process that isn't active has no faults
-            head, *lines = log_of(at("said")).splitlines()
+            head, *lines = played_log().splitlines()
             acts[log] = int(head.split()[1]), [(int(line.split(" ", 1)[0]), line.split(" ", 1)[1]) for line in lines]
             if log == "none":
-                runs["play"] = [*play[:3], at("empty"), *play[4:]]
-                open(at("empty"), "w").close()
+                runs["play"] = [*play[:3], written("empty", ""), *play[4:]]
         until, all_acts = acts["none"]
         half = all_acts[len(all_acts) // 2][0]
         acts["half"] = half, [act for act in all_acts if act[0] <= half]
         acts["impossible"] = until + 1, [(time + 1, act) for time, act in all_acts]
         for log, (end, kept) in acts.items():
-            with open(at(log), "w") as out:
-                out.write("\n".join([f"until {end}", *(f"{time} {act}" for time, act in kept), ""]))
-            runs[log] = ["audit", file, pack, at(log)]
+            runs[log] = ["audit", file, pack, written(log, "\n".join([f"until {end}", *(f"{time} {act}" for time, act in kept), ""]))]
         least: dict[str, float] = {}
         for _ in range(9):
             for run, words in runs.items():
                 least[run] = min(least.get(run, 9e9), timed([program, *words], at("said"), 1)[1])
         shown = [f"{least[run] - least['check']:+.3f} s" if run in least else "" for run in ["play", *logs]]
         print(f"| {name} | {least['check']:.3f} s | " + " | ".join(shown) + " |", flush=True)
-
-
-def written(name: str, content: bytes) -> str:
-    with open(at(name), "wb") as it:
-        it.write(content)
-    return at(name)
 
 
 def told(what: Timed) -> str:
@@ -190,12 +194,6 @@ def columns_of(pack: str) -> int:
     count = "import sys; from cpgc_tools import pack; print(sum(len(row.columns) for rows in pack.read(sys.argv[1]).rows for row in rows))"
     # (in a process of its own: a program that this one starts is charged with what this one holds)
     return int(subprocess.run([sys.executable, "-c", count, pack], cwd=TOP / "tools", capture_output=True, check=True).stdout)
-
-
-def log_of(trace: str) -> str:
-    """All acts of a play, as a log until its last event."""
-    events = [line.split() for line in open(trace) if line[0].isdigit()]
-    return "\n".join([f"until {events[-1][0] if events else 0}", *[" ".join(it) for it in events if it[2] != "end"], ""])
 
 
 def stream_of(count: int) -> bytes:
@@ -219,14 +217,8 @@ def main() -> None:
 
 def measure(program: str, names: list[str]) -> None:
     """The rows of PERFORMANCE."""
-    empty = at("empty.toml")
-    open(empty, "w").close()
-    for name, make in GRAPHS.items():
-        if names and not any(it in name for it in names):
-            continue
-        file, pack = at("graph.toml"), at("tables.pack")
-        with open(file, "w") as it:
-            it.write(make())
+    empty, pack = written("empty.toml", ""), at("tables.pack")
+    for name, _, file in chosen(names):
         show, compiled = timed([program, "show", file], at("text")), timed([program, "compile", file], pack)
         if compiled[0]:
             print(f"| `compile` | {name} | {told(compiled)} |")
@@ -235,9 +227,7 @@ def measure(program: str, names: list[str]) -> None:
         print(f"| `compile` | the same: {columns_of(pack):,} columns, {os.path.getsize(pack) / 1e6:.1f} MB | {told(compiled)} |")
         print(f"| `check` | its pack | {told(timed([program, 'check', file, pack], at('said')))} |")
         print(f"| `play` | its pack, in the scenario without faults | {told(timed([program, 'play', file, pack, empty, '--turns', '0'], at('said')))} |")
-        with open(at("log"), "w") as out:
-            out.write(log_of(at("said")))
-        print(f"| `audit` | that play's log | {told(timed([program, 'audit', file, pack, at('log')], at('said')))} |", flush=True)
+        print(f"| `audit` | that play's log | {told(timed([program, 'audit', file, pack, written('log', played_log())], at('said')))} |", flush=True)
     pair = str(TOP / "examples" / "pair.toml")
     timed([program, "compile", pair], at("pair.pack"))
     written("stream", stream_of(1_000_000))

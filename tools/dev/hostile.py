@@ -30,11 +30,11 @@ from collections.abc import Callable, Iterable, Sequence
 from concurrent.futures import ThreadPoolExecutor
 from typing import Any
 
+from cpgc_tools.stream import CLOSE, END, FRAME, record
 from dev import extremes as extreme_cases
-from dev.measuring import TOP, words_with_program
+from dev.measuring import TOP, log_of, words_with_program
 
 EXAMPLES = str(TOP / "examples")
-HERE = str(TOP)
 LINES = {0: (b"",), 1: (b"cpgc: words\n",), 2: (b"cpgc: read fault\n",), 3: (b"cpgc: write fault\n", b""), 8: (b"cpgc: memory\n",)}
 ACTS = re.compile(rb"(\d+ (start|send) \w+\n)*")
 STARTS = {4: b"cpgc: refused ", 5: b"cpgc: late ", 6: b"cpgc: too wide ", 7: b"cpgc: unsafe "}
@@ -113,17 +113,6 @@ def damaged(bytes: bytes, step: int = 1) -> Any:
         yield f"{at} bytes", bytes[:at]
 
 
-def log_of(trace: bytes) -> bytes:
-    """All acts of a play, as a log until its last event."""
-    events = [line.split() for line in trace.decode().splitlines() if line[0].isdigit()]
-    return "\n".join([f"until {events[-1][0]}", *[" ".join(it) for it in events if it[2] != "end"], ""]).encode()
-
-
-def record(kind: int, time: int, item: int, number: int) -> bytes:
-    """A record of a stream: 0 a frame, 1 an end, 2 the close."""
-    return bytes([kind]) + time.to_bytes(8, "big") + item.to_bytes(2, "big") + number.to_bytes(2, "big") + bytes(1)
-
-
 def in_pieces(items: Sequence[Any], size: int) -> Any:
     piece = []
     for it in items:
@@ -142,7 +131,7 @@ def damage(bench: Bench, quick: bool) -> None:
         texts.append(("pack", packed, lambda it: ["check", path, it]))
         pack = bench.file("whole.pack", packed)
         played = bench.judge("play", ["play", path, pack, bench.file("zero.toml", b""), "--turns", "1"])[1]
-        texts.append(("log", log_of(played), lambda it: ["audit", path, pack, it]))
+        texts.append(("log", log_of(played.decode()).encode(), lambda it: ["audit", path, pack, it]))
         if scenario:
             texts.append(("scenario", read(scenario), lambda it: ["play", path, pack, it, "--turns", "1"]))
             texts.append(("stream", read("pair-N2.stream"), lambda it: ["live", pack, "N2", it]))
@@ -183,10 +172,10 @@ def limits(bench: Bench, quick: bool) -> None:
     log = read("pair-early.log")
     bench.judge("log of 16 MiB", ["audit", pair, pack, bench.file("log", padded_log(log, most))], wanted=(0, 4))
     bench.judge("log of 16 MiB and a byte", ["audit", pair, pack, bench.file("log", padded_log(log, most + 1))], wanted=(4,))
-    frames = record(0, 90, 2, 1) * most
-    for what, more in (("and no close", b""), ("and a byte", b"\2"), ("and a close", record(2, 105, 0, 0))):
+    frames = record(FRAME, 90, 2, 1) * most
+    for what, more in (("and no close", b""), ("and a byte", b"\2"), ("and a close", record(CLOSE, 105))):
         bench.judge(f"16,777,216 frames {what}", ["live", pack, "N2", bench.file("stream", frames + more)], wanted=(4,))
-    bench.judge("16,777,214 frames, the end of B and a close", ["live", pack, "N2", bench.file("stream", frames[28:] + record(1, 105, 1, 0) + record(2, 105, 0, 0))], wanted=(0,))
+    bench.judge("16,777,214 frames, the end of B and a close", ["live", pack, "N2", bench.file("stream", frames[28:] + record(END, 105, 1) + record(CLOSE, 105))], wanted=(0,))
     used = resource.getrusage(resource.RUSAGE_CHILDREN).ru_maxrss // 1024
     print(f"limits: slowest {bench.slowest:.2f} s, most memory of a run {used} MiB")
 
@@ -269,8 +258,8 @@ def memory(bench: Bench, quick: bool) -> None:
     commands = []
     for graph in (pair, controller):
         node = "N1"
-        log = bench.file(f"{os.path.basename(graph)}.log", log_of(bench.judge("play", ["play", graph, packs[graph], zero, "--turns", "1"])[1]))
-        commands.append(["audit", graph, packs[graph], log])
+        played = bench.judge("play", ["play", graph, packs[graph], zero, "--turns", "1"])[1]
+        commands.append(["audit", graph, packs[graph], bench.file(f"{os.path.basename(graph)}.log", log_of(played.decode()).encode())])
         commands += [["show", graph], ["compile", graph], ["check", graph, packs[graph]], ["play", graph, packs[graph], zero, "--turns", "1"], ["node", packs[graph], node]]
         commands += [["hyper", "1000000", graph], ["tune", graph]]
     commands += [["check", pair, damaged], ["node", damaged, "N1"], ["trial", "7"], ["live", packs[pair], "N2", os.path.join(EXAMPLES, "pair-N2.stream")]]
@@ -290,7 +279,7 @@ def memory(bench: Bench, quick: bool) -> None:
 
 def extremes(bench: Bench, quick: bool) -> None:
     for name, (_, command, wanted, seconds, most, _) in extreme_cases.CASES.items():
-        status, line, took, memory = extreme_cases.run(bench.program, name, bench.file)
+        status, took, memory, line = extreme_cases.run(bench.program, name, bench.file)
         fine = status == wanted and took <= seconds and memory <= most
         bench.runs, bench.faults, bench.slowest = bench.runs + 1, bench.faults + (not fine), max(bench.slowest, took)
         said = "" if fine else f", {line[:60]!r}, where {seconds} s and {most} MiB are the most"

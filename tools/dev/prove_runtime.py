@@ -9,13 +9,12 @@ or z3 is missing, a line says so, and nothing is done.
 import argparse
 import os
 import re
-import shutil
 import subprocess
 import tempfile
 import time
 from pathlib import Path
 
-from cpgc_tools import cli
+from cpgc_tools import cli, program
 
 SOURCE = Path(__file__).resolve().parents[2] / "runtime" / "c" / "cpg_node.c"
 PROGRAMS = ["frama-c", "why3", "cvc4", "z3"]
@@ -51,7 +50,7 @@ def words() -> argparse.Namespace:
 
 def main() -> int:
     asked = words()
-    missing = [program for program in PROGRAMS if shutil.which(program) is None]
+    missing = program.missing(PROGRAMS)
     if missing:
         print(f"skipped: there is no {', '.join(missing)}")
         return 0

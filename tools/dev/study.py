@@ -18,7 +18,6 @@ from __future__ import annotations
 import csv
 import itertools
 import math
-import re
 import subprocess
 import sys
 import tempfile
@@ -27,9 +26,9 @@ import time
 from collections.abc import Callable, Iterable
 from concurrent.futures import ThreadPoolExecutor
 from pathlib import Path
-from typing import Any, AnyStr
+from typing import Any
 
-from cpgc_tools import cli
+from cpgc_tools import cli, show, tuned
 from dev import study_page
 from dev.measuring import timed
 from dev.study_graphs import Drawn
@@ -66,14 +65,6 @@ def each(one: Callable[[Any], Any], whats: Iterable[Any], jobs: int) -> Any:
         pool.shutdown(cancel_futures=True)
 
 
-def found(pattern: AnyStr, text: AnyStr) -> Any:
-    """The number that stands where the pattern says."""
-    match = re.search(pattern, text, re.M)
-    if not match:
-        raise Wrong("the program writes something else than cpgc")
-    return int(match[1])
-
-
 def answer(program: str, command: str, text: str) -> Any:
     """The status, the output and the line of a run on a graph file."""
     file = folder() / "graph.toml"
@@ -87,21 +78,19 @@ def answer(program: str, command: str, text: str) -> Any:
 def shown(program: str, text: str) -> Any:
     """The latest end and the columns of a graph's tables, or `wide` and none."""
     status, out, _ = answer(program, "show", text)
-    if status == 6:
-        return "wide", ""
-    return found(rb"^worst (\d+)$", out), out.count(b"\n  ")
+    return ("wide", "") if status == 6 else (show.latest_end(out.decode()), out.count(b"\n  "))
 
 
 def under_urgency(program: str, text: str) -> Any:
     """The latest end under the urgency order, of a graph file with the deadline 0, so that it is late by just this."""
-    status, out, line = answer(program, "show", text)
-    return "wide" if status == 6 else found(r"late (\d+) by", line)
+    status, _, line = answer(program, "show", text)
+    return "wide" if status == 6 else int(line.split()[2])
 
 
-def cut_parts(cut: str, drawn: Drawn, tuned: Any, base: Any, faults: int) -> Any:
+def cut_parts(cut: str, drawn: Drawn, best: Any, base: Any, faults: int) -> Any:
     """The parts of each process, or nothing for one each: by a greatest length, as `tune` says, or by the rule of the page."""
     if cut in ("one", "tuned"):
-        return tuned if cut == "tuned" else None
+        return best if cut == "tuned" else None
     longest = math.isqrt((COSTS[0] + COSTS[1]) * base // faults) if cut == "rule" else int(cut)
     return [-(-wcet // longest) for wcet in drawn.wcet]
 
@@ -109,7 +98,7 @@ def cut_parts(cut: str, drawn: Drawn, tuned: Any, base: Any, faults: int) -> Any
 def best_parts(program: str, drawn: Drawn, faults: int) -> Any:
     """The parts that `tune` finds, which rest on nothing but the processes' own durations: so all is frozen, and it is quick."""
     _, out, _ = answer(program, "tune", drawn.text(faults, SLOT, COSTS, frozen="all"))
-    return [int(parts) for parts in re.findall(rb"^p\d+ parts (\d+)$", out, re.M)]
+    return tuned.best_parts(out.decode())
 
 
 # The graphs. Each family lists what it measures, and measures one: the fields of a line.
@@ -162,14 +151,14 @@ def draw_fault(what: Any) -> Any:
 def measure_faults(program: str, what: Any) -> Any:
     """The latest end where nothing, messages or all is frozen, by how executions are cut, and the columns with one part."""
     drawn, k = draw_fault(what), what["k"]
-    tuned, base = best_parts(program, drawn, k), shown(program, drawn.text(0, SLOT, FREE))[0]
-    line = {**what, "edges": len(drawn.edges), "messages": drawn.messages(), "base": base, "parts": sum(tuned),
+    best, base = best_parts(program, drawn, k), shown(program, drawn.text(0, SLOT, FREE))[0]
+    line = {**what, "edges": len(drawn.edges), "messages": drawn.messages(), "base": base, "parts": sum(best),
             "urgency": under_urgency(program, drawn.text(k, SLOT, COSTS, deadline=0))}
     for frozen, cut in FORMS:
         if cut == "rule" and k > RULED[what["processes"]]:
             line[f"{frozen} {cut}"] = ""
             continue
-        worst, columns = shown(program, drawn.text(k, SLOT, COSTS, frozen=frozen, parts=cut_parts(cut, drawn, tuned, base, k)))
+        worst, columns = shown(program, drawn.text(k, SLOT, COSTS, frozen=frozen, parts=cut_parts(cut, drawn, best, base, k)))
         line.update({f"{frozen} {cut}": worst, **({f"{frozen} columns": columns} if cut == "one" else {})})
     return line
 

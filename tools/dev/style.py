@@ -2,19 +2,21 @@
 
     tools/style
 
-mypy --strict and ruff read the Python of tools/ (pycodestyle and pyflakes3 where there is no ruff), by pyproject.toml; shellcheck the shell,
-node --check the page's JavaScript (eslint isn't asked: that of Debian 12 can't read it). On Debian: apt-get install mypy pycodestyle python3-pyflakes shellcheck nodejs; ruff comes by
-pip. The status is 1 where one of them says anything.
+mypy --strict and ruff read the Python of tools/ (pycodestyle and pyflakes3 where there is no ruff), by pyproject.toml; shellcheck the shell;
+node --check and eslint's recommended rules (tools/dev/eslint.json) the page's JavaScript, eslint all parts as they stand together. On Debian:
+apt-get install mypy pycodestyle python3-pyflakes shellcheck nodejs eslint; ruff comes by pip. The status is 1 where one of them says anything.
 
 For example, `tools/style`.
 """
 from __future__ import annotations
 
+import json
 import os
+import re
 import shutil
 import subprocess
 
-from cpgc_tools import cli
+from cpgc_tools import cli, page, program
 from dev.measuring import TOP
 
 SHELL = [".ci/run", "completion/cpgc.bash"]
@@ -39,6 +41,24 @@ def calls() -> list[tuple[str, list[list[str]]]]:
     ]
 
 
+def said_of_scripts() -> tuple[str, list[str]]:
+    """Whether eslint is asked about the scripts of the page, and what it says of them."""
+    if shutil.which("eslint") is None:
+        return "not asked, as it is not installed", []
+    text = "".join(re.findall(r"<script>\n(.*?)</script>", page.inlined("{}"), re.S))
+    begins = {text.count("\n", 0, text.index(page.part(path.name))): path for path in sorted((TOP / "tools/cpgc_tools/page").glob("*.js"))}
+    # where node isn't Debian's it doesn't look for eslint's modules there
+    env = {"NODE_PATH": "/usr/share/nodejs", "ESLINT_USE_FLAT_CONFIG": "false", **os.environ}
+    words = ["eslint", "--no-eslintrc", "--config", "tools/dev/eslint.json", "--format", "json", "--stdin", "--stdin-filename", "page.js"]
+    ran = program.run(words, stdin=text.encode(), cwd=TOP, env=env)
+    try:
+        found = [it for file in json.loads(ran.out) for it in file["messages"]]
+    except ValueError:
+        return f"not asked, as this one can't be: {ran.line or 'it says nothing'}", []
+    places = [max(begin for begin in begins if begin < max(it["line"], 1)) for it in found]
+    return "asked", [f"{begins[begin].relative_to(TOP)}:{it['line'] - begin}: {it['message']} ({it['ruleId']})" for begin, it in zip(places, found)]
+
+
 def main() -> int:
     cli.Words(__doc__).parse_args()
     wrong = 0
@@ -49,5 +69,8 @@ def main() -> int:
         for words in runs:
             if words[0] not in missing:
                 wrong += subprocess.run(words, cwd=TOP, check=False).returncode != 0
+    how, said = said_of_scripts()
+    cli.write_lines([f"eslint: {how}", *said])
+    wrong += said != []
     cli.write("the linters say nothing\n" if not wrong else f"{wrong} of the linters' runs say something\n")
     return int(wrong > 0)

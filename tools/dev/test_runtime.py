@@ -15,7 +15,8 @@ It builds the node with gcc under the address and undefined-behaviour sanitizers
 
 and runs cppcheck, clang-tidy and clang, which must report nothing.
 
---arm also runs these on an emulated Cortex-M3. If gcc, or for --arm a package, is missing, a line says so and it is left out.
+--arm also runs these on an emulated Cortex-M3, and counts the instructions of their calls, which are no more than `c-table --cost` says. If gcc,
+or for --arm a package, is missing, a line says so and it is left out.
 The status is 0 if nothing differs.
 """
 from __future__ import annotations
@@ -35,7 +36,7 @@ from collections.abc import Sequence
 from pathlib import Path
 from typing import Any
 
-from cpgc_tools import c_table, cli, cycle, graph, pack, play, run_nodes
+from cpgc_tools import c_cost, c_table, cli, cycle, graph, pack, play, run_nodes, stream
 from cpgc_tools.pack import Pack
 
 TOP = Path(__file__).resolve().parents[2]
@@ -369,6 +370,32 @@ def tell_size(test: Test, place: Path, tables: Pack) -> None:
               f"RAM {data + bss} bytes and the stack, {state} of them its state")
 
 
+def compare_costs(test: Test, name: str, path: Path, file: Path, scenario: Path) -> None:
+    """What the emulator counts of the calls of each node in a play is no more than what `c-table --cost` says."""
+    tables = pack.read(str(path))
+    acts = play.parsed(test.cpgc("play", file, path, scenario, "--turns", 0)[1].splitlines())
+    for node, called in enumerate(tables.nodes):
+        records = stream.records(tables, node, acts)
+        table, told, made = test.place / "cost-table.c", test.place / "cost-stream.c", test.place / "cost"
+        table.write_text("\n".join([*c_table.source(tables, node), ""]))
+        told.write_text(f"#include <stdint.h>\nextern const uint8_t cost_stream[];\nextern const uint32_t cost_records;\n"
+                        f"const uint32_t cost_records = {len(records) // 14}U;\nconst uint8_t cost_stream[] = {{ {', '.join(map(str, records))} }};\n")
+        files = [C / "cpg_node.c", C / "test/cost.c", C / "example/arm/startup.c", table, told]
+        error = test.run(*run_nodes.ARM, *WARNINGS, *c_table.size_words(tables, node), "-I", C, *files, "-o", made)[2]
+        if error:
+            test.differ("cost", error)
+            return
+        emulator = ["null" if it == "stdio" else it for it in run_nodes.EMULATOR[:-1]]
+        ran = test.run(*emulator, "-icount", "shift=9,sleep=off", "-kernel", made)
+        counted = {words[0]: int(words[1]) for words in map(str.split, (ran[1] + ran[2]).splitlines()) if len(words) == 2 and words[1].isdigit()}
+        cost = c_cost.Cost(tables, node)
+        most = {**cost.calls(), "instant": max(map(cost.instant, cost.times), default=0)}
+        test.counts["costs"] += 1
+        if set(counted) != set(most) or any(counted[it] > most[it] for it in most):
+            test.differ(f"cost of {name} {called}", counted, most)
+        print(f"Cortex-M3, node {called}: " + ", ".join(f"{it} {counted.get(it, 0):,} of at most {most[it]:,}" for it in most))
+
+
 def compare_calls(test: Test, paths: Sequence[Path], rounds: int) -> None:
     """Any calls of nodes whose packs are damaged, also after they were opened; once with large tables, once with small ones."""
     small = ["PROCESSES=4", "CONDITIONS=1", "OWN=2", "ROWS=8", "COLUMNS=24"]
@@ -432,6 +459,7 @@ def compare_examples(test: Test, arm: bool) -> None:
             compare_programs(test, *files, False)
         if arm and not missing and name != "branching":
             compare_programs(test, *files, True)
+            compare_costs(test, name, files[1], files[0], files[2])
 
 
 def summary(test: Test) -> None:

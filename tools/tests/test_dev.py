@@ -249,5 +249,29 @@ class Release(Tree):
         self.refused("the program fails a case")
 
 
+class Linters(Tree):
+    """tools/style with an eslint of the test's own. No other linter is on the path."""
+
+    copied = ("tools",)
+
+    def eslint(self, text: str) -> list[str]:
+        """What is written of eslint and of the end, where it runs this."""
+        place = self.script("bin/eslint", "")
+        place.write_text(f"#!{sys.executable}\n{text}\n")
+        done = self.run_tool(sys.executable, "tools/style", PATH=str(place.parent))
+        return [it for it in done[1].splitlines() if "installed: " not in it and "not installed, " not in it][-3:]
+
+    def test_a_place(self) -> None:
+        """A line of all scripts together is that of its file."""
+        said = ("import json, sys\nline = sys.stdin.read().split('const reword')[0].count(chr(10)) + 1\n"
+                "print(json.dumps([{'messages': [{'line': line, 'message': 'a fault', 'ruleId': 'rule'}]}]))")
+        at = (self.top / "tools/cpgc_tools/page/layout.js").read_text().split("const reword")[0].count("\n") + 1
+        self.assertEqual(self.eslint(said), ["eslint: asked", f"tools/cpgc_tools/page/layout.js:{at}: a fault (rule)", "1 of the linters' runs say something"])
+
+    def test_another_eslint(self) -> None:
+        self.assertEqual(self.eslint("import sys\nsys.exit('no such option')")[-2:],
+                         ["eslint: not asked, as this one can't be: no such option", "the linters say nothing"])
+
+
 if __name__ == "__main__":
     unittest.main()

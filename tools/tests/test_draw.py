@@ -165,7 +165,7 @@ class Compared(Case):
         said = self.cpgc("check", "copy.toml", f"{name}.pack").stderr.decode().strip()
         self.assertRegex(said, rf"^cpgc: unsafe V9 start {re.escape(last)} column \d+ in {re.escape(scenario.text(it.number))}$")
 
-    def compare_play(self, name: str, it: graph.Graph, rows: list[schedule.Row], scenario: Scenario) -> None:
+    def compare_play(self, name: str, it: graph.Graph, rows: list[schedule.Sent], scenario: Scenario) -> None:
         self.file("scenario.toml", play.scenario_file(scenario, it.number))
         self.assertEqual(play.read_scenario(str(FOLDER / "scenario.toml")), scenario)
         played = self.cpgc("play", f"{name}.toml", f"{name}.pack", "scenario.toml", "--turns", "0").stdout.decode()

@@ -22,7 +22,7 @@ import argparse
 import os
 from collections.abc import Iterator, Sequence
 
-from cpgc_tools import cli, graph, pack, play, schedule
+from cpgc_tools import cli, graph, play, safe, schedule
 from cpgc_tools.draw.plays import Plays, Shown
 from cpgc_tools.draw.shared import Options
 from cpgc_tools.draw.tables import Tables
@@ -67,20 +67,17 @@ def picture(said: argparse.Namespace) -> Iterator[str]:
     """The lines of the picture. The first thing is that `cpgc` takes the files."""
     name = os.path.basename(said.graph)
     with Program(said.program) as cpgc:
-        contents = cli.read(said.graph, cli.GRAPH), cli.read(said.pack, cli.PACK)
-        files = cpgc.file("graph.toml", contents[0]), cpgc.file("tables.pack", contents[1])
-        cpgc.asked("check", *files)
-        it, tables = graph.parsed(said.graph, contents[0]), pack.of_file(said.pack, contents[1])
+        read = safe.read(cpgc, said.graph, said.pack)
+        it, tables = read.graph, read.tables
         options = Options(nodes_of(it, said.node), said.begin, said.end, said.rows, said.width, said.due)
         plays = []
         for path in said.scenarios:
             content = cli.read(path, cli.SCENARIO)
-            acts = play.parsed(cpgc.text("play", *files, cpgc.file("scenario.toml", content), "--turns", "0").splitlines())
+            acts = read.play(content)
             plays.append(Shown.of(it, play.scenario_of_document(graph.toml_of(path, content)[1]), acts))
         if said.worst:
             _, scenario, _ = schedule.worst(it, schedule.rows_of(tables))
-            file = cpgc.file("scenario.toml", play.scenario_file(scenario, it.number))
-            plays.append(Shown.of(it, scenario, play.parsed(cpgc.text("play", *files, file, "--turns", "0").splitlines())))
+            plays.append(Shown.of(it, scenario, read.play(play.scenario_file(scenario, it.number))))
     if not plays:
         return Tables(it, tables, options).draw(name)
     return Plays(it, *dues_of(it, said.due), options).draw(name, plays)

@@ -7,8 +7,8 @@ from collections.abc import Iterator, Sequence
 from cpgc_tools import schedule
 from cpgc_tools.draw.shared import RIGHT, SLOT, Options, is_frozen, item_text, mark_entries, of_graph, slots, until, windows
 from cpgc_tools.graph import Graph, Process
-from cpgc_tools.pack import VALUES, Pack, asked, literals
-from cpgc_tools.schedule import Act, Row
+from cpgc_tools.pack import VALUES, Item, Pack, Row, asked, literals
+from cpgc_tools.schedule import Act, act_of
 from cpgc_tools.svg import INK, RULE, SOFT, STRONG, Axis, Canvas, Entry, cut_to, heading, joined, legend, shown, width_of
 
 SHADES = "#dbe7f3 #c3d7ea #a6c4df #86aed2 #6797c3 #4a7fb2 #31679d #1d5085 #0c396b".split()  # each darker than the one before
@@ -20,23 +20,23 @@ Piece = tuple[float, float, float, float]  # from a place to a place
 class Bar:
     """The columns of a row that have one time and ask for equally many faults."""
 
-    def __init__(self, graph: Graph, row: Row, time: int, faults: int, cubes: Sequence[bytes]) -> None:
+    def __init__(self, graph: Graph, node: int, item: Item, time: int, faults: int, cubes: Sequence[bytes]) -> None:
         self.time, self.faults, self.cubes = time, faults, cubes
-        if row.kind == "start":
-            process = graph.processes[row.number]
+        if item.kind == "start":
+            process = graph.processes[item.of]
             self.end, self.latest = time + process.duration(0), time + process.duration(graph.faults - faults)
         else:
-            self.end = self.latest = graph.arrival(row.node, time)
+            self.end = self.latest = graph.arrival(node, time)
 
 
-def bars(graph: Graph, row: Row) -> list[Bar]:
+def bars(graph: Graph, node: int, row: Row) -> list[Bar]:
     """The bars of a row, by time. A column that asks for more faults than there may be is for no scenario."""
     found: dict[tuple[int, int], list[bytes]] = {}
     for time, cube in row.columns:
         faults = asked(cube)
         if faults <= graph.faults:
             found.setdefault((time, faults), []).append(cube)
-    return [Bar(graph, row, time, faults, cubes) for (time, faults), cubes in sorted(found.items())]
+    return [Bar(graph, node, row.item, time, faults, cubes) for (time, faults), cubes in sorted(found.items())]
 
 
 def values_of(cubes: Sequence[bytes]) -> list[tuple[int, int, int]]:
@@ -83,18 +83,18 @@ class Tables:
         self.latest, self.scenario, self.last = schedule.worst(graph, rows)
         self.picks = schedule.picked(graph, rows, self.scenario)
         self.way = schedule.path(graph, rows, self.scenario, self.last)
-        self.rows = [(row, bars(graph, row)) for row in rows if row.node in options.nodes]
+        self.rows = [(node, row.item, bars(graph, node, row)) for node, row in rows if node in options.nodes]
         self.canvas = Canvas()
         self.notes: list[tuple[float, float, str, str]] = []  # texts beside bars: (x, y, text, anchor)
         self.slotted = self.others = False  # whether slots, and columns beside the way, are drawn
-        texts = [width_of(item_text(graph, row.kind, row.number), 10.5) for row, _ in self.rows]
+        texts = [width_of(item_text(graph, *act_of(item)), 10.5) for _, item, _ in self.rows]
         self.labels = min(max(texts, default=0), options.width // 4)
         self.names = min(max([width_of(f"{graph.nodes[n]} bus", 11.5) for n in options.nodes], default=0), options.width // 8)
 
     def draw(self, name: str) -> Iterator[str]:
         graph, options, right = self.graph, self.options, self.options.width - RIGHT
         left = max(int(self.labels + self.names) + 42, 100)
-        end = max([bar.latest for _, found in self.rows for bar in found], default=0)
+        end = max([bar.latest for *_, found in self.rows for bar in found], default=0)
         title = f"Tables of {name}"
         said = f"{of_graph(graph, graph.deadline)} The latest end of all scenarios is {self.latest}, in {self.scenario.text(graph.number)}."
         y = heading(self.canvas, title, said, options.width) - 6
@@ -113,10 +113,10 @@ class Tables:
         """The lanes of a stretch of time, from y on; answers where they end."""
         top = y
         places: dict[Act, float] = {}
-        seen = [it for it in self.rows if not it[1] or any(axis.holds(bar.time, bar.latest) for bar in it[1])]
+        seen = [it for it in self.rows if not it[2] or any(axis.holds(bar.time, bar.latest) for bar in it[2])]
         for node in sorted(self.options.nodes):
             for on_bus in (False, True):
-                group = [it for it in seen if it[0].node == node and (it[0].kind != "start") == on_bus]
+                group = [(item, found) for at, item, found in seen if at == node and (item.kind != "start") == on_bus]
                 if group:
                     y = self.draw_group(axis, node, on_bus, group, y, places)
         axis.draw(self.canvas, top, y)
@@ -124,7 +124,7 @@ class Tables:
         self.draw_scenario(axis, places, number, top, y)
         return y + 16
 
-    def draw_group(self, axis: Axis, node: int, on_bus: bool, group: Sequence[tuple[Row, list[Bar]]], y: float, places: dict[Act, float]) -> float:
+    def draw_group(self, axis: Axis, node: int, on_bus: bool, group: Sequence[tuple[Item, list[Bar]]], y: float, places: dict[Act, float]) -> float:
         """The starts of a node, or what it sends, below its name."""
         canvas, name, top = self.canvas, self.graph.nodes[node], y
         canvas.line("ground", 10, y, axis.right, y, RULE, 0.4 if on_bus else 0.8)
@@ -133,9 +133,9 @@ class Tables:
         else:
             canvas.text(12, y + 14, cut_to(name, 12, self.names), 11.5, bold=True)
         y += 3
-        for row, found in sorted(group, key=lambda it: (it[1][0].time if it[1] else 0, it[0].number)):
+        for item, found in sorted(group, key=lambda it: (it[1][0].time if it[1] else 0, it[0].of)):
             strips = Strips(found)
-            self.draw_row(axis, row, found, strips, y, places)
+            self.draw_row(axis, act_of(item), found, strips, y, places)
             y += strips.height
         if on_bus:
             self.draw_slots(axis, node, top, y + 3)
@@ -150,10 +150,10 @@ class Tables:
             self.slotted = True
             self.canvas.path("grid", "".join(way), None, fill=SLOT)
 
-    def draw_row(self, axis: Axis, row: Row, found: Sequence[Bar], strips: Strips, y: float, places: dict[Act, float]) -> None:
+    def draw_row(self, axis: Axis, item: Act, found: Sequence[Bar], strips: Strips, y: float, places: dict[Act, float]) -> None:
         """A row; notes where in it the way would pass."""
-        canvas, item, middle = self.canvas, (row.kind, row.number), y + strips.height / 2
-        size, fill = (10.5, INK) if row.kind == "start" else (9.5, SOFT)
+        canvas, middle = self.canvas, y + strips.height / 2
+        size, fill = (10.5, INK) if item[0] == "start" else (9.5, SOFT)
         canvas.text(axis.left - 14, middle + 3.5, cut_to(item_text(self.graph, *item), size, self.labels), size, fill, "end")
         for faults in strips.faults:
             self.draw_strip(axis, [bar for bar in found if bar.faults == faults], strips.at(y, faults), strips.each - 1, faults)
@@ -166,8 +166,8 @@ class Tables:
         if item in self.picks:
             places[item] = strips.at(y, asked(self.picks[item][1])) + (strips.each - 1) / 2
         self.note_times(axis, found, middle + 3)
-        if row.kind == "start":
-            self.draw_bounds(axis, self.graph.processes[row.number], y, strips.height)
+        if item[0] == "start":
+            self.draw_bounds(axis, self.graph.processes[item[1]], y, strips.height)
 
     def draw_strip(self, axis: Axis, found: Sequence[Bar], y: float, height: float, faults: int) -> None:
         """The bars of a row that ask for equally many faults, by time."""
@@ -303,7 +303,7 @@ class Tables:
         yield 20, way, "the way to the latest end, with its waits"
         if self.others:
             yield 16, lambda x, y: canvas.line("path", x, y, x + 16, y, STRONG, 1), "else in that scenario"
-        frozen = any(is_frozen(graph, row.kind, row.number) for row, _ in self.rows)
+        frozen = any(is_frozen(graph, *act_of(item)) for _, item, _ in self.rows)
         due = any(process.due < graph.deadline for process in graph.processes)
         yield from mark_entries(canvas, frozen, any(process.release for process in graph.processes), due)
         if self.slotted:

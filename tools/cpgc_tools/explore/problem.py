@@ -56,14 +56,9 @@ class Problem:
         self.source, self.target = [it.source for it in graph.edges], [it.target for it in graph.edges]
         self.when = [it.when for it in graph.edges]
         self.frozen = frozenset([it.number for it in graph.processes if it.frozen] + [-1 - it.number for it in graph.edges if it.frozen])
-        self.out: list[list[int]] = [[] for _ in graph.processes]
-        self.into: list[list[int]] = [[] for _ in graph.processes]
-        for edge in graph.edges:
-            self.out[edge.source].append(edge.number)
-            self.into[edge.target].append(edge.number)
+        self.out, self.into, self.sorted = graph.out, graph.into, graph.sources_first()
         self.conditions = [it.number for it in graph.deciding]
         self.has_value = [it.condition is not None for it in graph.processes]
-        self.sorted = graph.sources_first()
         self.before, self.behind = self._reached()
         self.tracks, self.track_count = self._tracks()
         # edges whose target is active, and waits for them, in each track in which their source is
@@ -101,18 +96,8 @@ class Problem:
     # Conditions.
 
     def activations(self, values: Mapping[int, bool]) -> tuple[list[int | None], list[tuple[int, ...]]]:
-        """Of each process by which input it is active if it is a join, else -1, and None if it isn't active; and its live inputs."""
-        active: list[int | None] = [None] * self.count
-        live: list[tuple[int, ...]] = [()] * self.count
-        for p in self.sorted:
-            found = []
-            for e in self.into[p]:
-                source, when = self.source[e], self.when[e]
-                if active[source] is not None and (when is None or when == values.get(source, False)):
-                    found.append(e)
-            if not self.into[p] or (found if self.processes[p].join else len(found) == len(self.into[p])):
-                active[p], live[p] = found[0] if self.processes[p].join and found else -1, tuple(found)
-        return active, live
+        """As those of the graph, by the values of conditions; what isn't said is false."""
+        return self.graph.activations({p for p, value in values.items() if value})
 
     def _tracks(self) -> tuple[list[Track], int]:
         """The tracks that are reckoned with, and how many there are, at most one more than MOST_SCHEDULED."""

@@ -42,20 +42,20 @@ function drawRuns() {
   nodes.forEach((_, node) => labelRuns(own[node].filter((p) => play.runs[p]), lanes[node].lines));
 }
 
-/* The names of a lane: inside a bar where one fits, else in a line above it where there is room. */
+/* The names of a lane: inside a bar where one fits, else in a line above it where there is room. From right to left, so that the line from
+   a name down to its bar passes no other name. */
 function labelRuns(lane, lines) {
-  const free = Array(lines).fill(-Infinity);
-  for (const p of lane.sort((a, b) => play.runs[a].start - play.runs[b].start)) {
+  const begins = Array(lines).fill(Infinity);
+  for (const p of lane.sort((a, b) => play.runs[b].start - play.runs[a].start)) {
     const { label, lead } = groups.get(p), it = processes[p], mark = it.frozen ? 13 : 0, left = x(play.runs[p].start);
-    const inside = fits(p), line = inside ? -1 : free.findIndex((it) => left >= it);
+    const inside = fits(p), end = left + wide(it.name, "600 11px") + 9, line = inside ? -1 : begins.findIndex((begin) => end <= begin);
     label.style.display = inside || line >= 0 ? "" : "none";
     label.setAttribute("class", inside ? "name inside" : "name outside");
     label.setAttribute("x", inside ? 4 + mark : 6);
     label.setAttribute("y", near(inside ? SIZE.run / 2 + 4 : -3 - line * LABEL));
     lead.setAttribute("d", line > 0 ? `M.5 0V${near(-2 - line * LABEL - 6)}` : "");
     reword(label, it.name);
-    if (line >= 0) free[line] = left + wide(it.name, "600 11px") + 9;
-    for (let lower = 0; lower < line; lower++) free[lower] = Math.max(free[lower], left + 4);
+    for (let lower = 0; lower <= line; lower++) begins[lower] = Math.min(begins[lower], left);
   }
 }
 
@@ -95,7 +95,7 @@ function drawFrame(frame, next) {
   it.label.setAttribute("class", inside === undefined ? "outside" : "");
   it.label.setAttribute("x", near(inside === undefined ? long + 3 : 3 + mark));
   it.label.setAttribute("y", near(h / 2 + 3.5));
-  reword(it.label, inside ?? letter(item));
+  reword(it.label, inside || letter(item));
   const what = item.kind === "send" ? `Message e${item.edge} from ${processes[item.process].name} to ${processes[edges[item.edge][1]].name}` : `Value of ${processes[item.process].name} to all nodes`;
   it.group.setAttribute("aria-label", `${what}, sent by ${nodes[item.node]} at ${frame.start}, there at ${frame.end}`);
 }

@@ -85,13 +85,13 @@ function showLatest(p) {
 function showColumn(column) {
   if (model.askedOf(column) > k) return say("This column asks for more faults than there may be");
   become(model.ofColumn(column), "The least scenario of a column");
-  at("columns").querySelector('[aria-current="true"]')?.focus();
+  focusOn(at("columns").querySelector('[aria-current="true"]'));
 }
 
 /* One element of the picture can be reached by Tab: the one that is picked, or the first. */
 function roving() {
   const shown = [...groups.values()].filter((it) => it.shown);
-  const target = shown.find((it) => it.item === picked) ?? shown[0];
+  const target = shown.find((it) => it.item === picked) || shown[0];
   for (const it of groups.values()) it.group.setAttribute("tabindex", it === target ? "0" : "-1");
 }
 
@@ -139,8 +139,8 @@ function copy(text, what) {
 }
 
 function tipFor(target, event) {
-  const tip = at("tip"), group = target.closest?.(".run, .frame");
-  const { item, shown } = (group && groups.get(Number(group.dataset.item))) ?? {};
+  const tip = at("tip"), group = around(target, ".run, .frame");
+  const { item, shown } = (group && groups.get(Number(group.dataset.item))) || {};
   tip.hidden = !shown;
   if (!shown) return;
   if (item.kind === "start") {

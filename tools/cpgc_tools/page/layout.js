@@ -11,6 +11,8 @@ const put = (parent, tag, attributes = {}, text = "") => {
   parent.append(it);
   return it;
 };
+const around = (target, what) => (target.closest ? target.closest(what) : null);
+const focusOn = (it) => { if (it) it.focus(); };
 const reword = (it, text) => { if (it.textContent !== String(text)) it.textContent = text; };
 
 let scenario = model.none(), play = null, calm = null;
@@ -30,7 +32,7 @@ const fits = (p) => needs(p) <= model.durations[p][0] * px;
 function layOut() {
   height = SIZE.top;
   lanes = nodes.map((name, node) => {
-    const lines = Math.min(own[node].filter((p) => !fits(p)).length, nodes.length > 6 || scroll.clientWidth > 1000 ? 2 : 3), runs = height + Math.max(lines * LABEL + 3, 9);
+    const lines = Math.min(own[node].filter((p) => !fits(p)).length, nodes.length > 6 ? 2 : 3), runs = height + Math.max(lines * LABEL + 3, 9);
     const past = runs + SIZE.run + 1, bus = past + SIZE.past, end = bus + (model.slotOf[node] ? SIZE.bus : 0);
     const lane = { name, lines, top: height, runs, past, bus, end };
     height = end + SIZE.gap;

@@ -245,7 +245,7 @@ function modelOf(data) {
     return [...(faults.length ? ["[faults]", ...faults] : []), ...(values.length ? ["[values]", ...values] : []), ""].join("\n").replace(/^\n$/, "");
   }
 
-  const word = (text) => (/^[A-Za-z0-9_\/.,:=+@%-]+$/.test(text) ? text : `'${text.replaceAll("'", `'\\''`)}'`);
+  const word = (text) => (/^[A-Za-z0-9_/.,:=+@%-]+$/.test(text) ? text : `'${text.replaceAll("'", `'\\''`)}'`);
   const command = `cpgc play ${word(data.files.graph)} ${word(data.files.pack)} scenario.toml --turns 0`;
 
   /* A scenario in the address of the page: faults as f=NAME:N,.. and the values that are true as v=NAME,.. */

@@ -19,9 +19,9 @@ function showControls() {
     it.title = active ? "" : "isn't active here: the value has no effect";
     reword(it.lastChild, scenario.values[c] ? "true" : "false");
   });
-  const placed = processes.map((_, p) => p).filter((p) => scenario.faults[p]), focus = document.activeElement?.dataset?.counter;
+  const placed = processes.map((_, p) => p).filter((p) => scenario.faults[p]), focus = (document.activeElement || document.body).dataset.counter;
   at("placed").innerHTML = placed.map((p) => counter(p, true)).join("") || `<span class="hint">${k ? "none placed: click an execution" : ""}</span>`;
-  if (focus?.startsWith("placed")) (at("placed").querySelector(`[data-counter="${focus}"]:not(:disabled)`) ?? at("placed").querySelector("button:not(:disabled)"))?.focus();
+  if (focus && focus.startsWith("placed")) focusOn(at("placed").querySelector(`[data-counter="${focus}"]:not(:disabled)`) || at("placed").querySelector("button:not(:disabled)"));
   at("clear").disabled = spent === 0 && !scenario.values.some(Boolean);
   reword(at("wrong"), play.wrong.length ? `These tables aren't safe, and no node would act so: ${play.wrong.slice(0, 3).join("; ")}. Ask cpgc check.` : "");
   at("wrong").hidden = play.wrong.length === 0;
@@ -59,7 +59,7 @@ function nodeCard(name, node) {
   processes.forEach((it, p) => {
     if (low[p] === 0 && high[p] === k) return;
     const range = `faults ${low[p]}..${high[p]}`;
-    if (low[p] !== high[p]) within.set(range, [...(within.get(range) ?? []), it.name]);
+    if (low[p] !== high[p]) within.set(range, [...(within.get(range) || []), it.name]);
     else if (low[p]) struck.push(`<b>${it.name} ${low[p]}</b>`);
     else without.push(it.name);
   });
@@ -170,7 +170,7 @@ function showRows() {
 
 function sortRows() {
   const by = at("sort").value, last = Number.MAX_SAFE_INTEGER;
-  const key = { file: () => 0, start: (p) => (play.runs[p] ? play.runs[p].start : last), node: (p) => processes[p].node, slack: (p) => model.slackOf(p) ?? last }[by];
+  const key = { file: () => 0, start: (p) => (play.runs[p] ? play.runs[p].start : last), node: (p) => processes[p].node, slack: (p) => (model.latest[p] ? model.slackOf(p) : last) }[by];
   const sorted = processes.map((_, p) => p).sort((a, b) => key(a) - key(b) || a - b);
   if (by !== "file" || sorted.some((p, n) => at("rows").children[n] !== rows[p].row)) at("rows").append(...sorted.map((p) => rows[p].row));
 }

@@ -10,7 +10,7 @@ at("condition-group").hidden = switches.length === 0;
 
 function listen() {
   document.addEventListener("click", (event) => {
-    const button = event.target.closest?.("button"), it = button?.dataset;
+    const button = around(event.target, "button"), it = button && button.dataset;
     if (!it) return;
     if (it.condition) changeValue(Number(it.condition));
     else if (it.more) changeFault(Number(it.more), 1);
@@ -37,8 +37,8 @@ function listen() {
   };
   at("cursor").oninput = () => hold(Number(at("cursor").value));
   at("cursor").onchange = keepAddress;
-  at("before").onclick = () => { hold(events().reverse().find((t) => t < time) ?? 0); keepAddress(); };
-  at("after").onclick = () => { hold(events().find((t) => t > time) ?? time); keepAddress(); };
+  at("before").onclick = () => { hold(events().reverse().find((t) => t < time) || 0); keepAddress(); };
+  at("after").onclick = () => { hold(events().find((t) => t > time) || time); keepAddress(); };
   const timeAt = (event) => (event.clientX - svg.getBoundingClientRect().left - PAD) / px;
   svg.addEventListener("pointermove", (event) => {
     if (!held && event.pointerType !== "touch") moveTime(timeAt(event));
