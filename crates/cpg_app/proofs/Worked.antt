@@ -13,6 +13,7 @@ use Rattle.cpg_hyper.specs.declared.part.Part.{Part}
 use Rattle.cpg_refusal.specs.declared.halt.Halt.{Halt}
 use Rattle.cpg_refusal.specs.declared.halt.Halt.TheVariants.{Memory}
 use Rattle.cpg_inputs.specs.declared.inputs.Inputs.{Inputs}
+use Rattle.cpg_inputs.specs.declared.inputs.Purpose.{Purpose}
 use Rattle.cpg_inputs.specs.Inputs.{AreInputs}
 use Rattle.cpg_inputs.specs.Says.{Value, tables_value}
 use Rattle.cpg_live.specs.Follower.{Follower}
@@ -48,13 +49,13 @@ module _ (c : Command) (vs : List Value) (r : Result Output Halt) where
   puts : {P Q : Text → Type 0} → ((text : Text) → P text → Q text) → IfOk r (λ o. Puts o P) → IfOk r (λ o. Puts o Q)
   puts f = if_ok r (λ o. put_on o f)
 
-  pub of_show : (a : Admission) → AreInputs c vs (Inputs.Show a) → IfOk r (λ o. Puts o (IsMadeOf a shown)) → IfOk r (Answers c vs)
+  pub of_show : (a : Admission) → AreInputs c vs (Inputs.Graph a Purpose.Show) → IfOk r (λ o. Puts o (IsMadeOf a shown)) → IfOk r (Answers c vs)
   of_show a (graph, e, is) ok = known (Show graph) e (puts (λ text made. (a, is, made)) ok)
 
-  pub of_compile : (a : Admission) → AreInputs c vs (Inputs.Compile a) → IfOk r (λ o. Puts o (IsMadeOf a packed)) → IfOk r (Answers c vs)
+  pub of_compile : (a : Admission) → AreInputs c vs (Inputs.Graph a Purpose.Compile) → IfOk r (λ o. Puts o (IsMadeOf a packed)) → IfOk r (Answers c vs)
   of_compile a (graph, e, is) ok = known (Compile graph) e (puts (λ text made. (a, is, made)) ok)
 
-  pub of_tune : (a : Admission) → AreInputs c vs (Inputs.Tune a) → IfOk r (λ o. Puts o (IsTuningText a.graph)) → IfOk r (Answers c vs)
+  pub of_tune : (a : Admission) → AreInputs c vs (Inputs.Graph a Purpose.Tune) → IfOk r (λ o. Puts o (IsTuningText a.graph)) → IfOk r (Answers c vs)
   of_tune a (graph, e, is) ok = known (Tune graph) e (puts (λ text made. (a, is, made)) ok)
 
   pub of_check : (a : Admission) (t : Tables) → AreInputs c vs (Inputs.Check a t) → IfOk r (λ o. Puts o (IsSafeText a t)) → IfOk r (Answers c vs)
@@ -90,10 +91,10 @@ module _ (c : Command) (vs : List Value) (r : Result Output Halt) where
       go h (inl p) = inl (f h p)
       go h (inr memory) = inr memory
 
-  pub stops_show : (a : Admission) → AreInputs c vs (Inputs.Show a) → IfErr r (IsUncompiled a) → IfErr r (OrMemory (StopsWork c vs))
+  pub stops_show : (a : Admission) → AreInputs c vs (Inputs.Graph a Purpose.Show) → IfErr r (IsUncompiled a) → IfErr r (OrMemory (StopsWork c vs))
   stops_show a (graph, e, is) err = stop_as (Show graph) e (if_err r (λ h wrong. inl (a, is, wrong)) err)
 
-  pub stops_compile : (a : Admission) → AreInputs c vs (Inputs.Compile a) → IfErr r (IsUncompiled a) → IfErr r (OrMemory (StopsWork c vs))
+  pub stops_compile : (a : Admission) → AreInputs c vs (Inputs.Graph a Purpose.Compile) → IfErr r (IsUncompiled a) → IfErr r (OrMemory (StopsWork c vs))
   stops_compile a (graph, e, is) err = stop_as (Compile graph) e (if_err r (λ h wrong. inl (a, is, wrong)) err)
 
   -- want of memory alone

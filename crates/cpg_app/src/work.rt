@@ -5,6 +5,7 @@ ghost use Rattle.cpg_core.specs.Compilation.{IsCompilation};
 ghost use Rattle.cpg_log.specs.Log.{IsLog};
 ghost use Rattle.cpg_scenario.specs.File.{IsPlayed};
 ghost use Rattle.cpg_words.specs.declared.command.Command.{Command};
+ghost use Rattle.cpg_inputs.specs.declared.inputs.Inputs.{Inputs};
 ghost use Rattle.cpg_inputs.specs.Inputs.{AreFit, AreInputs};
 ghost use Rattle.cpg_inputs.specs.Says.{Value};
 ghost use Rattle.cpg_app.specs.Causes.{first_named, IsUncompiled, OrMemory, StopsNaming, StopsVerdict, StopsWork};
@@ -22,7 +23,7 @@ use cpg_check::{Verdict, check};
 use cpg_codec::tables_are_lawful;
 use cpg_core::{Compiled, compile};
 use cpg_head::Head;
-use cpg_inputs::Inputs;
+use cpg_inputs::{Inputs, Purpose};
 use cpg_live::Follower;
 use cpg_log::Log;
 use cpg_refusal::{Halt, Refusal};
@@ -186,6 +187,19 @@ fn opened(alloc: Global, tables: Tables, name: &str, stream: Word) -> Result<Out
     }
 }
 
+/// What a command puts out by a graph alone, or why it stops.
+fn work_on_graph(alloc: Global, graph: Admitted, purpose: Purpose) -> Result<Output, Halt>
+    ensures output { (command : Command) (values : List Value) → AreInputs command values (Inputs.Graph graph purpose) → IfOk result (Answers command values) }
+    ensures halt { (command : Command) (values : List Value) → AreInputs command values (Inputs.Graph graph purpose) →
+        IfErr result (OrMemory (StopsWork command values)) }
+{
+    match purpose {
+        Purpose::Show => text_of(alloc, graph),
+        Purpose::Compile => pack_of(alloc, graph),
+        Purpose::Tune => tune_admitted(alloc, &graph),
+    }
+}
+
 /// What a command puts out by what its files say, or why it stops.
 pub fn work(alloc: Global, inputs: Inputs) -> Result<Output, Halt>
     requires { AreFit inputs }
@@ -193,9 +207,7 @@ pub fn work(alloc: Global, inputs: Inputs) -> Result<Output, Halt>
     ensures halt { (command : Command) (values : List Value) → AreInputs command values inputs → IfErr result (OrMemory (StopsWork command values)) }
 {
     match inputs {
-        Inputs::Show(graph) => text_of(alloc, graph),
-        Inputs::Compile(graph) => pack_of(alloc, graph),
-        Inputs::Tune(graph) => tune_admitted(alloc, &graph),
+        Inputs::Graph { graph, purpose } => work_on_graph(alloc, graph, purpose),
         Inputs::Check { graph, tables } => verdict_of(alloc, graph, tables),
         Inputs::Play {
             graph,

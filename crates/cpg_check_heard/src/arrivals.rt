@@ -92,7 +92,7 @@ fn add_row<'a>(
 
 impl<'a> Hearing<'a> {
     /// The columns of rows that a node hears whose frames may have come by a time, as far as they may match together with a
-    /// cube.
+    /// cube. The contract alone names `node`.
     pub(crate) fn arrivals(
         &self,
         alloc: Global,

@@ -55,7 +55,7 @@ fn left_open(
 }
 
 impl Hearing<'_> {
-    /// The rows that a node hears, those with long cubes first.
+    /// The rows that a node hears, those with long cubes first. The contract alone names `node`.
     pub(crate) fn ranks(
         &self,
         alloc: Global,

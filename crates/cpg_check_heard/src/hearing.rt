@@ -219,7 +219,8 @@ impl Hearing<'_> {
         Ok(bounds)
     }
 
-    /// The least scenario that a column matches and in which a node hasn't been told a bound by its time, if there is one.
+    /// The least scenario that a column matches and in which a node hasn't been told a bound by its time, if there is one. The
+    /// contract alone names `items`.
     fn least_untold(
         &self,
         alloc: Global,

@@ -1,10 +1,11 @@
 -- The least scenario in which an item, or the process of a literal, is inactive.
-use Rattle.std.proofs.Common.{ℕ, ◌≡◌, ◌<◌, ◌≤◌, Bool, true, false, not, ◌&&◌, ◌||◌, List, [], get_or, length, Option, refl, sym, ap, ◌∙◌, lt-ltb}
+use Rattle.std.proofs.Common.{ℕ, ◌≡◌, ◌<◌, Bool, true, false, not, ◌&&◌, ◌||◌, List, [], get_or, Option, refl, sym, ap, ◌∙◌}
+use Rattle.std.specs.Prelude.{IfOk, Result}
 use Rattle.std.proofs.Math.Bool.{and_comm}
+use Rattle.std.proofs.lemmas.Result.{IfOk-weaker}
 use Rattle.cpg_base.specs.Numbers.{same_bool}
-use Rattle.cpg_base.specs.Graph.{Graph, process_count, edge_count, item_at, message_item, broadcast_item, is_message, process_of}
-use Rattle.cpg_base.specs.Activity.{active, is_active, live, item_active}
-use Rattle.cpg_base.proofs.Items.{item_at-start, item_at-message, item_at-broadcast}
+use Rattle.cpg_base.specs.Graph.{Graph, process_count, item_at}
+use Rattle.cpg_base.specs.Activity.{active, is_active, item_active}
 use Rattle.cpg_order.specs.Guard.{outcome_at}
 use Rattle.cpg_base.specs.Scenario.{Scenario, IsScenario}
 use Rattle.cpg_base.specs.First.{IsFirst, earlier}
@@ -15,6 +16,8 @@ use Rattle.cpg_cube.specs.declared.literal.Literal.{Literal}
 use Rattle.cpg_cover.specs.Cover.{is_left}
 use Rattle.cpg_rules.specs.Admission.{IsAdmitted}
 use Rattle.cpg_violation.specs.Activity.{comes_to, value_literal}
+use Rattle.cpg_violation.specs.Sources.{is_active_by}
+use Rattle.cpg_violation.specs.declared.sources.ItemSource.{ItemSource}
 use Rattle.cpg_violation.proofs.ActiveWhere.{value_holds}
 use Rattle.cpg_violation.proofs.Columnwise.{first_either}
 use Rattle.cpg_violation.proofs.Tests.{not_both, with_true}
@@ -68,13 +71,19 @@ module _ (g : Graph) (order : List ℕ) (cube : List Literal) where
       (λ s i. ap (λ t. matches cube s && (not (source_active s) || t)) (other s) ∙ ap (λ t. matches cube s && t) (not_both (source_active s) (passed s) ∙ ap not (sym (is s i))))
       (first_either g order (matches cube) (λ s. not (source_active s)) (λ s. holds s l) a b f h)
 
--- when an item is active
-module _ (g : Graph) (s : Scenario) where
-  pub start_is : (x : ℕ) → x < process_count g → item_active g s.values (item_at g x) ≡ active g s.values x
-  start_is x l = ap (item_active g s.values) (item_at-start g x l)
+  -- an item is active as its source is
+  pub inactive_as : {E : Type 0} (x : ℕ) (source : ItemSource) → ((values : List Bool) → item_active g values (item_at g x) ≡ is_active_by g values source) → (r : Result (Option Scenario) E)
+      → IfOk r (IsFirst g order (λ s. matches cube s && not (is_active_by g s.values source))) → IfOk r (IsFirst g order (λ s. matches cube s && not (item_active g s.values (item_at g x))))
+  inactive_as x source is r =
+      let by_source = λ (s : Scenario). is_active_by g s.values source in
+      let by_item = λ (s : Scenario). item_active g s.values (item_at g x) in
+      IfOk-weaker r (IsFirst g order (λ s. matches cube s && not (by_source s))) (IsFirst g order (λ s. matches cube s && not (by_item s)))
+      (λ o. inactive_same by_source by_item o (λ s i. is s.values))
 
-  pub message_is : (e : ℕ) → e < edge_count g → is_message g e ≡ true → item_active g s.values (item_at g (message_item g e)) ≡ live g s.values e
-  message_is e l on = ap (item_active g s.values) (item_at-message g e l) ∙ ap (λ b. b && live g s.values e) on
-
-  pub broadcast_is : (x c : ℕ) → x ≡ broadcast_item g c → 2 ≤ length g.nodes → item_active g s.values (item_at g x) ≡ active g s.values (process_of g c)
-  broadcast_is x c e two = ap (item_active g s.values) (ap (item_at g) e ∙ item_at-broadcast g c) ∙ ap (λ b. b && active g s.values (process_of g c)) (lt-ltb 1 (length g.nodes) two)
+  -- an item that nothing makes active
+  pub inactive_never : {E : Type 0} (x : ℕ) → ((values : List Bool) → item_active g values (item_at g x) ≡ false) → (r : Result (Option Scenario) E)
+      → IfOk r (λ o. (urgency : List ℕ) → IsFirst g urgency (matches cube) o) → IfOk r (IsFirst g order (λ s. matches cube s && not (item_active g s.values (item_at g x))))
+  inactive_never x off r =
+      let by_item = λ (s : Scenario). item_active g s.values (item_at g x) in
+      IfOk-weaker r (λ o. (urgency : List ℕ) → IsFirst g urgency (matches cube) o) (IsFirst g order (λ s. matches cube s && not (by_item s)))
+      (λ o found. inactive_always by_item o (λ s i. off s.values) (found order))

@@ -1,13 +1,12 @@
 -- When items are active, by the source of an edge and the cube of its value; and the least scenario without a column.
-use Rattle.std.proofs.Common.{ℕ, zero, suc, ◌∷◌, All, ◌+◌, ◌<◌, ◌≤◌, ◌≡◌, Bool, true, false, not, ◌&&◌, List, [], length, map, Option, Some, None, arith, refl, sym, ap, ◌∙◌, subst, inl, inr, lt-ltb}
-use Rattle.std.specs.Prelude.{nat_lt, take, drop}
+use Rattle.std.proofs.Common.{ℕ, zero, suc, ◌∷◌, All, ◌+◌, ◌<◌, ◌≡◌, Bool, true, false, not, ◌&&◌, List, [], map, Option, Some, None, arith, refl, sym, ap, ◌∙◌, subst, inl, inr}
+use Rattle.std.specs.Prelude.{IfOk, Result, take, drop}
+use Rattle.std.proofs.lemmas.Result.{IfOk-weaker}
 use Rattle.std.specs.List.{list_any}
-use Rattle.std.proofs.lemmas.Bool.{and_left, and_right, cases_lt}
-use Rattle.cpg_base.specs.Graph.{Graph, process_count, edge_count, item_at, message_item, broadcast_item, is_message, source, edge_at, condition_of, process_of}
-use Rattle.cpg_base.specs.declared.item.Item.TheVariants.{Broadcast}
+use Rattle.std.proofs.lemmas.Bool.{and_right, cases_lt}
+use Rattle.cpg_base.specs.Graph.{Graph, process_count, edge_count, item_at, source, edge_at, condition_of}
 use Rattle.cpg_base.specs.Activity.{active, is_active, live, item_active}
 use Rattle.cpg_base.proofs.Lists.{list_any_false}
-use Rattle.cpg_base.proofs.Items.{item_at-start, item_at-message, item_at-broadcast}
 use Rattle.cpg_base.specs.Scenario.{Scenario, IsScenario}
 use Rattle.cpg_base.specs.First.{IsFirst}
 use Rattle.cpg_base.proofs.First.{first_same}
@@ -21,10 +20,11 @@ use Rattle.cpg_table.specs.Table.{NodeTable, columns_of}
 use Rattle.cpg_cube.specs.Column.{Column}
 use Rattle.cpg_table.specs.Valid.{breaks, breaks_at}
 use Rattle.cpg_table.specs.declared.rule.Rule.{Rule}
-use Rattle.cpg_check_rows.specs.Present.{is_absent}
+use Rattle.cpg_check_rows.specs.Present.{has_none, is_absent}
+use Rattle.cpg_violation.specs.Sources.{is_active_by}
+use Rattle.cpg_violation.specs.declared.sources.ItemSource.{ItemSource}
 use Rattle.cpg_violation.specs.Activity.{comes_to}
 use Rattle.cpg_violation.proofs.LiveEdges.{live_tested}
-use Rattle.cpg_violation.proofs.Tests.{with_true}
 
 turned : (a m n : Bool) → ((m && n) && a) ≡ ((a && m) && n)
 turned true true true = refl
@@ -34,40 +34,33 @@ turned false true true = refl
 turned false true false = refl
 turned false false n = refl
 
-module _ (g : Graph) (order : List ℕ) (columns : List Column) (x : ℕ) where
-  -- the item is active where a process is and a cube matches
-  pub absent_from : (p : ℕ) (cube : List Literal) → ((s : Scenario) → IsScenario g s → item_active g s.values (item_at g x) ≡ (active g s.values p && matches cube s)) → (o : Option Scenario)
-      → IsFirst g order (λ s. is_left (map (λ (c : Column). c.cube) columns) cube s && active g s.values p) o → IsFirst g order (is_absent g columns x) o
-  absent_from p cube is o f = first_same g order (λ s. is_left (map (λ (c : Column). c.cube) columns) cube s && active g s.values p) (is_absent g columns x) o
+module _ (g : Graph) (order : List ℕ) (columns : List Column) where
+  -- what is so where a process is active and a cube matches
+  pub absent_from : (b : Scenario → Bool) (p : ℕ) (cube : List Literal) → ((s : Scenario) → IsScenario g s → b s ≡ (active g s.values p && matches cube s)) → (o : Option Scenario)
+      → IsFirst g order (λ s. is_left (map (λ (c : Column). c.cube) columns) cube s && active g s.values p) o → IsFirst g order (λ s. b s && has_none columns s) o
+  absent_from b p cube is o f = first_same g order (λ s. is_left (map (λ (c : Column). c.cube) columns) cube s && active g s.values p) (λ s. b s && has_none columns s) o
       (λ s i. ap (λ n. (matches cube s && not n) && active g s.values p) (any_map (λ b. matches b s) (λ (c : Column). c.cube) columns)
       ∙ turned (active g s.values p) (matches cube s) (not (list_any (λ (d : Column). matches d.cube s) columns))
       ∙ ap (λ a. a && not (list_any (λ (d : Column). matches d.cube s) columns)) (sym (is s i))) f
 
-  -- the item is never active
-  pub absent_never : ((s : Scenario) → IsScenario g s → item_active g s.values (item_at g x) ≡ false) → IsFirst g order (is_absent g columns x) None
-  absent_never off = λ s i. and_left (item_active g s.values (item_at g x)) (not (list_any (λ (d : Column). matches d.cube s) columns)) (off s i)
+  -- an item is active as its source is
+  pub absent_as : {E : Type 0} (x : ℕ) (source : ItemSource) → ((values : List Bool) → item_active g values (item_at g x) ≡ is_active_by g values source) → (r : Result (Option Scenario) E)
+      → IfOk r (IsFirst g order (λ s. is_active_by g s.values source && has_none columns s)) → IfOk r (IsFirst g order (is_absent g columns x))
+  absent_as x source is r =
+      let by_source = λ (s : Scenario). is_active_by g s.values source && has_none columns s in
+      IfOk-weaker r (IsFirst g order by_source) (IsFirst g order (is_absent g columns x))
+      (λ o. first_same g order by_source (is_absent g columns x) o (λ s i. ap (λ a. a && has_none columns s) (sym (is s.values))))
 
-module _ (g : Graph) (s : Scenario) where
-  pub start_active : (x : ℕ) → x < process_count g → item_active g s.values (item_at g x) ≡ (active g s.values x && matches [] s)
-  start_active x l = ap (item_active g s.values) (item_at-start g x l) ∙ with_true (active g s.values x) true refl
+  -- an item that nothing makes active
+  pub absent_never : (x : ℕ) → ((values : List Bool) → item_active g values (item_at g x) ≡ false) → IsFirst g order (is_absent g columns x) None
+  absent_never x off = λ s i. ap (λ a. a && has_none columns s) (off s.values)
 
-  at_broadcast : (x c : ℕ) → x ≡ broadcast_item g c → item_at g x ≡ Broadcast c
-  at_broadcast x c e = ap (item_at g) e ∙ item_at-broadcast g c
-
-  pub broadcast_active : (x c : ℕ) → x ≡ broadcast_item g c → 2 ≤ length g.nodes → item_active g s.values (item_at g x) ≡ (active g s.values (process_of g c) && matches [] s)
-  broadcast_active x c e two = ap (item_active g s.values) (at_broadcast x c e) ∙ ap (λ b. b && active g s.values (process_of g c)) (lt-ltb 1 (length g.nodes) (omega arith)) ∙ with_true (active g s.values (process_of g c)) true refl
-
-  pub broadcast_never : (x c : ℕ) → x ≡ broadcast_item g c → nat_lt 1 (length g.nodes) ≡ false → item_active g s.values (item_at g x) ≡ false
-  broadcast_never x c e one = ap (item_active g s.values) (at_broadcast x c e) ∙ ap (λ b. b && active g s.values (process_of g c)) one
-
-  pub message_never : (e : ℕ) → e < edge_count g → is_message g e ≡ false → item_active g s.values (item_at g (message_item g e)) ≡ false
-  message_never e l off = ap (item_active g s.values) (item_at-message g e l) ∙ ap (λ b. b && live g s.values e) off
-
-  pub message_active : {order : List ℕ} {guards : Guards} → IsAdmitted g order guards → IsScenario g s → (e : ℕ) → e < edge_count g → is_message g e ≡ true → (cube : List Literal)
-      → matches cube s ≡ is_passed (test_of (condition_of g (source g e)) (edge_at g e).when) s.values
-      → item_active g s.values (item_at g (message_item g e)) ≡ (active g s.values (source g e) && matches cube s)
-  message_active {order} {guards} a i e l on cube m = ap (item_active g s.values) (item_at-message g e l) ∙ ap (λ b. b && live g s.values e) on
-      ∙ live_tested g order a.topological guards a.guards s.values i.values e l ∙ ap (λ t. active g s.values (source g e) && t) (sym m)
+-- an edge is live where its source is active and the cube of its value matches
+pub live_where : {g : Graph} {order : List ℕ} {guards : Guards} → IsAdmitted g order guards → (s : Scenario) → IsScenario g s → (e : ℕ) → e < edge_count g → (cube : List Literal)
+    → matches cube s ≡ is_passed (test_of (condition_of g (source g e)) (edge_at g e).when) s.values
+    → live g s.values e ≡ (active g s.values (source g e) && matches cube s)
+live_where {g} {order} {guards} a s i e l cube m =
+    live_tested g order a.topological guards a.guards s.values i.values e l ∙ ap (λ t. active g s.values (source g e) && t) (sym m)
 
 -- no item before, with one more
 pub present_more : (g : Graph) (tables : List NodeTable) (x : ℕ) → ((y : ℕ) (column : Option ℕ) (s : Scenario) → y < x → IsScenario g s → breaks Rule.Present g tables s y column ≡ false)

@@ -7,6 +7,10 @@ use Rattle.cpg_base.specs.Scenario.{Scenario}
 use Rattle.cpg_cube.specs.Cube.{matches}
 use Rattle.cpg_cube.specs.Column.{Column}
 
+-- whether none of the columns matches in a scenario
+abbrev pub has_none : List Column → Scenario → Bool
+has_none columns s = not (list_any (λ d. matches d.cube s) columns)
+
 -- whether an item is active in a scenario and none of the columns matches
 abbrev pub is_absent : Graph → List Column → ℕ → Scenario → Bool
-is_absent g columns x s = item_active g s.values (item_at g x) && not (list_any (λ d. matches d.cube s) columns)
+is_absent g columns x s = item_active g s.values (item_at g x) && has_none columns s

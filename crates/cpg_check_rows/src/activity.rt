@@ -3,7 +3,7 @@ ghost use Rattle.std.specs.Prelude.{◌≡◌, ◌≤◌, ◌<◌, ◌&&◌, ℕ
 ghost use Rattle.std.specs.List.{list_any};
 ghost use Rattle.cpg_base.specs.declared.limits.TheConstants.{MOST_LOAD};
 ghost use Rattle.cpg_base.specs.Activity.{active, item_active, live};
-ghost use Rattle.cpg_base.specs.Graph.{IsVariable, broadcast_item, condition_count, condition_of, edge_at, edge_count, item_at, item_count, message_item, process_count, process_of_variable, source};
+ghost use Rattle.cpg_base.specs.Graph.{IsVariable, condition_of, edge_at, edge_count, item_at, item_count, process_count, process_of_variable, source};
 ghost use Rattle.cpg_rules.specs.Guards.{is_passed, test_of};
 ghost use Rattle.cpg_base.specs.First.{IsFirst};
 ghost use Rattle.cpg_base.specs.Scenario.{Scenario, IsScenario};
@@ -16,12 +16,12 @@ ghost use Rattle.cpg_violation.specs.Heads.{IsHeadFor};
 ghost use Rattle.cpg_violation.specs.Sure.{AreSure};
 ghost use Rattle.cpg_violation.specs.Violation.{Holds, IsFirstColumn, IsFirstViolation};
 
-use cpg_base::{Item, OutOfMemory, Problem, Scenario};
+use cpg_base::{OutOfMemory, Problem, Scenario};
 use cpg_cover::earlier;
 use cpg_cube::{Cube, Entry, Literal};
 use cpg_rules::Admitted;
 use cpg_table::{Fault, Rule, Tables};
-use cpg_violation::{is_marked, least_at, value_literal};
+use cpg_violation::{ItemSource, is_marked, item_source, least_at, value_literal};
 use std::alloc::Global;
 
 /// The least scenario that a cube matches and in which a process isn't active, if there is one.
@@ -102,49 +102,6 @@ fn least_unlive(
     Ok(earlier(problem, order, idle, other))
 }
 
-/// The least scenario that a cube matches and in which an edge's message isn't active, if there is one.
-fn least_unsent(
-    alloc: Global,
-    admitted: &Admitted,
-    edge: u32,
-    cube: &Cube,
-) -> Result<Option<Scenario>, OutOfMemory>
-    requires edge { edge < edge_count admitted.now.graph }
-    requires cube { IsKnown admitted.now.graph cube.now }
-    ensures { IfOk result (IsFirst admitted.now.graph admitted.now.order (λ s. matches cube.now s
-        && not (item_active admitted.now.graph s.values (item_at admitted.now.graph (message_item admitted.now.graph edge))))) }
-{
-    let problem = admitted.problem();
-    if !problem.is_message(edge) {
-        let found = cube.least(alloc, problem)?;
-        return Ok(found);
-    }
-    let found = least_unlive(alloc, admitted, edge, cube)?;
-    Ok(found)
-}
-
-/// The least scenario that a cube matches and in which a condition's broadcast isn't active, if there is one.
-fn least_untold(
-    alloc: Global,
-    admitted: &Admitted,
-    condition: u32,
-    cube: &Cube,
-) -> Result<Option<Scenario>, OutOfMemory>
-    requires condition { condition < condition_count admitted.now.graph }
-    requires cube { IsKnown admitted.now.graph cube.now }
-    ensures { IfOk result (IsFirst admitted.now.graph admitted.now.order (λ s. matches cube.now s
-        && not (item_active admitted.now.graph s.values
-        (item_at admitted.now.graph (broadcast_item admitted.now.graph condition))))) }
-{
-    let problem = admitted.problem();
-    if problem.nodes().len() < 2 {
-        let found = cube.least(alloc, problem)?;
-        return Ok(found);
-    }
-    let found = least_idle(alloc, admitted, problem.process_of(condition), cube)?;
-    Ok(found)
-}
-
 /// The least scenario that a cube matches and in which an item isn't active, if there is one.
 fn least_inactive(
     alloc: Global,
@@ -157,12 +114,12 @@ fn least_inactive(
     ensures { IfOk result (IsFirst admitted.now.graph admitted.now.order (λ s. matches cube.now s
         && not (item_active admitted.now.graph s.values (item_at admitted.now.graph item)))) }
 {
-    let found = match admitted.problem().item(item) {
-        Item::Start(process) => least_idle(alloc, admitted, process, cube)?,
-        Item::Message(edge) => least_unsent(alloc, admitted, edge, cube)?,
-        Item::Broadcast(condition) => least_untold(alloc, admitted, condition, cube)?,
-    };
-    Ok(found)
+    let problem = admitted.problem();
+    match item_source(problem, item) {
+        ItemSource::Nothing => cube.least(alloc, problem),
+        ItemSource::Process(process) => least_idle(alloc, admitted, process, cube),
+        ItemSource::Edge(edge) => least_unlive(alloc, admitted, edge, cube),
+    }
 }
 
 /// The least scenario that a cube matches and in which the process of one of its literals isn't active, if there is one.

@@ -1,23 +1,23 @@
 //! V3: an active item has a column that matches.
-ghost use Rattle.std.specs.Prelude.{◌≡◌, ◌<◌, ◌&&◌, [], ℕ, All, IfNone, IfOk, IfSome, map};
-ghost use Rattle.cpg_base.specs.Activity.{active};
-ghost use Rattle.cpg_base.specs.Graph.{broadcast_item, condition_count, edge_count, item_count, message_item, process_count};
+ghost use Rattle.std.specs.Prelude.{◌≡◌, ◌<◌, ◌&&◌, ℕ, All, IfNone, IfOk, IfSome, map};
+ghost use Rattle.cpg_base.specs.Activity.{active, live};
+ghost use Rattle.cpg_base.specs.Graph.{edge_count, item_count, process_count};
 ghost use Rattle.cpg_base.specs.First.{IsFirst};
 ghost use Rattle.cpg_base.specs.Scenario.{Scenario};
 ghost use Rattle.cpg_cube.specs.Cube.{matches};
 ghost use Rattle.cpg_cover.specs.Cover.{is_left};
 ghost use Rattle.cpg_cube.specs.Fit.{IsKnown};
-ghost use Rattle.cpg_check_rows.specs.Present.{is_absent};
+ghost use Rattle.cpg_check_rows.specs.Present.{has_none, is_absent};
 ghost use Rattle.cpg_table.specs.declared.rule.Rule.{Rule};
 ghost use Rattle.cpg_violation.specs.Heads.{IsHeadFor};
 ghost use Rattle.cpg_violation.specs.Sure.{AreSure};
 ghost use Rattle.cpg_violation.specs.Violation.{Holds, IsFirstViolation};
 
-use cpg_base::{Item, OutOfMemory, Scenario};
+use cpg_base::{OutOfMemory, Scenario};
 use cpg_cube::{Cube, Entry, cubes_of};
 use cpg_rules::Admitted;
 use cpg_table::{Fault, Rule, Tables};
-use cpg_violation::{edge_cube, is_marked, least_at};
+use cpg_violation::{ItemSource, edge_cube, is_marked, item_source, least_at};
 use std::alloc::Global;
 
 /// The least scenario that a cube matches and no column does, and in which a process is active; if there is one.
@@ -40,8 +40,8 @@ fn least_without(
     Ok(found)
 }
 
-/// The least scenario in which a message is active and no column matches, if there is one.
-fn least_unsent(
+/// The least scenario in which an edge is live and no column matches, if there is one.
+fn least_uncarried(
     alloc: Global,
     admitted: &Admitted,
     edge: u32,
@@ -49,12 +49,9 @@ fn least_unsent(
 ) -> Result<Option<Scenario>, OutOfMemory>
     requires edge { edge < edge_count admitted.now.graph }
     requires columns { All (λ c. IsKnown admitted.now.graph c.cube) columns.now }
-    ensures { IfOk result (IsFirst admitted.now.graph admitted.now.order (is_absent admitted.now.graph columns.now (message_item admitted.now.graph edge))) }
+    ensures { IfOk result (IsFirst admitted.now.graph admitted.now.order (λ s. live admitted.now.graph s.values edge && has_none columns.now s)) }
 {
     let problem = admitted.problem();
-    if !problem.is_message(edge) {
-        return Ok(None);
-    }
     let cube = edge_cube(alloc, problem, edge)?;
     let process = problem.source(edge);
     let found = least_without(alloc, admitted, process, &cube, columns)?;
@@ -70,31 +67,10 @@ fn least_unstarted(
 ) -> Result<Option<Scenario>, OutOfMemory>
     requires process { process < process_count admitted.now.graph }
     requires columns { All (λ c. IsKnown admitted.now.graph c.cube) columns.now }
-    ensures { IfOk result (IsFirst admitted.now.graph admitted.now.order (λ s. is_left (map (λ c. c.cube) columns.now) [] s
-        && active admitted.now.graph s.values process)) }
+    ensures { IfOk result (IsFirst admitted.now.graph admitted.now.order (λ s. active admitted.now.graph s.values process && has_none columns.now s)) }
 {
     let whole = Cube::whole(alloc);
     let found = least_without(alloc, admitted, process, &whole, columns)?;
-    Ok(found)
-}
-
-/// The least scenario in which a condition's broadcast is active and no column matches, if there is one.
-fn least_untold(
-    alloc: Global,
-    admitted: &Admitted,
-    condition: u32,
-    columns: &[Entry],
-) -> Result<Option<Scenario>, OutOfMemory>
-    requires condition { condition < condition_count admitted.now.graph }
-    requires columns { All (λ c. IsKnown admitted.now.graph c.cube) columns.now }
-    ensures { IfOk result (IsFirst admitted.now.graph admitted.now.order
-        (is_absent admitted.now.graph columns.now (broadcast_item admitted.now.graph condition))) }
-{
-    let problem = admitted.problem();
-    if problem.nodes().len() < 2 {
-        return Ok(None);
-    }
-    let found = least_unstarted(alloc, admitted, problem.process_of(condition), columns)?;
     Ok(found)
 }
 
@@ -109,12 +85,11 @@ fn least_absent(
     requires columns { All (λ c. IsKnown admitted.now.graph c.cube) columns.now }
     ensures { IfOk result (IsFirst admitted.now.graph admitted.now.order (is_absent admitted.now.graph columns.now item)) }
 {
-    let found = match admitted.problem().item(item) {
-        Item::Start(process) => least_unstarted(alloc, admitted, process, columns)?,
-        Item::Message(edge) => least_unsent(alloc, admitted, edge, columns)?,
-        Item::Broadcast(condition) => least_untold(alloc, admitted, condition, columns)?,
-    };
-    Ok(found)
+    match item_source(admitted.problem(), item) {
+        ItemSource::Nothing => Ok(None),
+        ItemSource::Process(process) => least_unstarted(alloc, admitted, process, columns),
+        ItemSource::Edge(edge) => least_uncarried(alloc, admitted, edge, columns),
+    }
 }
 
 /// The first violation of V3, by item, with the least scenario in the urgency order in which it stands: the item is

@@ -22,6 +22,7 @@ impl Judge for Due {
 
     ghost suits = { λ _ _ _. ⊤ };
 
+    /// The least scenario in which what a column starts ends past its due, if there is one. The contract alone names `tables`.
     fn least(
         &self,
         alloc: Global,

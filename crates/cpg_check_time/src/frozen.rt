@@ -73,6 +73,8 @@ impl Judge for Frozen {
 
     ghost suits = { λ judge g tables. judge.times.items ≡ map (frozen_time g tables) (numbers_below (item_count g)) };
 
+    /// The least scenario that a column of an item matches, if its time isn't the frozen one of the item. The contract alone
+    /// names `tables`.
     fn least(
         &self,
         alloc: Global,

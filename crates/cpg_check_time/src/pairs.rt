@@ -26,7 +26,8 @@ pub(crate) trait Pairs {
 
     ghost clash: { Graph → List NodeTable → ℕ → Column → ℕ → Scenario → Bool };
 
-    /// The least scenario in which a column of an item clashes with one of another item, if there is one.
+    /// The least scenario in which a column of an item clashes with one of another item, if there is one. The contract alone
+    /// names `tables`.
     fn least_with(
         &self,
         alloc: Global,

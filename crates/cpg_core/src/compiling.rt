@@ -26,7 +26,7 @@ pub struct Compiled {
     pub order: Order,
 }
 
-/// An end that is past its due by so much; none is later than the greatest.
+/// An end that is past its due by so much; none is later than the greatest. The contract alone names `worst`.
 fn end_past(due: u64, excess: u64, worst: u64) -> u64
     requires { due + excess ≤ worst }
     ensures { result ≡ due + excess }

@@ -46,7 +46,8 @@ pub(crate) fn end(
     Ok(end)
 }
 
-/// The ends of a process, and where it is inactive the times from which on the node would have been ready for it.
+/// The ends of a process, and where it is inactive the times from which on the node would have been ready for it. The contract
+/// alone names `problem`.
 fn end_or(
     problem: &Problem,
     active: &Tree<bool>,

@@ -122,7 +122,7 @@ impl Forest {
         self.times
     }
 
-    /// The ends of a process, 0 where it isn't active.
+    /// The ends of a process, 0 where it isn't active. The contract alone names `problem`.
     pub(crate) fn end_there(
         &self,
         problem: &Problem,

@@ -19,7 +19,8 @@ use cpg_run::{BuildFault, Frozen};
 use cpg_tree::Tree;
 use std::alloc::Global;
 
-/// Refuses a tree of when a node is ready that has too many leaves. The ends of a process are counted when they are made.
+/// Refuses a tree of when a node is ready that has too many leaves. The ends of a process are counted when they are made. The
+/// contract alone names `problem`.
 fn few_ready(problem: &Problem, forest: &Forest, node: u32) -> Result<(), BuildFault>
     requires forest { HasTrees problem.now forest.now }
     requires node { node < length problem.now.nodes }
@@ -65,7 +66,8 @@ pub(crate) fn waiting(
     }
 }
 
-/// What a process waits for on its node: what it has heard too, or where there is nothing of that the node itself.
+/// What a process waits for on its node: what it has heard too, or where there is nothing of that the node itself. The
+/// contract alone names `problem`.
 pub(crate) fn wait_for<'a>(
     problem: &Problem,
     forest: &'a Forest,
@@ -128,7 +130,8 @@ fn set_if(frozen: &mut Frozen, item: u32, latest: Option<u64>)
     }
 }
 
-/// Sets the latest time of an item as its frozen time, if there is one, and gives the tree of that one time.
+/// Sets the latest time of an item as its frozen time, if there is one, and gives the tree of that one time. The contract
+/// alone names `problem`.
 pub(crate) fn freeze(
     problem: &Problem,
     frozen: &mut Frozen,

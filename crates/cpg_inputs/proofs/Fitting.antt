@@ -38,9 +38,7 @@ audit_fits : (a : Admission) (t : Tables) (l : Log) (graph pack log : Text) (pas
 audit_fits a t l graph pack log past now reads = let last = reads.2.2 in log_fits a.graph last.0.given l last.1.says
 
 pub inputs_fit : (c : Command) (past now : List Fetch) (inputs : Inputs) → HasInputs c past now inputs → AreFit inputs
-inputs_fit c past now (Inputs.Show a) has = tt
-inputs_fit c past now (Inputs.Compile a) has = tt
-inputs_fit c past now (Inputs.Tune a) has = tt
+inputs_fit c past now (Inputs.Graph a purpose) has = tt
 inputs_fit c past now (Inputs.Check a t) has = tt
 inputs_fit c past now (Inputs.Play a t p turns) has = go has.values has.reads has.are
   where

@@ -10,16 +10,21 @@ use Rattle.cpg_scenario.specs.File.{IsPlayed}
 use Rattle.cpg_log.specs.Log.{IsLog}
 use Rattle.cpg_refusal.specs.declared.halt.Halt.{Halt}
 use Rattle.cpg_inputs.specs.declared.inputs.Inputs.{Inputs}
+use Rattle.cpg_inputs.specs.declared.inputs.Purpose.{Purpose}
 use Rattle.cpg_inputs.specs.Files.{files_of}
 use Rattle.cpg_inputs.specs.Says.{Value, graph_value, tables_value, played_value, log_value}
 use Rattle.cpg_inputs.specs.Reading.{Reads, StopsReading}
 use Rattle.cpg_inputs.specs.Shapes.{HavePeriods, part_values}
 
+-- the command that reads a graph alone, by what it makes of it
+abbrev pub command_with : Purpose → Text → Command
+command_with Purpose.Show graph = Show graph
+command_with Purpose.Compile graph = Compile graph
+command_with Purpose.Tune graph = Tune graph
+
 -- inputs are those of a command whose files say the values
 abbrev pub AreInputs : Command → List Value → Inputs → Type 0
-AreInputs command values (Inputs.Show a) = (graph : Text) × (command ≡ Show graph) × (values ≡ graph_value a ∷ [])
-AreInputs command values (Inputs.Compile a) = (graph : Text) × (command ≡ Compile graph) × (values ≡ graph_value a ∷ [])
-AreInputs command values (Inputs.Tune a) = (graph : Text) × (command ≡ Tune graph) × (values ≡ graph_value a ∷ [])
+AreInputs command values (Inputs.Graph a purpose) = (graph : Text) × (command ≡ command_with purpose graph) × (values ≡ graph_value a ∷ [])
 AreInputs command values (Inputs.Check a t) = (graph : Text) × (pack : Text) × (command ≡ Check graph pack) × (values ≡ graph_value a ∷ tables_value t ∷ [])
 AreInputs command values (Inputs.Play a t p turns) = (graph : Text) × (pack : Text) × (scenario : Text) ×
     (command ≡ Play graph pack scenario turns) × (values ≡ graph_value a ∷ tables_value t ∷ played_value p ∷ [])

@@ -7,15 +7,27 @@ use cpg_scenario::Played;
 use cpg_table::Tables;
 use cpg_words::Word;
 
+/// What a command makes of a graph if it reads nothing else.
+#[derive(Clone, Copy, Debug, PartialEq, Eq)]
+pub enum Purpose {
+    /// The text of its tables.
+    Show,
+    /// The pack of its tables.
+    Compile,
+    /// Its tuning.
+    Tune,
+}
+
 /// What a command asks for, with what its files say in place of their names.
 #[derive(Drop)]
 pub enum Inputs {
-    /// The text of the tables of a graph.
-    Show(Admitted),
-    /// The pack of the tables of a graph.
-    Compile(Admitted),
-    /// The tuning of a graph.
-    Tune(Admitted),
+    /// What is made of a graph alone.
+    Graph {
+        /// The graph.
+        graph: Admitted,
+        /// What is made of it.
+        purpose: Purpose,
+    },
     /// The check of tables for a graph.
     Check {
         /// The graph.

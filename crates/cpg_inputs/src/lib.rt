@@ -12,7 +12,7 @@ mod kind;
 mod parts;
 mod reading;
 
-pub use inputs::Inputs;
+pub use inputs::{Inputs, Purpose};
 pub use kind::{Kind, limits_are_these};
 pub use parts::Parts;
 pub use reading::read_inputs;

@@ -2,17 +2,17 @@
 ghost use Rattle.std.specs.Prelude.{◌≡◌, ◌<◌, ◌≤◌, ◌∷◌, ◌++◌, [], All, IfErr, IfOk, None, OnOk, length, map};
 ghost use Rattle.cpg_io.specs.Shelf.{KeepsShelf, SameLeave};
 ghost use Rattle.cpg_words.specs.FileWords.{file_words};
-ghost use Rattle.cpg_words.specs.declared.command.Command.TheVariants.{Audit, Check, Compile, Hyper, Live, Node, Play, Show, Tune};
+ghost use Rattle.cpg_words.specs.declared.command.Command.TheVariants.{Audit, Check, Hyper, Live, Node, Play};
 ghost use Rattle.cpg_refusal.specs.declared.halt.Halt.TheVariants.{Memory};
 ghost use Rattle.cpg_inputs.specs.declared.kind.Kind.TheVariants.{GraphFile, PackFile};
 ghost use Rattle.cpg_inputs.specs.Files.{file, part_files};
-ghost use Rattle.cpg_inputs.specs.Inputs.{ReadsInputs};
+ghost use Rattle.cpg_inputs.specs.Inputs.{ReadsInputs, command_with};
 ghost use Rattle.cpg_inputs.specs.Reading.{Reads, StopsReading};
 ghost use Rattle.cpg_inputs.specs.Says.{graph_value, tables_value};
 ghost use Rattle.cpg_inputs.specs.Shapes.{part_values, HavePeriods};
 
 use crate::files::{read_acts, read_graph, read_part, read_played, read_tables};
-use crate::inputs::Inputs;
+use crate::inputs::{Inputs, Purpose};
 use crate::parts::Parts;
 use cpg_base::Problem;
 use cpg_hyper::Part;
@@ -52,37 +52,20 @@ fn read_judged<S: Shelf>(
     Ok(Judged { graph, tables })
 }
 
-/// What `show` reads.
-fn show_inputs<S: Shelf>(alloc: Global, shelf: &mut S, graph: &str) -> Result<Inputs, Halt>
+/// What a command reads that has a graph alone.
+fn graph_inputs<S: Shelf>(
+    alloc: Global,
+    shelf: &mut S,
+    graph: &str,
+    purpose: Purpose,
+) -> Result<Inputs, Halt>
     requires { S.may_fetch shelf.old graph.now }
     ensures keeps { KeepsShelf (S.state shelf.old) (S.state shelf.new) }
     ensures leave { SameLeave (S.may_fetch shelf.old) (S.may_fetch shelf.new) }
-    ensures inputs { ReadsInputs (Show graph.now) (S.state shelf.old) (S.state shelf.new) result }
+    ensures inputs { ReadsInputs (command_with purpose graph.now) (S.state shelf.old) (S.state shelf.new) result }
 {
-    let admitted = read_graph(alloc, shelf, graph)?;
-    Ok(Inputs::Show(admitted))
-}
-
-/// What `compile` reads.
-fn compile_inputs<S: Shelf>(alloc: Global, shelf: &mut S, graph: &str) -> Result<Inputs, Halt>
-    requires { S.may_fetch shelf.old graph.now }
-    ensures keeps { KeepsShelf (S.state shelf.old) (S.state shelf.new) }
-    ensures leave { SameLeave (S.may_fetch shelf.old) (S.may_fetch shelf.new) }
-    ensures inputs { ReadsInputs (Compile graph.now) (S.state shelf.old) (S.state shelf.new) result }
-{
-    let admitted = read_graph(alloc, shelf, graph)?;
-    Ok(Inputs::Compile(admitted))
-}
-
-/// What `tune` reads.
-fn tune_inputs<S: Shelf>(alloc: Global, shelf: &mut S, graph: &str) -> Result<Inputs, Halt>
-    requires { S.may_fetch shelf.old graph.now }
-    ensures keeps { KeepsShelf (S.state shelf.old) (S.state shelf.new) }
-    ensures leave { SameLeave (S.may_fetch shelf.old) (S.may_fetch shelf.new) }
-    ensures inputs { ReadsInputs (Tune graph.now) (S.state shelf.old) (S.state shelf.new) result }
-{
-    let admitted = read_graph(alloc, shelf, graph)?;
-    Ok(Inputs::Tune(admitted))
+    let graph = read_graph(alloc, shelf, graph)?;
+    Ok(Inputs::Graph { graph, purpose })
 }
 
 /// What `check` reads.
@@ -236,9 +219,11 @@ pub fn read_inputs<S: Shelf>(alloc: Global, shelf: &mut S, command: Command) -> 
     ensures inputs { ReadsInputs command (S.state shelf.old) (S.state shelf.new) result }
 {
     match command {
-        Command::Show { graph } => show_inputs(alloc, shelf, graph.as_str()),
-        Command::Compile { graph } => compile_inputs(alloc, shelf, graph.as_str()),
-        Command::Tune { graph } => tune_inputs(alloc, shelf, graph.as_str()),
+        Command::Show { graph } => { graph_inputs(alloc, shelf, graph.as_str(), Purpose::Show) }
+        Command::Compile { graph } => {
+            graph_inputs(alloc, shelf, graph.as_str(), Purpose::Compile)
+        }
+        Command::Tune { graph } => { graph_inputs(alloc, shelf, graph.as_str(), Purpose::Tune) }
         Command::Check { graph, pack } => {
             check_inputs(alloc, shelf, graph.as_str(), pack.as_str())
         }

@@ -6,11 +6,15 @@ use Rattle.cpg_base.specs.declared.item.Item.{Item}
 use Rattle.cpg_base.specs.declared.item.Item.TheVariants.{Start, Message, Broadcast, Start as StartItem}
 use Rattle.cpg_label.specs.Labels.{Labels, process_name, condition_name, edge_ends}
 
+-- the item with this number, if there are so many processes and edges
+abbrev pub item_among : ℕ → ℕ → ℕ → Item
+item_among processes edges x = if nat_lt x processes then Start x else
+    if nat_lt x (processes + edges) then Message (x - processes)
+    else Broadcast (x - processes - edges)
+
 -- the item with this number, if only the labels of the graph are known
 abbrev pub item_of : Labels → ℕ → Item
-item_of labels x = if nat_lt x (length labels.processes) then Start x else
-    if nat_lt x (length labels.processes + length labels.edges) then Message (x - length labels.processes)
-    else Broadcast (x - length labels.processes - length labels.edges)
+item_of labels x = item_among (length labels.processes) (length labels.edges) x
 
 -- an edge, with its number and the names of its ends
 abbrev pub edge_text : Labels → ℕ → List ℕ

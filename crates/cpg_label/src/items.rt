@@ -3,13 +3,28 @@ ghost use Rattle.std.specs.Prelude.{◌≡◌, ◌<◌, ◌++◌, OnErr, OnOk, c
 ghost use Rattle.cpg_base.specs.Graph.{condition_count, item_at, item_count};
 ghost use Rattle.cpg_base.specs.Called.{name_of, node_name};
 ghost use Rattle.cpg_label.specs.Front.{IsFrontOf};
-ghost use Rattle.cpg_label.specs.ItemText.{act_text, edge_text, hear_text, done_text};
+ghost use Rattle.cpg_label.specs.ItemText.{act_text, edge_text, hear_text, done_text, item_among};
 ghost use Rattle.cpg_label.specs.Labels.{condition_name, labels_of, process_name};
 
 use crate::labels::Labels;
 use crate::text::{write_both, write_number};
 use cpg_base::{Item, Problem};
 use std::alloc::AllocError;
+
+/// The item with this number, if there are so many processes and edges.
+pub fn item_among(processes: usize, edges: usize, number: u32) -> Item
+    ensures { result ≡ item_among processes edges number }
+{
+    let place = number as usize;
+    if place < processes {
+        return Item::Start(number);
+    }
+    let edge = place - processes;
+    if edge < edges {
+        return Item::Message(edge as u32);
+    }
+    Item::Broadcast((edge - edges) as u32)
+}
 
 /// The ends of an edge.
 fn write_ends(out: &mut String, from: &str, to: &str) -> Result<(), AllocError>

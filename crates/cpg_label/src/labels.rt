@@ -5,6 +5,7 @@ ghost use Rattle.cpg_label.specs.ItemText.{item_of};
 ghost use Rattle.cpg_label.specs.Labels.{condition_name, edge_ends, head_labels, labels_of, process_name};
 ghost use Rattle.cpg_label.specs.Phrases.{IsPhraseOf};
 
+use crate::items::item_among;
 use crate::phrases::{Counts, Phrase, phrases_of};
 use cpg_base::{Edge, Item, OutOfMemory, Problem, Process};
 use cpg_cube::Literal;
@@ -215,15 +216,6 @@ impl<'a> Labels<'a> {
     pub fn item(&self, number: u32) -> Item
         ensures { result ≡ item_of self.now number }
     {
-        let messages = self.processes.len();
-        let place = number as usize;
-        if place < messages {
-            return Item::Start(number);
-        }
-        let edge = place - messages;
-        if edge < self.edges.len() {
-            return Item::Message(edge as u32);
-        }
-        Item::Broadcast((edge - self.edges.len()) as u32)
+        item_among(self.processes.len(), self.edges.len(), number)
     }
 }

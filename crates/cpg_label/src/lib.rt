@@ -9,6 +9,6 @@ mod phrases;
 mod text;
 
 pub use columns::write_value;
-pub use items::{name_of, node_name, write_act, write_heard, write_item};
+pub use items::{item_among, name_of, node_name, write_act, write_heard, write_item};
 pub use labels::Labels;
 pub use line::{Line, turned};

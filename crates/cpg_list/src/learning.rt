@@ -92,7 +92,7 @@ fn narrow_by_values(
     Ok(())
 }
 
-/// Narrows a cube by the values that decide a process.
+/// Narrows a cube by the values that decide a process. The contract alone names `process`.
 pub(crate) fn narrow_by_decided(
     alloc: Global,
     problem: &Problem,

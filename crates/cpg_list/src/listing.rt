@@ -46,7 +46,7 @@ fn tables(
     Ok(tables)
 }
 
-/// The tables with what is greatest over all runs.
+/// The tables with what is greatest over all runs. The contract alone names `order`.
 fn measured(
     alloc: Global,
     admitted: &Admitted,

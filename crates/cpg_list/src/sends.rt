@@ -225,7 +225,8 @@ fn send_in(
     Ok(entry)
 }
 
-/// The entries of an item that a process sends, for the scenarios that are the least of what is carried there.
+/// The entries of an item that a process sends, for the scenarios that are the least of what is carried there. The contract
+/// alone names `rows`.
 pub(crate) fn send_entries(
     alloc: Global,
     listed: &Listed<'_>,

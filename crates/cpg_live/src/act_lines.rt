@@ -10,6 +10,7 @@ use crate::following::StreamFault;
 use crate::{Bad, Why};
 use cpg_base::Item;
 use cpg_head::Head;
+use cpg_label::item_among;
 use cpg_node::Act;
 
 /// No line is longer, in bytes.
@@ -83,17 +84,7 @@ fn condition_name(head: &Head, condition: u32) -> &str
 fn item_of(head: &Head, number: u32) -> Item
     ensures { result ≡ item_of (head_labels head.now) number }
 {
-    let messages = head.processes().len();
-    let place = number as usize;
-    if place < messages {
-        return Item::Start(number);
-    }
-    let edge = place - messages;
-    let edges = head.edges().len();
-    if edge < edges {
-        return Item::Message(edge as u32);
-    }
-    Item::Broadcast((edge - edges) as u32)
+    item_among(head.processes().len(), head.edges().len(), number)
 }
 
 /// Appends what a node did with an item.

@@ -4,7 +4,7 @@ ghost use Rattle.cpg_node.specs.Dispatcher.{own_of};
 ghost use Rattle.cpg_node.specs.State.{running_of, time_of};
 ghost use Rattle.cpg_live.specs.Stream.{may_tell, may_end, may_end_now};
 
-use cpg_node::{Ended, Node};
+use cpg_node::{Ended, Node, own_of};
 
 /// A fault count of a record, where it isn't above what there may be.
 pub fn count_within(number: u16, most: u8) -> Option<u8>
@@ -22,25 +22,23 @@ pub fn count_within(number: u16, most: u8) -> Option<u8>
 fn has_condition(node: &Node, process: u32) -> bool
     ensures { result ≡ is_some (own_of node.now.dispatcher.table process).condition }
 {
-    for own in node.table().own() {
-        if own.process == process {
-            return own.condition.is_some();
-        }
+    match own_of(node.table(), process) {
+        Some(own) => own.condition.is_some(),
+        None => false,
     }
-    false
 }
 
 /// How long an execution of a process of the node takes with so many faults.
 fn time_of(node: &Node, process: u32, faults: u8) -> u64
     ensures { result ≡ time_of node.now.dispatcher process faults }
 {
-    for own in node.table().own() {
-        if own.process == process {
+    match own_of(node.table(), process) {
+        Some(own) => {
             let times = own.times.times();
-            return times.get(faults as usize).copied().unwrap_or(0);
+            times.get(faults as usize).copied().unwrap_or(0)
         }
+        None => 0,
     }
-    0
 }
 
 /// Whether an end has no more faults than there may be, and a value only of a condition.

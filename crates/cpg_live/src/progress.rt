@@ -80,7 +80,7 @@ impl Progress {
         if time > last { None } else { Some(time) }
     }
 
-    /// Takes the turn of the next instant.
+    /// Takes the turn of the next instant. The contract alone names `time`.
     fn take_turn(&mut self, time: u64)
         requires { next self.old.dispatcher ≡ Some time }
         ensures turn { self.new ≡ take_turn time self.old }

@@ -58,7 +58,7 @@ pub fn act_texts(alloc: Global, problem: &Problem) -> Result<Vec<String>, OutOfM
     Ok(texts)
 }
 
-/// The text of an item.
+/// The text of an item. The contract alone names `problem`.
 fn text_of<'a>(problem: &Problem, texts: &'a [String], item: u32) -> &'a [u8]
     requires texts { map string_bytes texts.now ≡ map (act_text problem.now) (numbers_below (item_count problem.now)) }
     requires item { item < item_count problem.now }

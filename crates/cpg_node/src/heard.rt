@@ -7,6 +7,7 @@ ghost use Rattle.cpg_base.specs.Numbers.{numbers_below};
 ghost use Rattle.cpg_node.specs.Dispatcher.{know, cut, cut_all, has_heard, own_of, hear_end, hear_frame, is_contradicted, no_column, whole_range, variable_count};
 ghost use Rattle.cpg_node.specs.State.{arrives};
 
+use crate::own::own_of;
 use crate::range::Range;
 use crate::{Ended, Frame};
 use cpg_base::{FIRST_VALUE, MOST_CONDITIONS, OutOfMemory, top};
@@ -94,12 +95,8 @@ pub fn have_heard(heard: &[Range], literals: &[Literal]) -> bool
 fn condition_of(table: &NodeTable, process: u32) -> Option<u32>
     ensures { result ≡ (own_of table.now process).condition }
 {
-    for own in table.own() {
-        if own.process == process {
-            return own.condition;
-        }
-    }
-    None
+    let own = own_of(table, process)?;
+    own.condition
 }
 
 /// Where the range of a condition's value stands.

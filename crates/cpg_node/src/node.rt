@@ -157,7 +157,8 @@ impl Node {
         }
     }
 
-    /// Notes an execution that ended at a time, maybe early. What it tells is kept until its planned end.
+    /// Notes an execution that ended at a time, maybe early. What it tells is kept until its planned end. The contract alone
+    /// names `time`.
     pub fn finished(&mut self, time: u64, ended: Ended)
         requires { MayFinish self.old.dispatcher time ended }
         ensures { self.new ≡ record self.old { dispatcher = finished self.old.dispatcher ended } }

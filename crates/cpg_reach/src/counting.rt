@@ -158,7 +158,7 @@ impl Counter {
         })
     }
 
-    /// How many ways a set of variables has; `most` where there are more.
+    /// How many ways a set of variables has; `most` where there are more. The contract alone names `order`.
     pub fn views(
         &mut self,
         admitted: &Admitted,

@@ -39,7 +39,7 @@ fn empty_sets(alloc: Global, count: usize) -> Result<Vec<Variables>, OutOfMemory
     Ok(sets)
 }
 
-/// Finds the reach of the start of a process.
+/// Finds the reach of the start of a process. The contract alone names `order`.
 fn settle_start(
     problem: &Problem,
     order: &Order,
@@ -92,7 +92,7 @@ fn settle(item: usize, node: u32, reach: Variables, walk: &mut Walk)
     walk.reaches[item] = reach;
 }
 
-/// Finds the reach of the broadcast of a process's condition, if it has one.
+/// Finds the reach of the broadcast of a process's condition, if it has one. The contract alone names `order`.
 fn settle_broadcast(problem: &Problem, order: &Order, process: u32, walk: &mut Walk)
     requires order { IsTopological problem.now order.now }
     requires process { process < process_count problem.now }
@@ -112,7 +112,7 @@ fn settle_broadcast(problem: &Problem, order: &Order, process: u32, walk: &mut W
     settle(item, problem.node_of(process), reach, walk);
 }
 
-/// Finds the reach of the message of an edge, if the edge comes from the process.
+/// Finds the reach of the message of an edge, if the edge comes from the process. The contract alone names `order`.
 fn settle_message(
     problem: &Problem,
     order: &Order,

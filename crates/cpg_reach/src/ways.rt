@@ -8,7 +8,7 @@ const MOST_COUNTS: usize = 129;
 /// At each number of counts the ways to add up to at most a number.
 pub type WaysTable = [u64; MOST_COUNTS];
 
-/// From the ways to add up to at most a number, those to add up to at most one more.
+/// From the ways to add up to at most a number, those to add up to at most one more. The contract alone names `faults`.
 fn raise(table: &mut [u64], faults: u8)
     requires few { faults < 8 }
     requires ways { AreWays faults table.old }

@@ -73,7 +73,8 @@ fn scenario_of(
     Ok(scenario)
 }
 
-/// The least scenario in which two inputs of a process are live, where it is a join and there is one.
+/// The least scenario in which two inputs of a process are live, where it is a join and there is one. The contract alone names
+/// `order`.
 fn least_of(
     alloc: Global,
     problem: &Problem,

@@ -16,7 +16,7 @@ ghost use Rattle.cpg_places.specs.Trees.{AreRowTrees};
 ghost use Rattle.cpg_sure.specs.Turns.{AreTurns};
 
 use crate::course::sends;
-use crate::turns::Turns;
+use crate::turns::{Turns, processes_on};
 use cpg_base::{OutOfMemory, Problem};
 use cpg_bus::is_slot_start;
 use cpg_cube::Entry;
@@ -69,13 +69,10 @@ fn push_sent(problem: &Problem, process: u32, items: &mut Vec<u32>) -> Result<()
 /// What a node sends, by the urgency order of the senders.
 fn sent_by(alloc: Global, admitted: &Admitted, node: u32) -> Result<Vec<u32>, OutOfMemory> {
     let problem = admitted.problem();
-    let order = admitted.order();
+    let processes = processes_on(alloc, admitted, node)?;
     let mut items = Vec::new(alloc);
-    for place in 0..order.len() as u32 {
-        let process = order.at(place);
-        if problem.node_of(process) == node {
-            push_sent(problem, process, &mut items)?;
-        }
+    for process in processes {
+        push_sent(problem, process, &mut items)?;
     }
     Ok(items)
 }

@@ -160,7 +160,11 @@ impl<'a> Turns<'a> {
 }
 
 /// The processes of a node, in urgency order.
-fn processes_on(alloc: Global, admitted: &Admitted, node: u32) -> Result<Vec<u32>, OutOfMemory> {
+pub(crate) fn processes_on(
+    alloc: Global,
+    admitted: &Admitted,
+    node: u32,
+) -> Result<Vec<u32>, OutOfMemory> {
     let problem = admitted.problem();
     let order = admitted.order();
     let mut processes = Vec::new(alloc);

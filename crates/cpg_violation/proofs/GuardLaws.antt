@@ -4,8 +4,8 @@ use Rattle.std.specs.Bool.{OnTrue}
 use Rattle.std.specs.Prelude.{unwrap_or}
 use Rattle.std.proofs.lemmas.Bool.{both_ways}
 use Rattle.cpg_base.specs.Numbers.{same_bool}
-use Rattle.cpg_base.specs.Graph.{Graph, condition_of, process_count}
-use Rattle.cpg_base.specs.Activity.{active, is_active, takes, value_of}
+use Rattle.cpg_base.specs.Graph.{Graph, condition_of, item_at, process_count}
+use Rattle.cpg_base.specs.Activity.{active, is_active, item_active, takes, value_of}
 use Rattle.cpg_order.specs.Guard.{Guard, Test, outcome_at}
 use Rattle.cpg_base.specs.Scenario.{Scenario, IsScenario}
 use Rattle.cpg_rules.specs.Guards.{Guards, tree_of}
@@ -15,6 +15,8 @@ use Rattle.cpg_tree.specs.declared.space.Space.{Space}
 use Rattle.cpg_tree.specs.Space.{Lies}
 use Rattle.cpg_tree.proofs.Passes.{of_true}
 use Rattle.cpg_violation.specs.Activity.{comes_to, value_literal}
+use Rattle.cpg_violation.specs.Sources.{is_active_by}
+use Rattle.cpg_violation.specs.declared.sources.ItemSource.{ItemSource}
 use Rattle.cpg_violation.proofs.ActiveWhere.{value_holds}
 
 -- a test comes to nothing wanted where the sides that are open do
@@ -82,16 +84,19 @@ module _ (g : Graph) (s : Scenario) (p c : ℕ) (when : Option Bool) (value : Bo
   pub refused_of : holds s (value_literal c (not value)) ≡ true → takes when (value_of g s.values p) ≡ false
   refused_of h = taken_as ∙ other value (get_or s.values c false) (sym (value_holds s c (not value)) ∙ h)
 
--- a message is active where it is sent, its source is active and its value is there
-pub idle_source : (m a t : Bool) → a ≡ false → (m && (a && t)) ≡ false
-idle_source true false t e = refl
-idle_source false false t e = refl
-idle_source m true t e = absurd (both_ways true e refl)
+-- an edge is live if its source is active and has the value
+pub idle_source : (a t : Bool) → a ≡ false → (a && t) ≡ false
+idle_source true t e = absurd (both_ways true e refl)
+idle_source false t e = refl
 
-pub other_value : (m a t : Bool) → t ≡ false → (m && (a && t)) ≡ false
-other_value true true t e = e
-other_value true false t e = refl
-other_value false a t e = refl
+pub other_value : (a t : Bool) → t ≡ false → (a && t) ≡ false
+other_value true t e = e
+other_value false t e = refl
 
-pub all_three : (m a t : Bool) → m ≡ true → a ≡ true → t ≡ true → (m && (a && t)) ≡ true
-all_three m a t e f h = rw (e, f, h) refl
+pub both_there : (a t : Bool) → a ≡ true → t ≡ true → (a && t) ≡ true
+both_there a t e f = rw (e, f) refl
+
+-- an item is active as its source is
+pub as_source : (g : Graph) (x : ℕ) (found source : ItemSource) → ((values : List Bool) → item_active g values (item_at g x) ≡ is_active_by g values found) → found ≡ source
+    → (values : List Bool) → item_active g values (item_at g x) ≡ is_active_by g values source
+as_source g x found source active is values = active values ∙ ap (is_active_by g values) is

@@ -12,3 +12,4 @@ pub mod Sieves
 pub mod Parts
 pub mod Lines
 pub mod Always
+pub mod Sources

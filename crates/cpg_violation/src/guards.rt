@@ -3,18 +3,18 @@
 ghost use Rattle.std.specs.Prelude.{◌≡◌, ◌≤◌, ◌<◌, ℕ, IfOk, false, true};
 ghost use Rattle.std.specs.Bool.{OnTrue};
 ghost use Rattle.cpg_base.specs.declared.limits.TheConstants.{MOST_CONDITIONS};
-ghost use Rattle.cpg_base.specs.Activity.{active, item_active, takes, value_of};
-ghost use Rattle.cpg_base.specs.Graph.{condition_count, edge_at, edge_count, item_at, item_count, process_count, source};
+ghost use Rattle.cpg_base.specs.Activity.{active, item_active, live, takes, value_of};
+ghost use Rattle.cpg_base.specs.Graph.{edge_at, edge_count, item_at, item_count, process_count, source};
 ghost use Rattle.cpg_base.specs.Limits.{IsWithinLimits};
-ghost use Rattle.cpg_base.specs.declared.item.Item.{Item};
 ghost use Rattle.cpg_base.specs.Scenario.{Scenario, IsScenario};
 ghost use Rattle.cpg_rules.specs.Trees.{TestsBelow};
 ghost use Rattle.cpg_tree.specs.Space.{Lies};
 ghost use Rattle.cpg_violation.specs.Activity.{comes_to};
 ghost use Rattle.cpg_violation.specs.Always.{AreAlways};
 
+use crate::sources::{ItemSource, item_source};
 use crate::value_literal;
-use cpg_base::{Edge, Item, OutOfMemory, Problem};
+use cpg_base::{Edge, OutOfMemory, Problem};
 use cpg_rules::{Admitted, GuardTop, GuardTree};
 use cpg_tree::Space;
 use std::alloc::Global;
@@ -116,62 +116,28 @@ fn is_taken(problem: &Problem, edge: u32, space: &Space) -> bool
     space.tells(&value_literal(condition, value))
 }
 
-/// Whether an edge's message is active in no scenario of a space.
-fn is_message_idle(admitted: &Admitted, edge: u32, space: &Space) -> bool
+/// Whether an edge is live in no scenario of a space.
+fn is_edge_idle(admitted: &Admitted, edge: u32, space: &Space) -> bool
     requires { edge < edge_count admitted.now.graph }
-    ensures { OnTrue result ((s : Scenario) → IsScenario admitted.now.graph s → Lies space.now s →
-        item_active admitted.now.graph s.values (Item.Message edge) ≡ false) }
+    ensures { OnTrue result ((s : Scenario) → IsScenario admitted.now.graph s → Lies space.now s → live admitted.now.graph s.values edge ≡ false) }
 {
     let problem = admitted.problem();
-    if !problem.is_message(edge) {
-        return true;
-    }
     if is_refused(problem, edge, space) {
         return true;
     }
     is_idle(admitted, problem.source(edge), space)
 }
 
-/// Whether an edge's message is active in each scenario of a space.
-fn is_message_running(admitted: &Admitted, edge: u32, space: &Space) -> bool
+/// Whether an edge is live in each scenario of a space.
+fn is_edge_running(admitted: &Admitted, edge: u32, space: &Space) -> bool
     requires { edge < edge_count admitted.now.graph }
-    ensures { OnTrue result ((s : Scenario) → IsScenario admitted.now.graph s → Lies space.now s →
-        item_active admitted.now.graph s.values (Item.Message edge) ≡ true) }
+    ensures { OnTrue result ((s : Scenario) → IsScenario admitted.now.graph s → Lies space.now s → live admitted.now.graph s.values edge ≡ true) }
 {
     let problem = admitted.problem();
-    if !problem.is_message(edge) {
-        return false;
-    }
     if !is_taken(problem, edge, space) {
         return false;
     }
     is_running(admitted, problem.source(edge), space)
-}
-
-/// Whether a condition's broadcast is active in no scenario of a space.
-fn is_broadcast_idle(admitted: &Admitted, condition: u32, space: &Space) -> bool
-    requires { condition < condition_count admitted.now.graph }
-    ensures { OnTrue result ((s : Scenario) → IsScenario admitted.now.graph s → Lies space.now s →
-        item_active admitted.now.graph s.values (Item.Broadcast condition) ≡ false) }
-{
-    let problem = admitted.problem();
-    if problem.nodes().len() < 2 {
-        return true;
-    }
-    is_idle(admitted, problem.process_of(condition), space)
-}
-
-/// Whether a condition's broadcast is active in each scenario of a space.
-fn is_broadcast_running(admitted: &Admitted, condition: u32, space: &Space) -> bool
-    requires { condition < condition_count admitted.now.graph }
-    ensures { OnTrue result ((s : Scenario) → IsScenario admitted.now.graph s → Lies space.now s →
-        item_active admitted.now.graph s.values (Item.Broadcast condition) ≡ true) }
-{
-    let problem = admitted.problem();
-    if problem.nodes().len() < 2 {
-        return false;
-    }
-    is_running(admitted, problem.process_of(condition), space)
 }
 
 /// Whether an item is active in no scenario of a space. A no tells nothing.
@@ -180,10 +146,10 @@ pub fn is_item_idle(admitted: &Admitted, item: u32, space: &Space) -> bool
     ensures { OnTrue result ((s : Scenario) → IsScenario admitted.now.graph s → Lies space.now s →
         item_active admitted.now.graph s.values (item_at admitted.now.graph item) ≡ false) }
 {
-    match admitted.problem().item(item) {
-        Item::Start(process) => is_idle(admitted, process, space),
-        Item::Message(edge) => is_message_idle(admitted, edge, space),
-        Item::Broadcast(condition) => is_broadcast_idle(admitted, condition, space),
+    match item_source(admitted.problem(), item) {
+        ItemSource::Nothing => true,
+        ItemSource::Process(process) => is_idle(admitted, process, space),
+        ItemSource::Edge(edge) => is_edge_idle(admitted, edge, space),
     }
 }
 
@@ -193,9 +159,9 @@ pub fn is_item_running(admitted: &Admitted, item: u32, space: &Space) -> bool
     ensures { OnTrue result ((s : Scenario) → IsScenario admitted.now.graph s → Lies space.now s →
         item_active admitted.now.graph s.values (item_at admitted.now.graph item) ≡ true) }
 {
-    match admitted.problem().item(item) {
-        Item::Start(process) => is_running(admitted, process, space),
-        Item::Message(edge) => is_message_running(admitted, edge, space),
-        Item::Broadcast(condition) => is_broadcast_running(admitted, condition, space),
+    match item_source(admitted.problem(), item) {
+        ItemSource::Nothing => false,
+        ItemSource::Process(process) => is_running(admitted, process, space),
+        ItemSource::Edge(edge) => is_edge_running(admitted, edge, space),
     }
 }

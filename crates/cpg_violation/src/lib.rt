@@ -14,6 +14,7 @@ mod meeting;
 mod quick_due;
 mod quick_frozen;
 mod sieve;
+mod sources;
 
 pub use activity::{least_at, value_literal};
 pub use edges::edge_cube;
@@ -25,3 +26,4 @@ pub use meeting::met;
 pub use quick_due::due_marks;
 pub use quick_frozen::frozen_marks;
 pub use sieve::Sieve;
+pub use sources::{ItemSource, item_source};

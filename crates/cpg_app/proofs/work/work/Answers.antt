@@ -1,25 +1,13 @@
 use Rattle.std.proofs.Common.{subst}
 use Rattle.cpg_inputs.specs.Inputs.{AreInputs}
-use Rattle.cpg_app.proofs.Worked.{of_audit, of_check, of_compile, of_hyper, of_live, of_node, of_play, of_show, of_trial, of_tune, stops_audit, stops_check, stops_compile, stops_hyper, stops_live, stops_memory, stops_node, stops_play, stops_show}
+use Rattle.cpg_app.proofs.Worked.{of_audit, of_check, of_hyper, of_live, of_node, of_play, of_trial, stops_audit, stops_check, stops_hyper, stops_live, stops_memory, stops_node, stops_play}
 use Rattle.cpg_app.proofs.work.work.Goals as goal
 
-pub returns-in-Show-clause-output : goal.returns-in-Show-clause-output
-returns-in-Show-clause-output c command values are = of_show command values c.text_of.result c.in-Show.graph (subst (AreInputs command values) c.in-Show.is are) c.text_of.ensures.text
+pub returns-in-Graph-clause-output : goal.returns-in-Graph-clause-output
+returns-in-Graph-clause-output c command values are = c.work_on_graph.ensures.output command values (subst (AreInputs command values) c.in-Graph.is are)
 
-pub returns-in-Show-clause-halt : goal.returns-in-Show-clause-halt
-returns-in-Show-clause-halt c command values are = stops_show command values c.text_of.result c.in-Show.graph (subst (AreInputs command values) c.in-Show.is are) c.text_of.ensures.halt
-
-pub returns-in-Compile-clause-output : goal.returns-in-Compile-clause-output
-returns-in-Compile-clause-output c command values are = of_compile command values c.pack_of.result c.in-Compile.graph (subst (AreInputs command values) c.in-Compile.is are) c.pack_of.ensures.pack
-
-pub returns-in-Compile-clause-halt : goal.returns-in-Compile-clause-halt
-returns-in-Compile-clause-halt c command values are = stops_compile command values c.pack_of.result c.in-Compile.graph (subst (AreInputs command values) c.in-Compile.is are) c.pack_of.ensures.halt
-
-pub returns-in-Tune-clause-output : goal.returns-in-Tune-clause-output
-returns-in-Tune-clause-output c command values are = of_tune command values c.tune_admitted.result c.in-Tune.graph (subst (AreInputs command values) c.in-Tune.is are) c.tune_admitted.ensures.text
-
-pub returns-in-Tune-clause-halt : goal.returns-in-Tune-clause-halt
-returns-in-Tune-clause-halt c command values are = stops_memory command values c.tune_admitted.result c.tune_admitted.ensures.halt
+pub returns-in-Graph-clause-halt : goal.returns-in-Graph-clause-halt
+returns-in-Graph-clause-halt c command values are = c.work_on_graph.ensures.halt command values (subst (AreInputs command values) c.in-Graph.is are)
 
 pub returns-in-Check-clause-output : goal.returns-in-Check-clause-output
 returns-in-Check-clause-output c command values are = of_check command values c.verdict_of.result c.in-Check.graph c.in-Check.tables (subst (AreInputs command values) c.in-Check.is are) c.verdict_of.ensures.text

@@ -1,15 +1,15 @@
 use Rattle.std.proofs.lemmas.Bool.{OnTrue_at}
 use Rattle.cpg_base.specs.Activity.{active, takes, value_of}
-use Rattle.cpg_base.specs.Graph.{edge_at, is_message, source}
+use Rattle.cpg_base.specs.Graph.{edge_at, source}
 use Rattle.cpg_tree.proofs.Passes.{of_true}
 use Rattle.cpg_violation.proofs.GuardLaws.{idle_source, other_value}
-use Rattle.cpg_violation.proofs.guards.is_message_idle.Goals as goal
+use Rattle.cpg_violation.proofs.guards.is_edge_idle.Goals as goal
 
 pub returns-then-is_refused : goal.returns-then-is_refused
 returns-then-is_refused c s law lies =
     let g = c.args.admitted.now.graph in
     let e = c.args.edge in
-    other_value (is_message g e) (active g s.values (source g e)) (takes (edge_at g e).when (value_of g s.values (source g e)))
+    other_value (active g s.values (source g e)) (takes (edge_at g e).when (value_of g s.values (source g e)))
     (rw c.problem-problem.ensures.problem at (OnTrue_at c.if-is_refused.true c.is_refused.ensures s lies))
 
 pub returns : goal.returns
@@ -17,5 +17,5 @@ returns c =
     let g = c.args.admitted.now.graph in
     let e = c.args.edge in
     of_true c.is_idle.result c.is_idle.ensures (λ idle s law lies.
-    idle_source (is_message g e) (active g s.values (source g e)) (takes (edge_at g e).when (value_of g s.values (source g e)))
+    idle_source (active g s.values (source g e)) (takes (edge_at g e).when (value_of g s.values (source g e)))
     (rw (c.source.ensures.source, c.problem-problem.ensures.problem) at (idle s law lies)))

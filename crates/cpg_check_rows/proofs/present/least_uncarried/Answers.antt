@@ -1,0 +1,23 @@
+use Rattle.std.proofs.Common.{◌≡◌, ◌&&◌, ◌∙◌, map, ap, subst}
+use Rattle.cpg_base.specs.Activity.{active, live}
+use Rattle.cpg_base.specs.Graph.{condition_of, edge_at, source}
+use Rattle.cpg_rules.specs.Guards.{is_passed, test_of}
+use Rattle.cpg_base.specs.First.{IsFirst}
+use Rattle.cpg_base.specs.Scenario.{Scenario}
+use Rattle.cpg_cube.specs.Cube.{matches}
+use Rattle.cpg_cover.specs.Cover.{is_left}
+use Rattle.cpg_cube.specs.Column.{Column}
+use Rattle.cpg_check_rows.proofs.PresentLaws.{absent_from, live_where}
+use Rattle.cpg_check_rows.proofs.present.least_uncarried.Goals as goal
+
+pub returns : goal.returns
+returns c =
+    let g = c.args.admitted.now.graph in
+    let order = c.args.admitted.now.order in
+    let e = c.args.edge in
+    let same = c.problem-problem.ensures.problem in
+    let passed = subst (λ h. (s : Scenario) → matches c.in_ok-cube.cube s ≡ is_passed (test_of (condition_of h (source h e)) (edge_at h e).when) s.values) same c.in_ok-cube.ensures.passed in
+    let is : c.source-process.result ≡ source g e = c.source-process.ensures.source ∙ ap (λ h. source h e) same in
+    let found = subst (λ p. IsFirst g order (λ s. is_left (map (λ (c : Column). c.cube) c.args.columns.now) c.in_ok-cube.cube s && active g s.values p) c.in_ok-found.found) is c.in_ok-found.ensures in
+    absent_from g order c.args.columns.now (λ s. live g s.values e) (source g e) c.in_ok-cube.cube
+    (λ s i. live_where c.problem-problem.ensures.admitted s i e c.requires.edge c.in_ok-cube.cube (passed s)) c.in_ok-found.found found

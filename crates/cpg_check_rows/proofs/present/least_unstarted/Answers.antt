@@ -1,0 +1,12 @@
+use Rattle.std.proofs.Common.{[], true, refl}
+use Rattle.cpg_base.specs.Activity.{active}
+use Rattle.cpg_violation.proofs.Tests.{with_true}
+use Rattle.cpg_check_rows.proofs.PresentLaws.{absent_from}
+use Rattle.cpg_check_rows.proofs.present.least_unstarted.Goals as goal
+
+pub returns : goal.returns
+returns c =
+    let g = c.args.admitted.now.graph in
+    let p = c.args.process in
+    absent_from g c.args.admitted.now.order c.args.columns.now (λ s. active g s.values p) p [] (λ s i. with_true (active g s.values p) true refl) c.in_ok-found.found
+    (rw c.whole-whole.ensures at c.in_ok-found.ensures)

@@ -1,0 +1,15 @@
+use Rattle.std.proofs.lemmas.Bool.{OnTrue_at}
+use Rattle.cpg_base.specs.Activity.{active, takes, value_of}
+use Rattle.cpg_base.specs.Graph.{edge_at, source}
+use Rattle.cpg_tree.proofs.Passes.{of_true}
+use Rattle.cpg_violation.proofs.GuardLaws.{both_there}
+use Rattle.cpg_violation.proofs.guards.is_edge_running.Goals as goal
+
+pub returns : goal.returns
+returns c =
+    let g = c.args.admitted.now.graph in
+    let e = c.args.edge in
+    of_true c.is_running.result c.is_running.ensures (λ on s law lies.
+    both_there (active g s.values (source g e)) (takes (edge_at g e).when (value_of g s.values (source g e)))
+    (rw (c.source.ensures.source, c.problem-problem.ensures.problem) at (on s law lies))
+    (rw c.problem-problem.ensures.problem at (OnTrue_at c.if-not-is_taken.false c.is_taken.ensures s lies)))
