@@ -25,9 +25,9 @@ import json
 from collections.abc import Iterator, Sequence
 from dataclasses import dataclass
 
-from cpgc_tools import cli, graph, pack, show
+from cpgc_tools import cli, graph, pack, safe, show
 from cpgc_tools.graph import Graph, keys_of
-from cpgc_tools.pack import VALUES, Pack, Row, literals
+from cpgc_tools.pack import VALUES, Pack, Row, common, literals
 from cpgc_tools.play import Scenario
 from cpgc_tools.program import Program
 from cpgc_tools.svg import INK, RULE, SOFT, STRONG, Axis, Canvas, cut_to, heading, legend, width_of
@@ -188,17 +188,8 @@ class Item:
 
 def both(old: Cube, new: Cube, most: int) -> Cube | None:
     """The scenarios of two cubes with so many faults at most, or nothing where there are none."""
-    found, faults = dict(old), 0
-    for variable, (low, high) in new.items():
-        mine = found.get(variable)
-        if mine is not None:
-            low, high = max(low, mine[0]), min(high, mine[1])
-            if low > high:
-                return None
-        found[variable] = low, high
-    for (_, is_value), (low, _) in found.items():
-        faults += 0 if is_value else low
-    return found if faults <= most else None
+    found = common(old, new)
+    return found if found is not None and sum(low for (_, is_value), (low, _) in found.items() if not is_value) <= most else None
 
 
 class Comparison:
@@ -337,15 +328,6 @@ def as_svg(names: tuple[str, str], changes: Sequence[str], it: Comparison, width
     yield from canvas.whole(width, low, title, said)
 
 
-def tables_of(cpgc: Program, number: int, content: bytes, given: bytes | None) -> bytes:
-    """The tables of a graph: a pack that is checked, or those that are compiled. What cpgc refuses ends the tool."""
-    file = cpgc.file(f"graph-{number}.toml", content)
-    if given is None:
-        return cpgc.output("compile", file)
-    cpgc.asked("check", file, cpgc.file(f"tables-{number}.pack", given))
-    return given
-
-
 def main() -> None:
     words = cli.Words(__doc__).with_program()
     words.add_argument("--all", action="store_true", help="list all that moved")
@@ -367,7 +349,7 @@ def main() -> None:
             graphs.append(graph.parsed(path, content))
         changes = list(of_graphs(*graphs))
         try:
-            packs = [tables_of(cpgc, number, *it) for number, it in enumerate(zip(contents, given))]
+            packs = [safe.tables_of(cpgc, cpgc.file(f"graph-{number}.toml", content), tables) for number, (content, tables) in enumerate(zip(contents, given))]
         except cli.Refused as refused:
             if refused.status in (5, 6) and not said.json and not said.svg:
                 cli.write_lines(changes or ["the graphs are alike"])

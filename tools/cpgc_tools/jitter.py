@@ -19,7 +19,7 @@ from __future__ import annotations
 from collections.abc import Iterator, Mapping
 from typing import NamedTuple
 
-from cpgc_tools import cli, graph, instances, pack, show
+from cpgc_tools import cli, instances, pack, safe, show
 from cpgc_tools.graph import Graph
 from cpgc_tools.instances import Instances
 from cpgc_tools.pack import Pack
@@ -128,13 +128,9 @@ def main() -> None:
     words.add_argument("graph", metavar="GRAPH")
     words.add_argument("pack", metavar="PACK", nargs="?", help="its tables, else it is compiled")
     said = words.parse_args()
-    content, given = cli.read(said.graph, cli.GRAPH), cli.read(said.pack, cli.PACK) if said.pack else None
     with Program(said.program) as cpgc:
-        file = cpgc.file("graph.toml", content)
-        if given is not None:
-            cpgc.asked("check", file, cpgc.file("tables.pack", given))
-        tables = pack.of_file(said.pack or said.graph, given if given is not None else cpgc.output("compile", file))
-        it = instances.of(graph.parsed(said.graph, content))
+        read = safe.read(cpgc, said.graph, said.pack)
+        tables, it = read.tables, instances.of(read.graph)
         if it is None:
             cli.fail(f"{said.graph}: not a graph of `cpgc hyper`, whose processes are named PART.INSTANCE.NAME")
         asked = named(it, said.process, said.graph)

@@ -11,9 +11,9 @@ from __future__ import annotations
 
 import functools
 import json
-from collections.abc import Iterator, Sequence
+from collections.abc import Iterator, Mapping, Sequence
 from dataclasses import dataclass, replace
-from typing import Any, NamedTuple
+from typing import Any, NamedTuple, TypeVar
 
 from cpgc_tools import cli
 from cpgc_tools.graph import Graph, is_name
@@ -34,6 +34,7 @@ For example, `pack read pair.pack | sed 's/\\[50, /[49, /' | pack write > wrong.
 VALUES = 128  # the variables of values begin here, those of fault counts at 0
 NONE = 2**64 - 1  # the deadline of a process that has none of its own
 Column = tuple[int, bytes]
+Variable = TypeVar("Variable")  # a number, or what it stands for
 
 
 class Process(NamedTuple):
@@ -165,6 +166,24 @@ class Pack:
 
 def literals(cube: bytes) -> Iterator[tuple[int, int, int]]:
     return zip(cube[::3], cube[1::3], cube[2::3])
+
+
+def ranges(cube: bytes) -> dict[int, tuple[int, int]]:
+    """What the literals of a column say of each variable."""
+    return {variable: (low, high) for variable, low, high in literals(cube)}
+
+
+def common(one: Mapping[Variable, tuple[int, int]], other: Mapping[Variable, tuple[int, int]]) -> dict[Variable, tuple[int, int]] | None:
+    """The ranges that are in both, or nothing if one is empty."""
+    found = dict(one)
+    for variable, (low, high) in other.items():
+        mine = found.get(variable)
+        if mine is not None:
+            low, high = max(low, mine[0]), min(high, mine[1])
+            if low > high:
+                return None
+        found[variable] = low, high
+    return found
 
 
 def asked(cube: bytes) -> int:

@@ -23,11 +23,20 @@ class Safe(NamedTuple):
         return play.parsed(self.cpgc.text("play", *self.files, self.cpgc.file("scenario.toml", scenario), "--turns", "0").splitlines())
 
 
-def read(cpgc: Program, graph_path: str, pack_path: str) -> Safe:
-    written, tables = cli.read(graph_path, cli.GRAPH), cli.read(pack_path, cli.PACK)
-    files = cpgc.file("graph.toml", written), cpgc.file("tables.pack", tables)
-    cpgc.asked("check", *files)
-    return Safe(cpgc, files, graph.parsed(graph_path, written), pack.of_file(pack_path, tables))
+def tables_of(cpgc: Program, graph_file: str, given: bytes | None) -> bytes:
+    """The tables of a graph: a pack that is checked, or those that are compiled."""
+    if given is None:
+        return cpgc.output("compile", graph_file)
+    cpgc.asked("check", graph_file, cpgc.file("tables.pack", given))
+    return given
+
+
+def read(cpgc: Program, graph_path: str, pack_path: str | None) -> Safe:
+    """A graph file with a pack, or if there is none with its own tables."""
+    written, given = cli.read(graph_path, cli.GRAPH), None if pack_path is None else cli.read(pack_path, cli.PACK)
+    file = cpgc.file("graph.toml", written)
+    tables = tables_of(cpgc, file, given)
+    return Safe(cpgc, (file, cpgc.file("tables.pack", tables)), graph.parsed(graph_path, written), pack.of_file(pack_path or graph_path, tables))
 
 
 def words_with_node(text: str | None) -> cli.Words:

@@ -10,12 +10,12 @@ queue. What is frozen waits for one of these in another scenario, which is looke
 from __future__ import annotations
 
 import itertools
-from collections.abc import Callable, Iterable, Iterator
+from collections.abc import Callable, Iterable, Iterator, Mapping
 from typing import TYPE_CHECKING, NamedTuple
 
 from cpgc_tools.graph import Edge, Graph, Process
 from cpgc_tools.mends import Mend
-from cpgc_tools.pack import VALUES, literals
+from cpgc_tools.pack import VALUES, common, ranges
 from cpgc_tools.play import Play, Scenario
 
 if TYPE_CHECKING:
@@ -264,15 +264,13 @@ class Waits:
         return Scenario({names[p]: n for p, n in least[0].items() if n}, frozenset(names[p] for p in least[1]))
 
 
-def merged(graph: Graph, one: bytes, other: bytes, more: dict[int, tuple[int, int]]) -> tuple[dict[int, int], set[int]] | None:
+def merged(graph: Graph, one: bytes, other: bytes, more: Mapping[int, tuple[int, int]]) -> tuple[dict[int, int], set[int]] | None:
     """The least scenario of two cubes and ranges, as the faults of processes and those whose value is true, or nothing if there is none."""
-    ranges = dict(more)
-    for variable, low, high in itertools.chain(literals(one), literals(other)):
-        before = ranges.get(variable, (low, high))
-        ranges[variable] = max(before[0], low), min(before[1], high)
-    if any(low > high for low, high in ranges.values()):
+    both = common(ranges(one), ranges(other))
+    found = None if both is None else common(both, more)
+    if found is None:
         return None
-    faults = {variable: low for variable, (low, _) in ranges.items() if variable < VALUES}
+    faults = {variable: low for variable, (low, _) in found.items() if variable < VALUES}
     if sum(faults.values()) > graph.faults:
         return None
-    return faults, {graph.deciding[variable - VALUES].number for variable, (low, _) in ranges.items() if variable >= VALUES and low}
+    return faults, {graph.deciding[variable - VALUES].number for variable, (low, _) in found.items() if variable >= VALUES and low}
