@@ -154,7 +154,7 @@ def other_units(file: File) -> Sentences:
 
 
 def most_messages(file: File) -> int:
-    """How many messages the way with the most has, 0 where that isn't known."""
+    """How many messages the way with the most has, 0 if that isn't known."""
     it = file.graph()
     if it is None:
         return 0
@@ -168,7 +168,7 @@ def most_messages(file: File) -> int:
 
 
 def true_miss(files: Files, file: File) -> tuple[bool, list[str]]:
-    """Whether the program could be asked which order misses by the least; and a sentence on its miss, where the line has another one."""
+    """Whether the program could be asked which order misses by the least; and a sentence on its miss, if the line has another one."""
     it, found = file.graph(), re.fullmatch("cpgc: late ([0-9]+) by ([^ ]+) in .+", files.line)
     if files.program is None or it is None or found is None or found[2] not in it.number:
         return False, []
