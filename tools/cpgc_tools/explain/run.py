@@ -177,7 +177,7 @@ def true_miss(files: Files, file: File) -> tuple[bool, list[str]]:
             case = why.Case(cpgc, it, why.late_by(files.line, it))
             over = {name: end - it.processes[it.number[name]].due for name, end in case.ends.items()}
             worst = max(over, key=over.__getitem__)
-            if worst == found[2] and case.ends[worst] == int(found[1]):
+            if over[worst] >= why.late_by(files.line, it):
                 return True, []
             scenario, under = case.scenario_of(worst, case.ends[worst] - 1), why.order_line(case).split(":")[0]
     except (cli.Failure, ValueError):
