@@ -4,16 +4,16 @@
     compare OLD NEW OLD_PACK NEW_PACK
     compare --svg OLD NEW > changes.svg
 
-OLD and NEW are graph files; their tables are compiled, or those of packs, which are checked. Said are what differs in the graphs, the latest
+OLD and NEW are graph files. Their tables are compiled, or those of the packs are checked. The output says what differs in the graphs, the latest
 end of all scenarios, how many columns there are, the latest end and the slack of each process for which one of them differs, and what moved:
-each start, message and broadcast that has another time in a scenario of both graphs. Of these stand how much earlier and later it is, and the
-scenario in which it differs the most. Processes are known by their names, messages by both ends, so that other numbers change nothing.
-A scenario of both has the same faults and the same true values, and strikes only what is in both. Of an item with more than 1,000,000 pairs of columns the latest times alone are compared; of a graph
-with more than 4,096 outcomes it isn't asked whether its conditions allow what two columns have in common.
+each start, message and broadcast that has another time in a scenario of both graphs. It says by how much it moves, and in which scenario the
+most. Processes are known by their names, and messages by both ends, so other numbers change nothing.
 
-Of a graph that is refused as late or too wide the graphs alone are compared, and then the line and the status are those of cpgc.
---all lists all that moved, and not the first 20 alone. In a picture each process has a bar from its earliest start to its latest end, once
-grey and once dark, with an arrow at its due.
+A scenario of both has the same faults and the same true values, and strikes only what is in both. If an item has more than 1,000,000 pairs of
+columns, only its latest times are compared. If a graph has more than 4,096 outcomes, a scenario may be shown that its conditions don't allow.
+
+If a graph is late or too wide, only the graphs are compared, and the line and the status are those of cpgc. --all lists all that moved, not only
+the first 20. In a picture each process has a bar from its earliest start to its latest end, once grey and once dark, with an arrow at its due.
 
 For example, `sed 's/wcet = 30/wcet = 20/' pair.toml > faster.toml; compare pair.toml faster.toml` says `worst 85, was 105`.
 """
@@ -187,7 +187,7 @@ class Item:
 
 
 def both(old: Cube, new: Cube, most: int) -> Cube | None:
-    """The scenarios of two cubes with so many faults at most, or nothing where there are none."""
+    """The scenarios of two cubes with so many faults at most, or nothing if there are none."""
     found = common(old, new)
     return found if found is not None and sum(low for (_, is_value), (low, _) in found.items() if not is_value) <= most else None
 

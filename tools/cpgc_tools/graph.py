@@ -298,7 +298,7 @@ class Graph:
 
     def outcomes(self) -> Iterator[tuple[int, int]]:
         """The outcomes of the conditions, without values of inactive processes: the processes that are active, and those whose condition is true,
-        as bits. Raises ValueError where the edges lead around."""
+        as bits. Raises ValueError if the edges lead around."""
         order = self.sources_first()
         inputs = [[(edge.source, edge.when) for edge in self.inputs(process)] for process in self.processes]
         left = [(0, 0, 0)]  # how far in the order, what is active, which values are true

@@ -2,7 +2,7 @@
 
     hyper-edges RULES N GRAPH [N GRAPH ..] > joined.toml
 
-Behind RULES stand the words of `cpgc hyper`, which makes the copies PART.INSTANCE.NAME; parts count from 0. RULES is a TOML file:
+The words after RULES are those of `cpgc hyper`, which makes the copies PART.INSTANCE.NAME; parts count from 0. RULES is a TOML file:
 
     parts = ["inner", "outer"]  # may be left out: names of the parts in place of numbers, in all that shows the graph
     [[edge]]
@@ -11,19 +11,19 @@ Behind RULES stand the words of `cpgc hyper`, which makes the copies PART.INSTAN
     take = "latest before"      # which instances an edge leads from and to
     bytes = 12                  # bytes, when and frozen as in a graph file
 
-`take` says it for each instance of `to`, by the times at which periods begin. It is one of
+`take` says for each instance of `to` which instances of `from` it takes, by the times at which periods begin:
 
-    latest before    the latest instance of `from` whose period begins before that of the instance of `to`
-    latest           the latest that begins before it or with it
-    latest due       the latest that is due before it begins, or just then, so that nothing waits
-    all within       each that begins within the period of the instance of `to`
+    latest before    the latest one whose period begins before that of the instance of `to`
+    latest           the latest one that begins before it or with it
+    latest due       the latest one that is due by the time it begins, so that nothing waits
+    all within       each one that begins within the period of the instance of `to`
 
-An instance of `to` without such a one takes what the cycle before has left, and gets no edge. With `once = true` an instance of `from` has an
-edge to the first of several instances of `to` only: those after it begin when that one is due, and find the value on their node, if that one
-always runs. In place of `take` there may be `pairs = [[0, 1], ..]`, the instances one by one.
+An instance of `to` without such a one has no edge: it takes what the cycle before has left. With `once = true` an instance of `from` has an edge
+only to the first of several instances of `to`. Those after it begin when the first is due, and find the value on their node if the first always
+runs. `pairs = [[0, 1], ..]` in place of `take` lists instances of `from` and `to`.
 
-An edge doesn't change what runs: to lead to a join, or to a process that runs where `from` doesn't, is refused, unless `when` is there. The
-output is a graph file, with the edges of the rules as comments at its head.
+An edge may not change what runs. So an edge to a join is refused, and, unless it has `when`, an edge to a process that also runs in scenarios in
+which `from` doesn't. The output is a graph file; comments at its head list the edges of the rules.
 
 For example, `hyper-edges rates.toml 1000 inner.toml 2000 outer.toml > joined.toml`.
 """
@@ -174,14 +174,14 @@ class Rules:
             for a, b in asked:
                 if active >> b & 1 and not active >> a & 1:
                     names = (self.it.graph.processes[it].name for it in (a, b))
-                    self.fail("edge {}: {} doesn't always run where {} does, which would then not run either: lead from a process that does".format(number, *names), "edge", number)
+                    self.fail("edge {}: {} doesn't always run when {} does, which would then not run either: lead from a process that does".format(number, *names), "edge", number)
 
     def all_edges(self) -> list[Table]:
         return [edge for number in range(len(self.entries)) for edge in self.edges(number)]
 
 
 def joined(it: Graph, edges: list[Table], path: str) -> Graph:
-    """The graph with more edges. Where these lead around, the tool ends."""
+    """The graph with more edges. If these lead around, the tool ends."""
     found = it.changed(top={"edge": [*it.document.get("edge", []), *edges]})
     try:
         found.sources_first()

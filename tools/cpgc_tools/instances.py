@@ -1,7 +1,7 @@
 """The copies that `cpgc hyper` makes of its parts: what their names say, PART.INSTANCE.NAME, and from when to when each instance goes on.
-PART is a number, or a name where `hyper-edges` has given one.
+PART is a number, or a name if `hyper-edges` has given one.
 
-    it = instances.of(graph)                    # Instances, or None where the graph isn't one of hyper
+    it = instances.of(graph)                    # Instances, or None if the graph isn't one of hyper
     it.parts[0].period                          # of the first part
     it.parts[0].names                           # of its processes, as its file has them
     it.copy(0, 1, "kalman")                     # the process 0.1.kalman

@@ -3,14 +3,14 @@
     jitter GRAPH [PACK]
     jitter --process PART.NAME GRAPH [PACK]
 
-GRAPH is one that `cpgc hyper` or `hyper-edges` has made. An offset is a start less the begin of its instance's period. Of each process with more
-than one instance are said the least and the greatest offset over all instances and scenarios (`earliest`, `latest`), how far they are apart, and
-how far at most within one instance, where only scenarios differ. The rest comes from other times in other instances.
+GRAPH is one that `cpgc hyper` or `hyper-edges` has made. An offset is a start less the begin of its instance's period. For each process with more
+than one instance the output has the least and the greatest offset over all instances and scenarios (`earliest`, `latest`), how far these are
+apart, and how far offsets are apart within one instance at most, in which only scenarios differ.
 
-Behind that stands a release for each process that --process names, and without it for those that nothing waits for, as actuators are: if all
-copies have that release (behind the begin of their period) and are frozen, all start at this one offset. It was found by compiling. Where what
-is compiled isn't in time, or no offset is found in 8 tries, there is `none`. Where there are several, the last line says whether they can be
-put in together. --all lists each instance.
+A release is shown for each process that --process names or, without --process, that nothing waits for, as actuators are. If all copies have that
+release, after the begin of their period, and are frozen, all start at this one offset. It was found by compiling; `none` says that what was
+compiled wasn't in time, or that 8 tries found no offset. If there are several, the last line says whether they can be put in together. --all
+lists each instance.
 
 For example, `jitter joined.toml --process 0.elev_l`.
 """

@@ -1,30 +1,30 @@
-"""Warns of what stands in a graph file and can hardly be meant, though cpgc takes it without a word.
+"""Warns of what stands in a graph file and can hardly be meant, though cpgc accepts it silently.
 
     lint GRAPH [PACK]
     lint --strict GRAPH [PACK]
 
-A line is FILE:LINE: what, with its grade and, in brackets, its kind. Nothing is written where there is nothing to warn of. With --strict
-the status is 1 where there is a warning; notes alone leave it at 0. The kinds of warnings are
+A line has FILE:LINE, a grade, a text and, in brackets, a kind. If there is nothing to warn of, nothing is written. With --strict the status is 1
+if there is a warning; notes alone leave it at 0. The kinds of warnings are
 
-    never-runs    a process that is active in no scenario, as where a join = true is forgotten, with what waits for it
+    never-runs    a process that is active in no scenario, as if a join = true was forgotten, with what waits for it
     no-overhead   a process without alpha, chi and mu, though faults may strike: to find one and to recover would take no time
-    no-bytes      a message without `bytes`: it counts as one byte, so that no slot is too short for it
+    no-bytes      a message without `bytes`: it counts as one byte, so no slot is too short for it
     doubled-edge  an edge with the same ends and the same `when` as an earlier one
 
-and those of notes, which have no effect, cost time or can't be in time:
+and those of notes, which have no effect, cost time, or can't be in time:
 
-    apart         a process without edges, where others have some
+    apart         a process without edges, if others have some
     frozen-local  frozen = true on an edge within a node, which has no message
     due-later     a deadline of a process after that of the graph
-    too-long      a process that is due before the longest way to it can be over, whatever the order
+    too-long      a process that is due before the longest way to it can be over, in any order
     load          a node with more work, with all faults, than there is time before the deadline
     units         a wcet that is a thousand times less or more than the median of all
-    round         a round that doesn't divide the deadline, a period of hyper's parts, or one that --period says
-    late-frame    a frame that arrives after the deadline, so that the tables can be repeated later only (with a PACK)
+    round         a round that doesn't divide the deadline, a period of hyper's parts, or a period that --period names
+    late-frame    a frame that arrives after the deadline, so the tables can only be repeated later (with a PACK)
     idle-slot     a slot of a node that sends nothing
 
 The graph isn't compiled: ask cpgc whether it is in time. With a PACK, which has to be the graph's, what its tables never start counts, too.
---without KIND leaves a kind out, for what is meant so. --json writes the lines as JSON, with file, line, column, grade, kind, name and text.
+--without KIND leaves a kind out. --json writes the lines as JSON, with file, line, column, grade, kind, name and text.
 
 For example, `lint pair.toml` notes that a round of 20 doesn't divide the deadline of 105.
 """
@@ -66,7 +66,7 @@ class Warning:
 
 
 class Lint:
-    """A graph file of which kinds of warnings are asked. Raises ValueError where it is no graph."""
+    """A graph file of which kinds of warnings are asked. Raises ValueError if it is no graph."""
 
     def __init__(self, file: File, tables: Pack | None = None, periods: Iterable[int] = ()) -> None:
         self.file, self.graph, self.tables = file, Graph.of(file.document), tables
@@ -226,7 +226,7 @@ class Lint:
 
 
 def high(file: File) -> list[Warning]:
-    """The warnings of a graph file, none where it isn't one that cpgc admits."""
+    """The warnings of a graph file, none if cpgc doesn't admit it."""
     try:
         return Lint(file).warnings(WARNINGS)
     except (ValueError, RecursionError):
@@ -244,7 +244,7 @@ def tables_of(path: str, it: Graph) -> Pack:
 
 def main() -> int:
     words = cli.Words(__doc__)
-    words.add_argument("--strict", action="store_true", help="status 1 where there is a warning")
+    words.add_argument("--strict", action="store_true", help="status 1 if there is a warning")
     words.add_argument("--without", metavar="KIND", action="append", default=[], choices=[*WARNINGS, *NOTES], help="leave this kind out; may be said again")
     words.add_argument("--period", metavar="N", action="append", default=[], type=cli.whole(1, 10**9), help="a period that the round has to divide; may be said again")
     words.add_argument("--json", action="store_true", help="write JSON")

@@ -142,7 +142,7 @@ class Program:
 
     def __init__(self, named: str | None = None, folder: str | None = None, seconds: float = SECONDS) -> None:
         self.path, self.ended, self.seconds = found(named), False, seconds
-        self.runs, self.tells = 0, True  # how many there were, and whether that is told where they take long
+        self.runs, self.tells = 0, True  # how many there were, and whether that is told if they take long
         self.running: set[subprocess.Popen[bytes]] = set()
         try:
             self.folder = folder or tempfile.mkdtemp(prefix="cpgc-")

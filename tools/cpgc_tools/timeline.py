@@ -74,7 +74,7 @@ def as_text(nodes: Sequence[str], acts: Play) -> Iterator[str]:
 
 
 def fitting(name: str, room: int) -> str:
-    """A name, without the part and the instance where there is no room for them."""
+    """A name, without the part and the instance if there is no room for them."""
     return name if len(name) <= room else short(name)
 
 

@@ -267,6 +267,14 @@ class Explain(Case):
 {file}:6: under the track order, which misses by less, X ends at 59, 4 after its due, in none
 to mend it: ask `why {file}` what held it up; `slack` says how far a wcet has to shrink
 """))
+        # two that are late by as much, in the two outcomes of A: the first one of them is named, and no order misses by less
+        tie = self.file("tie.toml", "faults = 0\ndeadline = 9\nnode = [{ name = \"N\" }]\nprocess = [\n{ name = \"A\", node = \"N\", wcet = 5 },\n"
+                        "{ name = \"B\", node = \"N\", wcet = 5 },\n{ name = \"C\", node = \"N\", wcet = 5 }]\n"
+                        "edge = [{ from = \"A\", to = \"B\", when = true }, { from = \"A\", to = \"C\", when = false }]\n")
+        said = self.run_tool("explain", "--", CPGC, "show", tie)[2].splitlines()
+        self.assertRegex(said[0], "^cpgc: late 10 by [BC] in ")
+        self.assertRegex(said[1], ": process [BC] ends at 10, 1 after its due of 9, in .*; no order ends it before 10 in all scenarios$")
+        self.assertEqual([it for it in said if "misses by less" in it], [])
         piped = self.of("explain", file, stdin="cpgc: late 71 by A in none\n", status=5).splitlines()
         self.assertEqual(piped[2], f"to mend it: ask `why {file}` what held it up: another process may be what misses by less; `slack` says how far a wcet has to shrink")
 

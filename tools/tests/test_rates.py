@@ -92,7 +92,7 @@ class HyperEdges(Case):
         parts = ["100", "branching.toml", "200", "other.toml"]
         path = self.file("rules.toml", rule('take = "latest"', "0.B", "1.A"))
         self.of("hyper-edges", path, *parts, status=1,
-                err=f"hyper-edges: {path}:1: edge 0: 0.0.B doesn't always run where 1.0.A does, which would then not run either: lead from a process that does\n")
+                err=f"hyper-edges: {path}:1: edge 0: 0.0.B doesn't always run when 1.0.A does, which would then not run either: lead from a process that does\n")
         self.assertIn(("0.0.J", "1.0.A"), self.edges(rule('take = "latest"', "0.J", "1.A"), *parts))
         self.assertIn(("0.0.B", "1.0.B"), self.edges(rule('take = "latest"\nwhen = true', "0.B", "1.B"), *parts))
         self.assertIn("a join, which would take it", self.run_tool("hyper-edges", self.file("rules.toml", rule('take = "latest"', "0.A", "1.J")), *parts)[2])

@@ -6,9 +6,9 @@
     explain --patterns
 
 Behind `--` stands a command. It is run, its outputs stay as they are, and behind its line on the error stream comes what that line
-means. The status is that of the command. It may also be another tool that passes a line of cpgc on. Behind `cpgc show`, `compile` and `check`
-stand the warnings that `lint` has of the graph, such as that of a process that never runs. Behind `impossible` of `cpgc audit` stands up to
-which time the log is one of the tables, and what goes wrong then.
+means. The status is that of the command. It may also be another tool that passes a line of cpgc on. After `cpgc show`, `compile` and `check`
+come the warnings that `lint` has of the graph, such as that of a process that never runs. After `impossible` of `cpgc audit` it says up to which
+time the log is one of the tables, and what goes wrong then.
 
 Without `--` the lines come on standard input, and all of them are written again. The files are those of the command, in its order. The
 status is the one that cpgc has with such a line, and 0 where there is none.

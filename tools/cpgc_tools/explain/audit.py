@@ -1,4 +1,4 @@
-"""At which time a log is none of the tables any more, where `cpgc audit` says `impossible`."""
+"""At which time a log is none of the tables any more, if `cpgc audit` says `impossible`."""
 from __future__ import annotations
 
 import re

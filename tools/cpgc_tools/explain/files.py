@@ -56,7 +56,7 @@ class Files:
         self.by: dict[str, File] = {}
         self.name: str | None = None
         self.line = ""  # that is explained
-        self.program: str | None = None  # that wrote it, where more may be asked of it
+        self.program: str | None = None  # that wrote it, if more may be asked of it
         self.order = list(self.of_form() if command in COMMANDS else self.of_content())
         self.graphs = [file for kind, file in self.order if kind == "graph"]
         for kind, file in self.order:

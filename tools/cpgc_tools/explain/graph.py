@@ -23,7 +23,7 @@ def not_toml(files: Files) -> Sentences:
 
 
 def not_toml_of(file: File, otherwise: str) -> Sentences:
-    """Why a file is no TOML document, or a sentence where no reason is found."""
+    """Why a file is no TOML document, or a sentence if no reason is found."""
     fault = toml_fault(file)
     twice = Places(file.text).doubled if fault and TWICE.search(fault) else None
     if twice:

@@ -154,7 +154,7 @@ def other_units(file: File) -> Sentences:
 
 
 def most_messages(file: File) -> int:
-    """How many messages the way with the most has, 0 where that isn't known."""
+    """How many messages the way with the most has, 0 if that isn't known."""
     it = file.graph()
     if it is None:
         return 0
@@ -168,7 +168,7 @@ def most_messages(file: File) -> int:
 
 
 def true_miss(files: Files, file: File) -> tuple[bool, list[str]]:
-    """Whether the program could be asked which order misses by the least; and a sentence on its miss, where the line has another one."""
+    """Whether the program could be asked which order misses by the least; and a sentence on its miss, if the line has another one."""
     it, found = file.graph(), re.fullmatch("cpgc: late ([0-9]+) by ([^ ]+) in .+", files.line)
     if files.program is None or it is None or found is None or found[2] not in it.number:
         return False, []
@@ -177,7 +177,7 @@ def true_miss(files: Files, file: File) -> tuple[bool, list[str]]:
             case = why.Case(cpgc, it, why.late_by(files.line, it))
             over = {name: end - it.processes[it.number[name]].due for name, end in case.ends.items()}
             worst = max(over, key=over.__getitem__)
-            if worst == found[2] and case.ends[worst] == int(found[1]):
+            if over[worst] >= why.late_by(files.line, it):
                 return True, []
             scenario, under = case.scenario_of(worst, case.ends[worst] - 1), why.order_line(case).split(":")[0]
     except (cli.Failure, ValueError):
