@@ -3,7 +3,7 @@ ghost use Rattle.std.specs.Prelude.{◌+◌, ◌*◌, ◌≡◌, ◌≤◌, ◌<
 ghost use Rattle.cpg_base.specs.Graph.{item_at, item_count, process_count};
 ghost use Rattle.cpg_base.specs.Numbers.{numbers_below};
 ghost use Rattle.cpg_expand.specs.Agreeing.{IsTree};
-ghost use Rattle.cpg_expand.specs.MadeRows.{AreEntriesOf, AreMergedOf, AreRowsOf, IsRowOf};
+ghost use Rattle.cpg_expand.specs.MadeRows.{AreMergedOf, AreRowsOf, IsRowOf};
 ghost use Rattle.cpg_expand.specs.Large.{ShowsLarge};
 ghost use Rattle.cpg_expand.specs.WideRows.{AreFewIf, HaveWideRows, IsLoadIf};
 ghost use Rattle.cpg_order.specs.Reach.{rows_of_item};
@@ -18,20 +18,6 @@ use cpg_run::BuildFault;
 use cpg_table::Row;
 use cpg_tree::Tree;
 use std::alloc::Global;
-
-/// The columns of a tree, by their least scenarios.
-fn entries(
-    problem: &Problem,
-    urgency: &Order,
-    tree: &Tree<Option<u64>>,
-) -> Result<Vec<Entry>, OutOfMemory>
-    requires order { IsPermutation (numbers_below (process_count problem.now)) urgency.now }
-    requires tree { IsTree problem.now tree.now }
-    ensures { IfOk result (λ entries. AreEntriesOf problem.now urgency.now tree.now entries.items) }
-{
-    let columns = columns(tree, problem, urgency)?;
-    Ok(columns)
-}
 
 /// The columns of a start, merged.
 fn start_entries(
@@ -68,7 +54,8 @@ fn row(
         let columns = start_entries(alloc, problem, urgency, tree)?;
         return Ok(Row::new(item, columns));
     }
-    let columns = entries(problem, urgency, tree)?;
+    // by their least scenarios
+    let columns = columns(tree, problem, urgency)?;
     Ok(Row::new(item, columns))
 }
 

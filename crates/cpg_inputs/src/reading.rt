@@ -52,7 +52,7 @@ fn read_judged<S: Shelf>(
     Ok(Judged { graph, tables })
 }
 
-/// What a command reads that has a graph alone.
+/// Reads the graph of a command that reads nothing else.
 fn graph_inputs<S: Shelf>(
     alloc: Global,
     shelf: &mut S,
