@@ -51,11 +51,16 @@ pub fn bytes_of(rt: &HostRuntime, files: &mut MemoryShelf, name: &str) -> Result
     }
 }
 
+/// Three texts as one.
+fn joined(alloc: Global, before: &str, new: &str, after: &str) -> Result<String, Stopped> {
+    Ok(format!(in alloc; "{before}{new}{after}")?)
+}
+
 /// A text with another in place of the first `old` of it.
 pub fn replaced(alloc: Global, bytes: &[u8], old: &str, new: &str) -> Result<String, Stopped> {
     let text = str::from_utf8(bytes).ok().ok_or(Stopped)?;
     let (before, after) = text.split_once(old).ok_or(Stopped)?;
-    Ok(format!(in alloc; "{before}{new}{after}")?)
+    joined(alloc, before, new, after)
 }
 
 /// Bytes with those that words spell in place of others, from a place on.

@@ -61,13 +61,19 @@ fn take_list(rt: &HostRuntime, session: &mut Session, name: &str) -> Result<(), 
     Ok(())
 }
 
+/// Takes the lists that the standard input names.
+fn take_named(rt: &HostRuntime, session: &mut Session) -> Result<(), Stopped> {
+    for name in rt.lines(rt.alloc()) {
+        let name = name?;
+        take_list(rt, session, name.as_str())?;
+    }
+    Ok(())
+}
+
 /// Takes all lists.
 fn take_lists(rt: &HostRuntime) -> Result<(), Stopped> {
     let mut session = Session::new(rt.alloc())?;
-    for name in rt.lines(rt.alloc()) {
-        take_list(rt, &mut session, name?.as_str())?;
-    }
-    Ok(())
+    take_named(rt, &mut session)
 }
 
 fn main(rt: HostRuntime) -> ExitCode {

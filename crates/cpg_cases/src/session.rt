@@ -2,7 +2,7 @@
 
 use crate::files::{bytes_of, changed, replaced};
 use crate::printing::{print_outcome, print_sweep, print_words};
-use crate::runs::{Setting, USUAL, run_words};
+use crate::runs::{Outcome, Setting, USUAL, run_words};
 use crate::stopped::Stopped;
 use crate::sweeps::{Sweep, calls, parts, refusals, rooms};
 use cpg_base::OutOfMemory;
@@ -45,10 +45,16 @@ impl Session {
         })
     }
 
+    /// Makes a file.
+    fn put(&mut self, name: &str, bytes: &[u8]) -> Result<(), Stopped> {
+        Ok(self.files.put(name, bytes)?)
+    }
+
     fn feeds(&mut self, alloc: Global, rest: &str) -> Result<(), Stopped> {
         let (name, count) = split(rest)?;
-        let bytes = vec![in alloc; b'\n'; number(count)?]?;
-        Ok(self.files.put(name, bytes.as_slice())?)
+        let count = number(count)?;
+        let bytes = vec![in alloc; b'\n'; count]?;
+        self.put(name, bytes.as_slice())
     }
 
     fn edit(&mut self, rt: &HostRuntime, rest: &str) -> Result<(), Stopped> {
@@ -57,7 +63,7 @@ impl Session {
         let (old, new) = rest.split_once(" => ").ok_or(Stopped)?;
         let bytes = bytes_of(rt, &mut self.files, from)?;
         let text = replaced(rt.alloc(), bytes.as_slice(), old, new)?;
-        Ok(self.files.put(name, text.as_bytes())?)
+        self.put(name, text.as_bytes())
     }
 
     fn set(&mut self, rt: &HostRuntime, rest: &str) -> Result<(), Stopped> {
@@ -67,7 +73,7 @@ impl Session {
         let place = number(place)?;
         let bytes = bytes_of(rt, &mut self.files, from)?;
         let made = changed(rt.alloc(), bytes.as_slice(), place, words)?;
-        Ok(self.files.put(name, made.as_slice())?)
+        self.put(name, made.as_slice())
     }
 
     fn keep(&mut self, name: &str) -> Result<(), Stopped> {
@@ -91,12 +97,17 @@ impl Session {
         Ok(())
     }
 
-    fn run(&mut self, rt: &HostRuntime, words: &[String]) -> Result<(), Stopped> {
-        let got = run_words(rt, &mut self.files, words, self.next)?;
-        print_outcome(rt, &got, self.next.lines)?;
+    /// Prints a run, and keeps its output.
+    fn note(&mut self, rt: &HostRuntime, got: &Outcome) -> Result<(), Stopped> {
+        print_outcome(rt, got, self.next.lines)?;
         self.wrote = Vec::from_slice(rt.alloc(), got.out.taken())?;
         self.next = USUAL;
         Ok(())
+    }
+
+    fn run(&mut self, rt: &HostRuntime, words: &[String]) -> Result<(), Stopped> {
+        let got = run_words(rt, &mut self.files, words, self.next)?;
+        self.note(rt, &got)
     }
 
     /// Many runs, by the name of their item.
@@ -109,15 +120,38 @@ impl Session {
         }
     }
 
+    /// Runs words as an item says.
+    fn take_words(
+        &mut self,
+        rt: &HostRuntime,
+        item: &str,
+        words: &[String],
+    ) -> Result<(), Stopped> {
+        print_words(rt, words)?;
+        if item == "run" {
+            return self.run(rt, words);
+        }
+        let sweep = self.sweep(rt, item, words)?;
+        Ok(print_sweep(rt, item, sweep)?)
+    }
+
     /// Takes an item that runs words.
     fn take_run(&mut self, rt: &HostRuntime, item: &str, rest: &str) -> Result<(), Stopped> {
         let words = words_of(rt.alloc(), rest)?;
-        print_words(rt, words.as_slice())?;
-        if item == "run" {
-            return self.run(rt, words.as_slice());
-        }
-        let sweep = self.sweep(rt, item, words.as_slice())?;
-        Ok(print_sweep(rt, item, sweep)?)
+        self.take_words(rt, item, words.as_slice())
+    }
+
+    /// Runs words with so many beginnings of a pack.
+    fn take_parts(
+        &mut self,
+        rt: &HostRuntime,
+        words: &[String],
+        name: &str,
+        count: usize,
+    ) -> Result<(), Stopped> {
+        print_words(rt, words)?;
+        let sweep = parts(rt, &mut self.files, words, name, count)?;
+        Ok(print_sweep(rt, "parts", sweep)?)
     }
 
     fn parts(&mut self, rt: &HostRuntime, rest: &str) -> Result<(), Stopped> {
@@ -125,9 +159,7 @@ impl Session {
         let (name, rest) = split(rest)?;
         let count = number(count)?;
         let words = words_of(rt.alloc(), rest)?;
-        print_words(rt, words.as_slice())?;
-        let sweep = parts(rt, &mut self.files, words.as_slice(), name, count)?;
-        Ok(print_sweep(rt, "parts", sweep)?)
+        self.take_parts(rt, words.as_slice(), name, count)
     }
 
     /// Takes an item that says what the next run has.

@@ -25,15 +25,14 @@ impl Sweep {
     }
 }
 
-/// With an output of each room that is less than what they write: each run is to be cut there.
-pub fn rooms(
+/// With an output of each room that is less than these bytes: each run is to be cut there.
+fn rooms_below(
     rt: &HostRuntime,
     files: &mut MemoryShelf,
     words: &[String],
+    written: &[u8],
 ) -> Result<Sweep, Stopped> {
-    let whole = run_words(rt, files, words, USUAL)?;
     let mut sweep = Sweep::none();
-    let written = whole.out.taken();
     for out in 0..written.len() {
         let got = run_words(rt, files, words, Setting { out, ..USUAL })?;
         sweep.count(got.is(3, &written[..out], b"cpgc: write fault\n"));
@@ -41,21 +40,39 @@ pub fn rooms(
     Ok(sweep)
 }
 
-/// Words that are refused, with an error output of each room that is less than their line: each run is to end by a fault of it
-/// there.
+/// With an output of each room that is less than what they write.
+pub fn rooms(
+    rt: &HostRuntime,
+    files: &mut MemoryShelf,
+    words: &[String],
+) -> Result<Sweep, Stopped> {
+    let whole = run_words(rt, files, words, USUAL)?;
+    rooms_below(rt, files, words, whole.out.taken())
+}
+
+/// With an error output of each room that is less than this line: each run is to end by a fault of it there.
+fn refusals_below(
+    rt: &HostRuntime,
+    files: &mut MemoryShelf,
+    words: &[String],
+    line: &[u8],
+) -> Result<Sweep, Stopped> {
+    let mut sweep = Sweep::none();
+    for err in 0..line.len() {
+        let got = run_words(rt, files, words, Setting { err, ..USUAL })?;
+        sweep.count(got.is(3, &[], &line[..err]));
+    }
+    Ok(sweep)
+}
+
+/// Words that are refused, with an error output of each room that is less than their line.
 pub fn refusals(
     rt: &HostRuntime,
     files: &mut MemoryShelf,
     words: &[String],
 ) -> Result<Sweep, Stopped> {
     let whole = run_words(rt, files, words, USUAL)?;
-    let mut sweep = Sweep::none();
-    let line = whole.err.taken();
-    for err in 0..line.len() {
-        let got = run_words(rt, files, words, Setting { err, ..USUAL })?;
-        sweep.count(got.is(3, &[], &line[..err]));
-    }
-    Ok(sweep)
+    refusals_below(rt, files, words, whole.err.taken())
 }
 
 /// With each call of the shelf failing, until a run has status 0: each run before is to end by a fault of the shelf.
