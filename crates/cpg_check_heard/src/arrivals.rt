@@ -140,7 +140,7 @@ fn tells_whole(
     cube.within(&column.cube, problem)
 }
 
-/// Whether one of these columns does.
+/// Whether the frame of one of these columns has come by a time and tells a bound wherever a cube matches.
 pub(crate) fn tells_one_whole(
     problem: &Problem,
     arrivals: &[Arrival<'_>],

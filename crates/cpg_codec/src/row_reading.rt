@@ -110,7 +110,7 @@ fn literal_of<'a>(
     literal_by_fields(bytes, space, left, least)
 }
 
-/// So many literals.
+/// Reads `count` literals, and gives them with the bytes behind them.
 fn literals_of<'a>(
     alloc: Global,
     bytes: &'a [u8],
@@ -194,7 +194,7 @@ fn column_of<'a>(
     Ok((Entry { time, cube }, rest))
 }
 
-/// So many columns.
+/// Reads `count` columns, and gives them with the bytes behind them.
 fn columns_of<'a>(
     alloc: Global,
     bytes: &'a [u8],

@@ -129,7 +129,7 @@ some_shown g urgency order t is l e = omega (arith, nothing_late g urgency order
 
 module _ (g : Graph) (w : WellFormed g) (urgency : List ℕ) (top : IsTopological g urgency) (first_top : IsTopological g (first_order g urgency)) (narrow : g.order ≡ None → IsNarrow g (first_order g urgency))
     (first : Grown) (is : IsGrownFor g urgency (first_order g urgency) first) where
-  -- without tables of the track order none is better
+  -- no order is better than the first if the track order has no tables
   pub no_tables : HasNoTables g → HasNoBetter g urgency first
   no_tables h = elim h [
     | inl given ↦ record {
@@ -146,7 +146,7 @@ module _ (g : Graph) (w : WellFormed g) (urgency : List ℕ) (top : IsTopologica
     }
   ]
 
-  -- nor where its measures are no better
+  -- no order is better than the first if the track order's measures are no better
   pub no_better : (order : List ℕ) → HasTrackOrder g order → IsNarrow g order → (excess worst : ℕ) → IsMeasured g urgency order excess worst → (IsBetter excess worst first.excess.time first.worst.time → ⊥) → HasNoBetter g urgency first
   no_better order track own_narrow excess worst own worse = record {
     none = not_preferred_worse g w urgency top first_top narrow first.excess.time first.worst.time (found_measured g urgency (first_order g urgency) first is) order track own_narrow excess worst own worse;
@@ -168,7 +168,7 @@ module _ (g : Graph) (w : WellFormed g) (urgency : List ℕ) (top : IsTopologica
     ];
   }
 
-  -- nor if the track order is the first order
+  -- no order is better than the first if the track order is the first order
   pub same_order : g.order ≡ None → (order : List ℕ) → HasTrackOrder g order → order ≡ first_order g urgency → HasNoBetter g urgency first
   same_order ungiven order track same = no_better (first_order g urgency) (subst (HasTrackOrder g) same track) (narrow ungiven) first.excess.time first.worst.time (found_measured g urgency (first_order g urgency) first is)
       (λ better. elim better [ inl less ↦ omega (arith, less) | inr earlier ↦ omega (arith, earlier.1) ])

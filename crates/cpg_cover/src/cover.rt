@@ -89,7 +89,7 @@ fn meeting<'a>(
     Ok(kept)
 }
 
-/// The literals of a list that don't hold wherever a cube matches: where it matches, the others do.
+/// The literals of a list that aren't known to hold in every scenario that a cube matches. The others hold in each of them.
 fn cutting(
     alloc: Global,
     problem: &Problem,
@@ -117,7 +117,7 @@ fn cutting(
     Ok(kept)
 }
 
-/// The literal of the range below a literal's, if there is one.
+/// The numbers below a literal's range, as a literal; none if the range begins at 0.
 fn below(literal: &Literal) -> Option<Literal>
     ensures { result ≡ range_below literal.now }
 {
@@ -131,7 +131,8 @@ fn below(literal: &Literal) -> Option<Literal>
     })
 }
 
-/// The literal of the range above a literal's, if there is one.
+/// The numbers above a literal's range, as a literal; none if the range ends at the greatest number that the variable
+/// has in scenarios of at most `k` faults.
 fn above(k: u8, literal: &Literal) -> Option<Literal>
     ensures { result ≡ range_above k literal.now }
 {

@@ -47,7 +47,7 @@ impl Model for Forest {
     ghost view = { λ f. record { times = f.times.items; ends = f.ends.items; ready = f.ready.items; free = f.free.items; wide = f.wide } };
 }
 
-/// So many trees without times.
+/// Makes `count` trees that have no time in any scenario.
 fn without_times(
     alloc: Global,
     problem: &Problem,
@@ -65,7 +65,7 @@ fn without_times(
     Ok(trees)
 }
 
-/// So many trees that are 0.
+/// Makes `count` trees that are 0 in every scenario.
 fn zeros(alloc: Global, problem: &Problem, count: usize) -> Result<Vec<Tree<u64>>, OutOfMemory>
     ensures count { IfOk result (λ trees. length trees.items ≡ count) }
     ensures all { IfOk result (λ trees. All (IsTree problem.now) trees.items) }
@@ -79,7 +79,7 @@ fn zeros(alloc: Global, problem: &Problem, count: usize) -> Result<Vec<Tree<u64>
     Ok(trees)
 }
 
-/// So many nodes that are ready from the beginning.
+/// Makes `count` nodes that are ready from the beginning.
 fn ready_first(alloc: Global, problem: &Problem, count: usize) -> Result<Vec<Ready>, OutOfMemory>
     ensures count { IfOk result (λ nodes. length nodes.items ≡ count) }
     ensures all { IfOk result (λ nodes. All (IsWait problem.now) nodes.items) }

@@ -225,7 +225,7 @@ fn join_neighbours(
     Ok(joined)
 }
 
-/// Makes neighbours one where the second follows the first, and leaves the columns as they are where none does.
+/// Joins neighbours if the second follows the first, and leaves the columns as they are if none does.
 pub(crate) fn joined_columns(
     alloc: Global,
     faults: u8,

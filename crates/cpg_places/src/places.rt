@@ -17,24 +17,24 @@ use cpg_cube::{Cube, Literal};
 use cpg_tree::{Node, Space, Tally};
 use std::alloc::Global;
 
-/// A tree has no more nodes than so many for each cube, and `FEW` besides.
+/// A tree has at most this many nodes for each cube, and `FEW` besides.
 const EACH: u32 = 6;
 /// How many nodes a tree of few cubes may have.
 const FEW: u32 = 64;
-/// The same for each cube where a cube that goes to both sides of a fork counts as a node, too.
+/// The number for each cube if a cube that goes to both sides of a fork counts as a node, too.
 const EACH_SHARED: u32 = 8;
-/// And besides.
+/// The number that is added to `EACH_SHARED` for each cube.
 const FEW_SHARED: u32 = 104;
-/// Room is made at once for so many of the places that go to a side of a fork: for all of them, mostly.
+/// Room is made at once for at most this many of the places that go to a side of a fork: mostly for all of them.
 const AT_ONCE: usize = 32;
 
 /// A place, with what is known of its cube in the space where it stands: hints, that no clause speaks of.
 #[derive(Clone, Copy)]
 struct Spot {
     place: u32,
-    /// So many of the first literals hold in the whole space, at least.
+    /// At least this many of the first literals hold in the whole space.
     held: u16,
-    /// So many faults are left beyond those that the cube asks for.
+    /// How many faults are left beyond those that the cube asks for.
     spare: u8,
 }
 
@@ -386,7 +386,8 @@ fn open_cut(space: &Space, variable: u8, most: u8) -> Option<Cut>
     Some(Cut { variable, most })
 }
 
-/// Where a literal parts a space, if it does.
+/// The cut at which a literal parts a space, if it does: just below its low, or at its high if the space leaves
+/// nothing below its low.
 pub(crate) fn cut_of(space: &Space, literal: Literal) -> Option<Cut>
     ensures { IfSome result (λ r. AreOpen space.now r.variable r.most) }
 {

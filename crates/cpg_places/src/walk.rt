@@ -45,7 +45,7 @@ impl<'a, J: PairTest> Test for Beside<'a, J> {
 }
 
 /// Whether a test passes at each place that scenarios of a space come to. The space is changed on the way, and is as
-/// before where it does.
+/// before if the test passes at each.
 fn do_pass_each<J: Test>(node: &Node<Option<u32>>, space: &mut Space, test: &J) -> bool
     ensures passed { OnTrue result ((s : Scenario) → Lies space.old s → J.tells test.now (value_at node.now s) s) }
     ensures same { OnTrue result (space.new ≡ space.old) }
@@ -111,8 +111,8 @@ pub(crate) fn do_pass<J: Test>(node: &Node<Option<u32>>, space: &Space, test: &J
     }
 }
 
-/// Whether a test passes at a place of the first tree with each place of a second that scenarios of a space come to. The
-/// space is changed on the way, and is as before where it does.
+/// Whether a test passes at a place of the first tree with each place of a second that scenarios of a space come to.
+/// The space is changed on the way, and is as before if the test passes with each.
 fn do_pass_at<J: PairTest>(
     first: Option<u32>,
     second: &Node<Option<u32>>,
@@ -129,8 +129,8 @@ fn do_pass_at<J: PairTest>(
     do_pass_each(second, space, &beside)
 }
 
-/// Whether a test passes at each two places that scenarios of a space come to in two trees: the second is walked down with
-/// the first. The space is changed on the way, and is as before where it does.
+/// Whether a test passes at each two places that scenarios of a space come to in two trees. The second is walked down
+/// with the first. The space is changed on the way, and is as before if the test passes at each two.
 fn do_pass_both<J: PairTest>(
     first: &Node<Option<u32>>,
     second: &Node<Option<u32>>,

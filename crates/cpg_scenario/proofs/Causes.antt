@@ -289,6 +289,7 @@ module _ (g : Graph) (ms : Members) where
   passes : (cause : Cause) → (IsIn g (Some ms) cause → ⊥) → test cause ≡ true
   passes cause none = true_from_ne_false (test cause) (λ e. none ((fails cause).0 e))
 
+-- a document is rejected for its first cause, and played if there is none
 abbrev Judged : Graph → Option Members → Type 0
 Judged g document =
     ((cause : Cause) → played_if g document ≡ Err (Bad cause) ↔ (IsIn g document cause × ((other : Cause) → place_of other < place_of cause → IsIn g document other → ⊥)))

@@ -104,7 +104,7 @@ fn place_from(literals: &[Literal], from: usize, variable: u8) -> usize {
     literals.len()
 }
 
-/// Whether the literal at a place does.
+/// Whether the literal at a place bounds the variable of a wanted one at least as closely.
 fn tells_there(literals: &[Literal], at: usize, wanted: &Literal) -> bool
     ensures { OnTrue result (IsToldIn literals.now wanted.now) }
 {
@@ -114,14 +114,14 @@ fn tells_there(literals: &[Literal], at: usize, wanted: &Literal) -> bool
     }
 }
 
-/// Whether one of these literals, by rising variable, does.
+/// Whether one of these literals, by rising variable, bounds the variable of a wanted one at least as closely.
 fn tells(literals: &[Literal], wanted: &Literal) -> bool
     ensures { OnTrue result (IsToldIn literals.now wanted.now) }
 {
     tells_there(literals, place_of(literals, wanted.variable), wanted)
 }
 
-/// Whether the literals of the column at a place do.
+/// Whether a literal of the column at a place bounds the variable of a wanted one at least as closely.
 fn tells_at(columns: &[Entry], place: u32, wanted: &Literal) -> bool
     ensures { OnTrue result (IsToldIn (column_at columns.now place).cube wanted.now) }
 {
@@ -131,7 +131,7 @@ fn tells_at(columns: &[Entry], place: u32, wanted: &Literal) -> bool
     }
 }
 
-/// Whether those of the column at each of these places do.
+/// Whether the column at each of these places has a literal that bounds the variable of a wanted one at least as closely.
 fn tell_at_all(columns: &[Entry], places: &[u32], wanted: &Literal) -> bool
     ensures { OnTrue result (All (λ i. IsToldIn (column_at columns.now i).cube wanted.now) places.now) }
 {

@@ -16,9 +16,9 @@ use cpg_tree::Tally;
 use std::alloc::Global;
 use std::marker::Model;
 
-/// How many times places are parted at most.
+/// The most times that places are parted.
 const DEPTH: u32 = 160;
-/// So many places aren't parted.
+/// A list of at most this many places isn't parted.
 const FEW: usize = 24;
 /// How many places are looked at to choose a cut.
 const SAMPLE: usize = 8;
@@ -119,7 +119,7 @@ struct Cut {
     most: u8,
 }
 
-/// Whether a cut parts so many places of which so many go below and so many above, with few on both sides.
+/// Whether a cut parts `all` places, with few on both sides, if `below` of them go below it and `above` of them above it.
 fn is_parted(all: usize, below: usize, above: usize) -> bool {
     if below >= all {
         return false;
@@ -334,7 +334,7 @@ fn sides_of(
     Ok(sides)
 }
 
-/// These places, parted so many times at most.
+/// These places, parted at most `depth` times.
 fn sifted(
     alloc: Global,
     columns: &[Entry],
