@@ -19,7 +19,7 @@ is_excluded until (Some logged) time = not (time == logged)
 abbrev pub excluded_cubes : ℕ → Option ℕ → List Column → List (List Literal)
 excluded_cubes until logged columns = map (λ c. c.cube) (filter (λ c. is_excluded until logged c.time) columns)
 
--- those of an item
+-- the cubes of an item's columns whose times a log excludes
 abbrev pub excluded_of : List NodeTable → Log → ℕ → List (List Literal)
 excluded_of tables log x = excluded_cubes log.until (logged_time log.acts x) (columns_of tables x)
 

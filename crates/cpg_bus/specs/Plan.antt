@@ -28,7 +28,7 @@ pub record PlanState : Type 0 where
   pub shares : List (Option ShareState)
   pub turn : ℕ
 
--- that of a graph
+-- the edges, queues, shares and round of a graph
 abbrev pub plan_of : Graph → PlanState
 plan_of g = record {
   links = links_of g;

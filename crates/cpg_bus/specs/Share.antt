@@ -21,7 +21,7 @@ pub record IsShare (s : ShareState) : Type 0 where
   pub inside : s.offset + s.length ≤ s.round
   pub short : s.round ≤ 16000000000
 
--- that of a node
+-- the start and the length of a node's slot, and the length of the round
 abbrev pub share_of : Graph → ℕ → ShareState
 share_of g node = record { offset = offset g node; length = slot_length g node; round = round g }
 

@@ -8,8 +8,8 @@ use Rattle.cpg_expand.specs.Agreeing.{IsTree}
 use Rattle.cpg_expand.specs.declared.forest.Ready.{Ready}
 use Rattle.cpg_expand.specs.declared.forest.Ready.TheVariants.{After, At}
 
--- of the times of each item, of the ends of each process, and by node from when on it is ready and its slots are free; and the item to
--- name where one on the way has too many leaves
+-- the trees of the times of each item, of the ends of each process, and by node from when on it is ready and its
+-- slots are free; and the item to name if one on the way has too many leaves
 pub record ForestState : Type 0 where
   pub times : List (TreeState (Option ℕ))
   pub ends : List (TreeState (Option ℕ))

@@ -55,7 +55,7 @@ abbrev pub IsPeakBy : Graph → List ℕ → ℕ → (ℕ → ℕ → Scenario �
 IsPeakBy g urgency n has peak None = IsNoPeak g n has peak
 IsPeakBy g urgency n has peak (Some p) = IsPeakOf g urgency n has peak p
 
--- of the first n processes
+-- the peak of the first n processes, if one of them has a time
 abbrev pub IsPeak : Graph → List ℕ → ℕ → (ℕ → ℕ → Scenario → Type 0) → Peak → Type 0
 IsPeak g urgency n has peak = IsPeakBy g urgency n has peak peak.process
 

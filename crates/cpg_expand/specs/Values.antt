@@ -22,7 +22,7 @@ abbrev pub slot_at : ShareState → Option ℕ → ℕ
 slot_at share None = 0
 slot_at share (Some time) = if nat_lt time (2 ^ 59) then next_of share time else 0
 
--- and the slot where one is asked for
+-- the slot, if a time is asked for that is less than 2 ^ 59
 abbrev pub slot_if : ℕ → Option ℕ → Option ℕ
 slot_if slot None = None
 slot_if slot (Some time) = if nat_lt time (2 ^ 59) then Some slot else None

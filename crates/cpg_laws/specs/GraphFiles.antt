@@ -109,7 +109,7 @@ elements ms key = unwrap_or (option_and_then as_tables (value_at (top_of ms) key
 abbrev pub bad_elements : Table → List Field → List Members → List ReadFault
 bad_elements table fields members = of_each (λ i ms. bad_in fields (record { table = table; index = i; members = ms })) 0 members
 
--- of the whole document: first the keys of the top, then each element of each list
+-- the bad fields of the whole document: first those of the top, then those of each element of each list
 abbrev pub field_faults : Members → List ReadFault
 field_faults ms = bad_in top_fields (top_of ms)
     ++ (bad_elements tables.Node node_fields (elements ms Node)
@@ -154,14 +154,14 @@ abbrev pub differ_from : List (List ℕ) → List (List ℕ) → Bool
 differ_from earlier [] = true
 differ_from earlier (name ∷ names) = not (list_any (bytes_eq name) earlier) && differ_from (earlier ++ name ∷ []) names
 
--- the names of the order have one place
+-- the place of all names of the order
 abbrev pub order_place : Place
 order_place = place tables.Top 0 Order
 
 abbrev pub order_doubles : List (List ℕ) → List ReadFault
 order_doubles order = unless (differ_from [] order) (DoubleName order_place)
 
--- those of nodes, slots and processes, and then that of the order
+-- the names that stand twice: those of nodes, slots and processes, and then that of the order
 abbrev pub double_faults : RawGraph → List ReadFault
 double_faults g = doubles_from tables.Node Name 0 [] g.nodes
     ++ (doubles_from tables.Slot Node 0 [] (slot_names g.slots)

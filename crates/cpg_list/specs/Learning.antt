@@ -20,7 +20,7 @@ pub record RowTells (g : Graph) (rows : List (List Column)) (s : Scenario) (t : 
   pub times : times_in (row_at rows x) s ≡ option_to_list (get_or t.times x None)
   pub within : AreWithin g.faults (row_at rows x)
 
--- those of each item from an earlier process than this
+-- each item from an earlier process than this has such a row
 abbrev pub EarlierTell : Graph → List ℕ → List (List Column) → Scenario → Times → ℕ → Type 0
 EarlierTell g order rows s t p = (x : ℕ) → x < item_count g → place order (producer g x) < place order p → RowTells g rows s t x
 

@@ -11,6 +11,6 @@ low_of l = l.low
 abbrev pub demand_of : Column → ℕ
 demand_of c = (c.time * 256 % 2 ^ 64 + sum_by low_of c.cube % 256) % 2 ^ 64
 
--- those of one time are equal
+-- the numbers that have the same time are equal
 abbrev pub AgreeByTime : List ℕ → Type 0
 AgreeByTime demands = (m n : ℕ) → Contains demands m → Contains demands n → m / 256 ≡ n / 256 → m ≡ n

@@ -22,7 +22,7 @@ are_reading steps p = list_any (reads p) steps
 abbrev pub is_rested : Aim → Step → List Step → Bool
 is_rested aim step later = is_aim aim step || are_reading later step.process
 
--- of these steps those that the walk rests on
+-- those of these steps that the walk rests on
 abbrev pub rested : Aim → List Step → List Step
 rested aim [] = []
 rested aim (step ∷ steps) = if is_rested aim step (rested aim steps) then step ∷ rested aim steps else rested aim steps

@@ -67,7 +67,7 @@ pub record Extends (before after : Sharing) : Type 0 where
   pub longer : length before.parts ≤ length after.parts
   pub same : (n : ℕ) → n < length before.parts → tree_at after.parts n ≡ tree_at before.parts n
 
--- and this one has the tree
+-- parts that are there stay, and this one has the tree
 pub record Makes (before after : Sharing) (tree : Guard) (n : ℕ) : Type 0 where
   pub more : Extends before after
   pub within : n < length after.parts
@@ -77,7 +77,7 @@ pub record Makes (before after : Sharing) (tree : Guard) (n : ℕ) : Type 0 wher
 abbrev pub trees_of : List Part → List ℕ → List Guard
 trees_of parts roots = map (tree_at parts) roots
 
--- so many processes have parts that are there
+-- the roots of this many processes are numbers of parts
 pub record AreRoots (parts : List Part) (count : ℕ) (roots : List ℕ) : Type 0 where
   pub all : length roots ≡ count
   pub within : All (λ n. n < length parts) roots

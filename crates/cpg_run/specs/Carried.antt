@@ -78,6 +78,6 @@ carried_by_item g order rows s x (Start p) = carried_at_start g order rows s p
 carried_by_item g order rows s x (Message e) = carried_at_send g order rows s x
 carried_by_item g order rows s x (Broadcast c) = carried_at_send g order rows s x
 
--- that of the item of a number
+-- what is carried beside the time of the item that has this number
 abbrev pub carried : Graph → List ℕ → List (List Column) → Scenario → ℕ → List Literal
 carried g order rows s x = carried_by_item g order rows s x (item_at g x)

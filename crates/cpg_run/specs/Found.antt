@@ -49,12 +49,12 @@ abbrev pub FoundRowsFit : Type 0
 FoundRowsFit = (g : Graph) (urgency order : List ℕ) (frozen : List (Option ℕ)) (rows : List Row) → IsWithinLimits g → Admitted g urgency order →
     AreRowsFound g urgency order frozen rows → NoneIsTooWide g order → DoRowsFit g rows
 
--- if they fit, they can be written
+-- such rows can be written if they fit
 abbrev pub FoundRowsAreWritable : Type 0
 FoundRowsAreWritable = (g : Graph) (urgency order : List ℕ) (frozen : List (Option ℕ)) (rows : List Row) → IsWithinLimits g → Admitted g urgency order →
     AreRowsFound g urgency order frozen rows → DoRowsFit g rows → AreWritable g rows
 
--- and a builder answers with such tables
+-- such tables are what a builder answers with
 abbrev pub FoundTablesAreBuilt : Type 0
 FoundTablesAreBuilt = (g : Graph) (urgency order : List ℕ) (rows : List Row) (b : Built) → IsWithinLimits g → Admitted g urgency order →
     AreTablesFound g urgency order rows b → IsBuiltFor g urgency order b

@@ -36,7 +36,7 @@ has_own g node x = (home g x == node) && (nat_lt x (process_count g) || is_sent 
 abbrev pub own_rows : Graph → ℕ → List Row → List Row
 own_rows g node rows = filter (λ row. has_own g node row.item) rows
 
--- and the others
+-- the rows of what a node neither starts nor sends
 abbrev pub other_rows : Graph → ℕ → List Row → List Row
 other_rows g node rows = filter (λ row. not (has_own g node row.item)) rows
 

@@ -18,7 +18,7 @@ use Rattle.cpg_tracks.specs.Track.{IsTrackOf, AreBy}
 abbrev pub outcome_of : Timing → List Bool
 outcome_of t = t.track.now.outcome
 
--- of an admitted graph: the edges of each process, which of them are live, how long executions with all the faults take, and how long a message
+-- an admitted graph has these edges of each process, live edges, durations of executions with all the faults, and round
 pub record IsTiming (g : Graph) (t : Timing) : Type 0 where
   pub limits : IsWithinLimits g
   pub well_formed : WellFormed g
