@@ -4,7 +4,7 @@ use Rattle.std.specs.List.{list_any}
 use Rattle.cpg_base.specs.Graph.{Graph, node_of}
 use Rattle.cpg_base.specs.Numbers.{numbers_below}
 
--- the first place of a process in an order, or 0 where it is not in it
+-- the first place of a process in an order, or 0 if it is not in it
 abbrev pub place : List ℕ → ℕ → ℕ
 place order p = unwrap_or (position (λ q. q == p) order) 0
 

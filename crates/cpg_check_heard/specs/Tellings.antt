@@ -62,7 +62,7 @@ item_telling g x (Broadcast c) = Frame (slot_length g (home g x)) (Some c)
 abbrev pub telling_of : Graph → ℕ → Telling
 telling_of g x = item_telling g x (item_at g x)
 
--- a cube for the scenarios that pass a test, and none where none passes
+-- a cube for the scenarios that pass a test, and none if none passes
 abbrev pub IsPart : Graph → (Scenario → Bool) → Option (List Literal) → Type 0
 IsPart g test None = (s : Scenario) → IsScenario g s → test s ≡ false
 IsPart g test (Some cube) = (s : Scenario) → IsScenario g s → matches cube s ≡ test s

@@ -179,7 +179,7 @@ impl Buffer {
         Ok(())
     }
 
-    /// Adds a piece, and writes the buffer whole where that makes it full.
+    /// Adds a piece, and writes the buffer whole if that makes it full.
     pub fn put<O: Sink>(&mut self, sink: &mut O, piece: &[u8]) -> Result<(), Failed>
         requires { length piece.now ≤ 65536 }
         ensures put { Puts (O.state sink.old).taken (O.state sink.new).taken self.old self.new result piece.now }

@@ -32,7 +32,7 @@ fn flag_end(ones: u32) -> u8
     }
 }
 
-/// The node of a process, and its condition flag, where `ones` processes before have a condition; field by field.
+/// The node of a process, and its condition flag, if `ones` processes before have a condition; field by field.
 #[tactic(auto, unfolding(crate::specs::Grammar::place_at))]
 fn place_by_fields(bytes: &[u8], nodes: u8, ones: u32) -> Result<(u8, u8, &[u8]), ReadError>
     requires { 0 < nodes }
@@ -49,7 +49,7 @@ fn are_within(node: u8, flag: u8, nodes: u8, ones: u32) -> bool
     node < nodes && flag <= flag_end(ones)
 }
 
-/// The node of a process, and its condition flag, where `ones` processes before have a condition.
+/// The node of a process, and its condition flag, if `ones` processes before have a condition.
 fn place_of(bytes: &[u8], nodes: u8, ones: u32) -> Result<(u8, u8, &[u8]), ReadError>
     requires { 0 < nodes }
     ensures { Gives (λ x. ((x.0, x.1), x.2.now)) result (place_at nodes ones bytes.now) }

@@ -198,7 +198,7 @@ fn take_row<'a>(
     Ok((Row::new(item, columns), rest))
 }
 
-/// A lawful row, where `before` columns were read before, and how many were read up to its end.
+/// A lawful row, if `before` columns were read before, and how many were read up to its end.
 pub fn take_lawful<'a>(
     alloc: Global,
     held: &mut Vec<Literal>,

@@ -69,7 +69,7 @@ pub record AreMore (cube : List Literal) (marks later : List Bool) : Type 0 wher
 abbrev pub beyond : List ℕ → (ℕ → ℕ) → ℕ → ℕ
 beyond low s v = s v - get_or low v 0
 
--- the numbers are not below the lows, and a literal holds where it has all numbers that its variable has with so many faults left
+-- the numbers are not below the lows, and a literal holds if it has all numbers that its variable has with so many faults left
 pub record IsOn (low high : List ℕ) (left : ℕ) (s : ℕ → ℕ) : Type 0 where
   pub lows : (v : ℕ) → get_or low v 0 ≤ s v
   pub spanned : (l : Literal) → spans low high left l ≡ true → holds_at s l ≡ true

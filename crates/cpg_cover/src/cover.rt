@@ -22,7 +22,7 @@ use cpg_base::{Order, OutOfMemory, Problem, Scenario, is_before, top};
 use cpg_cube::{Bounds, Cube, Literal, budget_left, variables_along};
 use std::alloc::Global;
 
-/// The earlier of two scenarios, where there are two.
+/// The earlier of two scenarios, if there are two.
 pub fn earlier(
     problem: &Problem,
     order: &Order,
@@ -452,7 +452,7 @@ fn left_along(
     Ok(found)
 }
 
-/// The least scenario along an order that a cube matches and no cube of a list does; `None` exactly where every
+/// The least scenario along an order that a cube matches and no cube of a list does; `None` exactly if every
 /// scenario within the problem's faults that matches the cube matches one of the list.
 pub fn uncovered(
     alloc: Global,
@@ -487,7 +487,7 @@ fn lent<'a>(alloc: Global, by: &'a [Cube]) -> Result<Vec<&'a Cube>, OutOfMemory>
     Ok(cubes)
 }
 
-/// Whether a list covers a cube: `None` exactly where every scenario within the problem's faults that matches the cube
+/// Whether a list covers a cube: `None` exactly if every scenario within the problem's faults that matches the cube
 /// matches one of the list, and else the least along the order that doesn't.
 pub fn covers(
     alloc: Global,

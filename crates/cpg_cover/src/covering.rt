@@ -51,7 +51,7 @@ impl Ground {
         })
     }
 
-    /// What literals ask beyond the lows, but for those that hold everywhere; `None` where one can't hold.
+    /// What literals ask beyond the lows, but for those that hold everywhere; `None` if one can't hold.
     fn asked(
         &self,
         alloc: Global,

@@ -159,7 +159,7 @@ fn put_lows_of(
     Ok(())
 }
 
-/// The same, at once where all begin at 0.
+/// The same, at once if all begin at 0.
 fn put_block(
     places: &[u16; VARIABLES],
     literals: &[Literal; BLOCK],
@@ -257,7 +257,7 @@ struct Placed {
     place: usize,
 }
 
-/// The first of two, or the second one where its key is before that of the first.
+/// The first of two, or the second one if its key is before that of the first.
 fn lesser(first: Placed, second: Placed) -> Placed
     ensures { result ≡ (if is_below second.key.items first.key.items then second else first) }
 {
@@ -293,7 +293,7 @@ fn first_by_key<T: Cubed>(
 }
 
 /// The place of the column with the least scenario along the order: no column has the lows of its cube before those of
-/// this one's. `None` exactly where there is no column. The one error is want of memory.
+/// this one's. `None` exactly if there is no column. The one error is want of memory.
 pub fn first_by_least_scenario<T: Cubed>(
     alloc: Global,
     problem: &Problem,

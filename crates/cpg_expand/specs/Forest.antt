@@ -47,7 +47,7 @@ times_of g f x = get_or f.times x (no_tree g.faults)
 abbrev pub ends_of : Graph → ForestState → ℕ → TreeState (Option ℕ)
 ends_of g f p = get_or f.ends p (no_tree g.faults)
 
--- the times of a tree, 0 where there are none
+-- the times of a tree, 0 if there are none
 abbrev pub later_tree : TreeState (Option ℕ) → TreeState ℕ
 later_tree t = later_by 0 t
 

@@ -41,7 +41,7 @@ pub record IsFreeLine (g : Graph) (order : List ℕ) (rows : List (List Column))
   pub tells : Tells s (flat_map (queued g order rows s) (sent_before g order i node)) time tree
 
 -- in one scenario with its run the trees tell the times and ends before the place i, and when nodes are ready there and slots are free,
--- where that is waited for
+-- if that is waited for
 pub record Lines (g : Graph) (order : List ℕ) (rows : List (List Column)) (s : Scenario) (t : Times) (i : ℕ) (f : ForestState) : Type 0 where
   pub times : (x : ℕ) → x < item_count g → place order (producer g x) < i → Tells s (carried g order rows s x) (get_or t.times x None) (times_of g f x)
   pub ends : (q : ℕ) → q < process_count g → place order q < i → Tells s (carried_at_end g order rows s q) (get_or t.ends q None) (ends_of g f q)

@@ -99,14 +99,14 @@ IsLargeLeft g order p f = HasLargeSend g p f ⊎ HasLargeFree g order (place ord
 
 -- ---- along an order
 
--- where trees are grown up to the place i: of the times of an item of an earlier process, of when the slots of a node are free, or of
--- what the process there begins with
+-- a tree has too many leaves when the trees are grown up to the place i: that of the times of an item of an earlier
+-- process, that of when the slots of a node are free, or one on the way to the start and the end of the process there
 abbrev pub IsLargeAt : Graph → List ℕ → Guards → ℕ → ForestState → Type 0
 IsLargeAt g order guards i f = ((x : ℕ) × (x < item_count g) × IsEarlier g order i x × IsLarge (times_of g f x))
     ⊎ (((node : ℕ) × (node < length g.nodes) × HasLargeFree g order i node f)
     ⊎ ((p : ℕ) × (p < process_count g) × (place order p ≡ i) × IsLargeBegun g order guards p f))
 
--- somewhere along the order
+-- a tree has too many leaves somewhere along the order
 pub record HasLargeTree (g : Graph) (urgency order : List ℕ) : Type 0 where
   pub guards : Guards
   pub are : AreGuardsOf g urgency guards

@@ -20,7 +20,7 @@ pub record AreMergedOf (g : Graph) (urgency : List ℕ) (t : TreeState (Option �
   pub are : AreListedOf g t columns
   pub merge : IsMergeOf g urgency columns entries
 
--- the row of an item, merged where it is a start
+-- the row of an item, merged if it is a start
 pub record IsRowOf (g : Graph) (urgency : List ℕ) (t : TreeState (Option ℕ)) (x : ℕ) (row : Row) : Type 0 where
   pub item : row.item ≡ x
   pub start : x < process_count g → AreMergedOf g urgency t row.columns

@@ -77,7 +77,7 @@ pub record IsSamePeak (paths : List (Path (Option ℕ))) (old new : Peak) : Type
   pub none : All (λ p. p.1 ≡ None) paths
   pub same : new ≡ old
 
--- the greatest time, where it goes before the peak
+-- the greatest time, if it goes before the peak
 pub record IsLaterPeak (g : Graph) (urgency : List ℕ) (paths : List (Path (Option ℕ))) (p : ℕ) (old new : Peak) : Type 0 where
   pub time : ℕ
   pub scenario : Scenario

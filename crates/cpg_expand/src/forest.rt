@@ -35,7 +35,7 @@ pub(crate) struct Forest {
     pub(crate) ends: Vec<Tree<Option<u64>>>,
     pub(crate) ready: Vec<Ready>,
     pub(crate) free: Vec<Tree<u64>>,
-    /// The item to name where a tree on the way has too many leaves; `None` where they aren't counted.
+    /// The item to name if a tree on the way has too many leaves; `None` if they aren't counted.
     pub(crate) wide: Option<u32>,
 }
 
@@ -122,7 +122,7 @@ impl Forest {
         self.times
     }
 
-    /// The ends of a process, 0 where it isn't active. The contract alone names `problem`.
+    /// The ends of a process, 0 if it isn't active. The contract alone names `problem`.
     pub(crate) fn end_there(
         &self,
         problem: &Problem,
@@ -288,7 +288,7 @@ impl Forest {
         Ok(start)
     }
 
-    /// Where a process is active, its starts on a node once it is ready and a frame is there, and at a release or later.
+    /// If a process is active, its starts on a node once it is ready and a frame is there, and at a release or later.
     fn started_by_frame_where(
         &self,
         problem: &Problem,
@@ -320,7 +320,7 @@ impl Forest {
         }
     }
 
-    /// Where a process is active, its starts on a node once it is ready and an input from another node is there, and at a
+    /// If a process is active, its starts on a node once it is ready and an input from another node is there, and at a
     /// release or later.
     pub(crate) fn started_by_input_where(
         &self,
@@ -370,7 +370,7 @@ impl Forest {
         }
     }
 
-    /// Where a process is active, its starts on a node once it is ready and at a release or later.
+    /// If a process is active, its starts on a node once it is ready and at a release or later.
     pub(crate) fn started_where(
         &self,
         problem: &Problem,

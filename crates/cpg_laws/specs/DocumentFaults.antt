@@ -166,8 +166,8 @@ IsFaultIn (Some ms) fault = IsFaultOf ms fault
 abbrev pub IsFaulty : List ℕ → ReadFault → Type 0
 IsFaulty bytes fault = IsFaultIn (document bytes) fault
 
--- The faults of a graph file are those of its document. It is refused with a fault exactly where that is the first of them, of which
--- there is one at most, and read as a graph exactly where nothing is faulty.
+-- The faults of a graph file are those of its document. It is refused with a fault exactly if that is the first of them, of which
+-- there is one at most, and read as a graph exactly if nothing is faulty.
 pub record IsRefusedByDocument (bytes : List ℕ) : Type 0 where
   pub faults : (fault : ReadFault) → Contains (faults_of bytes) fault ↔ IsFaulty bytes fault
   pub first : (fault : ReadFault) → (problem_of bytes ≡ Err fault) ↔ IsFirstOf (IsFaulty bytes) fault

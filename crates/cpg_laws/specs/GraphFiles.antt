@@ -21,7 +21,7 @@ use Rattle.cpg_reader.specs.Ranges.{top_numbers, slot_numbers, process_numbers, 
 use Rattle.cpg_reader.specs.Names.{place, slot_names, process_names}
 use Rattle.cpg_reader.specs.Document.{document_of, problem_of}
 
--- a fault, where something isn't so
+-- a fault, if something isn't so
 abbrev pub unless : Bool → ReadFault → List ReadFault
 unless b fault = if b then [] else fault ∷ []
 
@@ -190,12 +190,12 @@ unknown_faults g = of_each (λ i s. unknown g.nodes s.node tables.Slot i Node) 0
 
 -- ---- all
 
--- what a document says is judged further where its fields are good
+-- what a document says is judged further if its fields are good
 abbrev pub graph_faults : Reading RawGraph → List ReadFault
 graph_faults (Err fault) = []
 graph_faults (Ok g) = limit_faults g ++ (double_faults g ++ unknown_faults g)
 
--- a document is judged where the bytes are one
+-- a document is judged if the bytes are one
 abbrev pub document_faults : Reading Members → List ReadFault
 document_faults (Err fault) = fault ∷ []
 document_faults (Ok ms) = field_faults ms ++ graph_faults (raw_graph_at ms)
@@ -203,7 +203,7 @@ document_faults (Ok ms) = field_faults ms ++ graph_faults (raw_graph_at ms)
 abbrev pub faults_of : List ℕ → List ReadFault
 faults_of bytes = document_faults (document_of bytes)
 
--- a reading is refused by the first of these faults, and where there are none it gives something
+-- a reading is refused by the first of these faults, and if there are none it gives something
 abbrev pub IsFirst : {T : Type 0} → List ReadFault → Reading T → Type 0
 IsFirst {T} [] reading = (x : T) × (reading ≡ Ok x)
 IsFirst (fault ∷ faults) reading = reading ≡ Err fault

@@ -114,7 +114,7 @@ pub record IsFirstOf (Stands : ReadFault → Type 0) (fault : ReadFault) : Type 
 abbrev pub IsFirstRefusal : List ℕ → ReadFault → Type 0
 IsFirstRefusal bytes fault = IsFirstOf (Contains (faults_of bytes)) fault
 
--- a graph file is refused with a fault exactly where that is its first one, and no two of its faults stand at one place
+-- a graph file is refused with a fault exactly if that is its first one, and no two of its faults stand at one place
 pub record RefusesFirst (bytes : List ℕ) : Type 0 where
   pub first : (fault : ReadFault) → (problem_of bytes ≡ Err fault) ↔ IsFirstRefusal bytes fault
   pub rise : AllPairs ComesBefore (faults_of bytes)

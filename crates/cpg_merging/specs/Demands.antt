@@ -1,4 +1,5 @@
--- How much a column asks above 0 in all, after its time: where two columns touch they have one time, and the later one asks more.
+-- How much a column asks above 0 in all, after its time: if two columns touch, they have one time, and the later one
+-- asks more.
 use Rattle.std.specs.Prelude.{ℕ, ◌+◌, ◌*◌, ◌/◌, ◌^◌, ◌%◌, ◌≡◌, List, sum_by, Contains}
 use Rattle.cpg_cube.specs.declared.literal.Literal.{Literal}
 use Rattle.cpg_cube.specs.Column.{Column}

@@ -1,4 +1,4 @@
--- Numbers of columns, each a sum over its literals, by which it is found whether any two of a row touch: where two do, the later
+-- Numbers of columns, each a sum over its literals, by which it is found whether any two of a row touch: if two do, the later
 -- one's sum with one literal changed is the sum of the other.
 use Rattle.std.specs.Prelude.{ℕ, ◌+◌, ◌-◌, ◌*◌, ◌/◌, ◌^◌, ◌%◌, ◌<◌, ◌≤◌, ◌≡◌, Bool, true, false, List, length, get_or, sum_by, Contains}
 use Rattle.cpg_base.specs.Graph.{Graph, IsVariable}

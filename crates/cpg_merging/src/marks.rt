@@ -39,7 +39,7 @@ fn mark_each(sums: Sums<'_>, total: u64, literals: &[Literal], marks: &mut [bool
     }
 }
 
-/// The same, at once where all begin at 0.
+/// The same, at once if all begin at 0.
 fn mark_block(
     sums: Sums<'_>,
     total: u64,

@@ -100,7 +100,7 @@ fn most_in(
     }
 }
 
-/// The greatest number in a scenario in which another tree is true; `None` exactly where there is none.
+/// The greatest number in a scenario in which another tree is true; `None` exactly if there is none.
 pub fn most_where(tree: &Tree<Option<u64>>, wanted: &Tree<bool>) -> Option<u64>
     requires same { tree.now.faults ≡ wanted.now.faults }
     ensures none { IfNone result (IsNowhere tree.now wanted.now) }

@@ -39,7 +39,7 @@ pub record IsKept (fits : Scenario → Type 0) (place : ℕ) (before now : List 
   pub earlier : (i : ℕ) → Contains (places_of before) i → Contains (places_of now) i
   pub this : (s : Scenario) → fits s → Contains (places_of now) place
 
--- where literals match, the number of a variable is in what they say of it: a high of 255 says nothing
+-- if literals match, the number of a variable is in what they say of it: a high of 255 says nothing
 pub record IsSaid (literals : List Literal) (v : ℕ) (said : Said) : Type 0 where
   pub low : (s : Scenario) → matches literals s ≡ true → said.low ≤ number_of s v
   pub high : (s : Scenario) → matches literals s ≡ true → said.high < 255 → number_of s v ≤ said.high

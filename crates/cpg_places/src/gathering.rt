@@ -22,8 +22,8 @@ fn add_place(place: Option<u32>, found: &mut Vec<u32>) -> Result<bool, OutOfMemo
     Ok(true)
 }
 
-/// Adds the places that scenarios of a space come to, as long as there is one and a test passes at each; false where it
-/// stopped before the last. The space is changed on the way, and is as before where it didn't stop.
+/// Adds the places that scenarios of a space come to, as long as there is one and a test passes at each; false if it
+/// stopped before the last. The space is changed on the way, and is as before if it didn't stop.
 fn gather_each<J: Test>(
     node: &Node<Option<u32>>,
     space: &mut Space,
@@ -107,7 +107,7 @@ fn gather_one<J: Test>(
     Ok(there)
 }
 
-/// Adds the places that scenarios of a space come to, as long as there is one and a test passes at each; false where it
+/// Adds the places that scenarios of a space come to, as long as there is one and a test passes at each; false if it
 /// stopped before the last.
 pub(crate) fn gather<J: Test>(
     node: &Node<Option<u32>>,

@@ -223,7 +223,7 @@ fn held_at(space: &Space, literals: &[Literal], held: u16, variable: u8) -> u16 
     }
 }
 
-/// How many of the first literals hold where a variable is in this range, so many being known to in the whole space.
+/// How many of the first literals hold if a variable is in this range, so many being known to in the whole space.
 fn held_with(held: u16, said: Said, least: u8, greatest: u8) -> u16 {
     if said.is_first && said.low <= least && greatest <= said.high {
         held.saturating_add(1)
@@ -349,7 +349,7 @@ fn span_of(space: &Space, cut: Cut) -> Span
     }
 }
 
-/// The places whose cubes some scenario of each side of a fork may match. The space is as before where it answers.
+/// The places whose cubes some scenario of each side of a fork may match. The space is as before if it answers.
 fn parted(
     alloc: Global,
     space: &mut Space,
@@ -498,7 +498,7 @@ fn top_of(space: &Space, cubes: &[&Cube], spots: &[Spot], tally: &mut Tally) -> 
     Top::Leaf(Some(first.place))
 }
 
-/// How many more nodes there may be where a fork parts so many places: each that goes to both sides counts as one.
+/// How many more nodes there may be if a fork parts so many places: each that goes to both sides counts as one.
 fn left_after(left: u32, count: usize, sides: &Sides) -> u32
     ensures { result ≤ left }
 {
@@ -507,7 +507,7 @@ fn left_after(left: u32, count: usize, sides: &Sides) -> u32
     left.saturating_sub(shared as u32)
 }
 
-/// The tree of places that a fork parts. The space is as before where there is a tree.
+/// The tree of places that a fork parts. The space is as before if there is a tree.
 #[cycle(sorted)]
 fn forked(
     alloc: Global,
@@ -544,8 +544,8 @@ fn forked(
     }))
 }
 
-/// The tree of these places for the scenarios of a space, with at most so many nodes; `None` where two cubes may match
-/// together, or where there would be more nodes. The space is as before where there is a tree.
+/// The tree of these places for the scenarios of a space, with at most so many nodes; `None` if two cubes may match
+/// together, or if there would be more nodes. The space is as before if there is a tree.
 #[cycle(sorted)]
 fn sorted_out(
     alloc: Global,
@@ -702,7 +702,7 @@ impl Places {
         do_pass_with(&self.root, &other.root, space, test)
     }
 
-    /// Adds the places that scenarios of a space come to, as long as there is one and a test passes at each; false where it
+    /// Adds the places that scenarios of a space come to, as long as there is one and a test passes at each; false if it
     /// stopped before the last.
     pub fn gather<J: Test>(
         &self,

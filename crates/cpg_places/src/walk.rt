@@ -7,7 +7,7 @@ ghost use Rattle.cpg_tree.specs.Decision.{value_at};
 
 use cpg_tree::{Node, Space};
 
-/// A test of the places that scenarios come to: what it tells where it passes.
+/// A test of the places that scenarios come to: what it tells if it passes.
 pub trait Test {
     ghost tells: { Self → Option ℕ → Scenario → Type 0 };
 
@@ -16,7 +16,7 @@ pub trait Test {
         ensures { OnTrue result ((s : Scenario) → Lies space.now s → tells self.now place s) };
 }
 
-/// A test of the places that scenarios come to in two trees: what it tells where it passes.
+/// A test of the places that scenarios come to in two trees: what it tells if it passes.
 pub trait PairTest {
     ghost tells: { Self → Option ℕ → Option ℕ → Scenario → Type 0 };
 

@@ -28,7 +28,7 @@ pub record IsLeastWide (g : Graph) (order : List ℕ) (x : ℕ) : Type 0 where
 abbrev pub load_by : Graph → List ℕ → ℕ → ℕ
 load_by g reached x = views g reached * rows_of_item g (item_at g x)
 
--- whether an item with this reach is too wide, where the items before it have these loads
+-- whether an item with this reach is too wide, if the items before it have these loads
 abbrev pub is_wide_by : Graph → List ℕ → ℕ → ℕ → Bool
 is_wide_by g reached x loads = nat_lt 0 (rows_of_item g (item_at g x))
     && (nat_lt most_views (views g reached) || nat_lt most_loads (loads + load_by g reached x))

@@ -82,7 +82,7 @@ pub record AreRoots (parts : List Part) (count : ℕ) (roots : List ℕ) : Type 
   pub all : length roots ≡ count
   pub within : All (λ n. n < length parts) roots
 
--- the part has the tree, where there is one
+-- the part has the tree, if there is one
 abbrev pub MakesUnion : Sharing → Sharing → Option Guard → Option ℕ → Type 0
 MakesUnion before after None None = Extends before after
 MakesUnion before after None (Some n) = ⊥

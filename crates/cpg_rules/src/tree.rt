@@ -58,9 +58,9 @@ pub enum GuardTop<'a> {
     Test {
         /// The number of the condition.
         condition: u32,
-        /// The tree where it is false.
+        /// The tree if it is false.
         no: &'a GuardTree,
-        /// The tree where it is true.
+        /// The tree if it is true.
         yes: &'a GuardTree,
     },
 }

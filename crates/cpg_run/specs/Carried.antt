@@ -44,7 +44,7 @@ received g rows s p = flat_map (λ e. if is_message g e then told_by rows s (mes
 abbrev pub executed : Graph → List (List Column) → Scenario → ℕ → List Literal
 executed g rows s p = (if (process_at g p).frozen then [] else received g rows s p) ++ number_known s p ∷ []
 
--- what a node carries on from a process: what decides it, and its execution where it is active
+-- what a node carries on from a process: what decides it, and its execution if it is active
 abbrev pub passed : Graph → List (List Column) → Scenario → ℕ → List Literal
 passed g rows s p = decided g s p ++ heard g rows s p ++ (if active g s.values p then executed g rows s p else [])
 

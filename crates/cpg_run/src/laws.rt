@@ -9,7 +9,7 @@ pub fn carried_rests_on_earlier()
     ensures { CarriedRestsOnEarlier }
 {}
 
-/// Where it holds in another scenario, the item is active there too, at the same time, and the same is carried.
+/// If it holds in another scenario, the item is active there too, at the same time, and the same is carried.
 pub fn carried_decides()
     ensures { CarriedDecides }
 {}
@@ -34,7 +34,7 @@ pub fn listed_rows_carry()
     ensures { ListedRowsCarry }
 {}
 
-/// Rows that carry no more than they may are within the limits of a row and of all rows where no item is too wide.
+/// Rows that carry no more than they may are within the limits of a row and of all rows if no item is too wide.
 pub fn found_rows_fit()
     ensures { FoundRowsFit }
 {}

@@ -60,7 +60,7 @@ fn write_process(
     write_value(out, name, value)
 }
 
-/// `none` where nothing is said.
+/// `none` if nothing is said.
 fn write_none(out: &mut String) -> Result<(), AllocError>
     ensures { OnOk result (string_bytes out.new ≡ or_none (string_bytes out.old)) }
 {
@@ -70,7 +70,7 @@ fn write_none(out: &mut String) -> Result<(), AllocError>
     Ok(())
 }
 
-/// The faults and the true values of a scenario by process number, as `A faults 1, A true`, and `none` where there are
+/// The faults and the true values of a scenario by process number, as `A faults 1, A true`, and `none` if there are
 /// none.
 pub fn scenario_text(
     alloc: Global,

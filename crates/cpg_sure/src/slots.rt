@@ -26,7 +26,7 @@ use cpg_table::Tables;
 use cpg_tree::Space;
 use std::alloc::Global;
 
-/// Whether a node's slot starts at the time of a column, where the column matches.
+/// Whether a node's slot starts at the time of a column, if the column matches.
 fn is_in_slot(problem: &Problem, node: u32, column: &Entry) -> bool
     requires { HasSlot problem.now node }
     ensures { OnTrue result ((s : Scenario) → IsScenario problem.now s → matches column.now.cube s ≡ true →

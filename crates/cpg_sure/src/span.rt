@@ -18,9 +18,9 @@ const COUNTS: usize = MOST_FAULTS as usize + 1;
 pub(crate) struct Span {
     /// The fault count of a process.
     pub(crate) variable: u8,
-    /// Where the variable has this number at most.
+    /// By each number: how long it lasts at most if the variable has no greater one.
     pub(crate) lengths: [u64; COUNTS],
-    /// Whatever number it has.
+    /// How long it lasts at most, whatever number the variable has.
     pub(crate) longest: u64,
 }
 

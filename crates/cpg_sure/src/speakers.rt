@@ -76,7 +76,7 @@ fn is_as_close(literal: &Literal, wanted: &Literal) -> bool
 
 /// Where a variable's literal stands among literals by rising variable, if there is one.
 fn place_of(literals: &[Literal], variable: u8) -> usize {
-    // mostly there: where all variables before have literals too
+    // mostly there: if all variables before have literals too
     if let Some(literal) = literals.get(variable as usize) {
         if literal.variable == variable {
             return variable as usize;
@@ -232,7 +232,8 @@ impl<'a> Speaker<'a> {
         Ok(())
     }
 
-    /// The same, where there is mostly one column.
+    /// Lists the same literals as `leave_each`, with the one column looked up once if there is a single place, as is
+    /// mostly so.
     fn leave(
         &self,
         places: &[u32],
@@ -256,7 +257,7 @@ impl<'a> Speaker<'a> {
     }
 
     /// Lists those of the wanted literals, each as wide as one of a column, that its frames haven't told by the column's time
-    /// wherever that matches, in a space that has all these scenarios; false where it tells none. The places of its own columns
+    /// wherever that matches, in a space that has all these scenarios; false if it tells none. The places of its own columns
     /// that match there are first written to `places`.
     pub(crate) fn tell(
         &self,

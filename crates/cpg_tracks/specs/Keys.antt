@@ -4,7 +4,7 @@ use Rattle.std.specs.List.{flat_map}
 use Rattle.cpg_base.specs.Numbers.{greatest}
 use Rattle.cpg_base.specs.Graph.{Graph, source}
 
--- the latest start of a process, or 0 where it has none
+-- the latest start of a process, or 0 if it has none
 abbrev pub latest : List (List (Option ℕ)) → ℕ → ℕ
 latest schedules p = greatest (flat_map (λ starts. option_to_list (get_or starts p None)) schedules)
 

@@ -141,7 +141,7 @@ impl<T: Copy + Eq> Node<T> {
         }
     }
 
-    /// A fork, or one tree where both sides are equal. Where the side above is a fork on the same variable with an equal
+    /// A fork, or one tree if both sides are equal. If the side above is a fork on the same variable with an equal
     /// side below, the first cut is left out.
     pub(crate) fn fork(
         alloc: Global,

@@ -38,7 +38,7 @@ fn rated(variable: u8, most: u8, count: u32, below: u32, above: u32) -> Parting 
 
 impl Parting {
     /// Whether a fork is better than another: one that no column stands on both sides of, and of such the one that parts
-    /// more evenly. Where columns stand as the leaves of some tree, so do those on each side of such a fork.
+    /// more evenly. If columns stand as the leaves of some tree, so do those on each side of such a fork.
     fn is_better(&self, other: &Parting) -> bool {
         if self.is_shared != other.is_shared {
             return other.is_shared;

@@ -25,7 +25,7 @@ pub fn tuned_last_least()
     ensures { TunedLastLeast }
 {}
 
-/// The faults that are tolerated are the greatest number whose row is accepted, and `None` exactly where no row is.
+/// The faults that are tolerated are the greatest number whose row is accepted, and `None` exactly if no row is.
 pub fn tolerated_is_greatest()
     ensures { ToleratedIsGreatest }
 {}

@@ -28,7 +28,7 @@ pub fn value_literal(condition: u32, value: bool) -> Literal
     }
 }
 
-/// The same where a literal holds too.
+/// The same if a literal holds too.
 #[cycle(activity)]
 fn least_where(
     alloc: Global,

@@ -24,7 +24,7 @@ const FEW: usize = 24;
 const SAMPLE: usize = 8;
 
 /// The places of the columns of a row, parted by whether a variable may be at most a number: seen as a tree of such cuts.
-/// A place stands on both sides where its column may match on both.
+/// A place stands on both sides if its column may match on both.
 #[cycle(sieve)]
 #[derive(Drop)]
 pub struct Sieve {
@@ -90,7 +90,7 @@ fn goes(cube: &Cube, variable: u8, most: u8, below: bool) -> bool
     true
 }
 
-/// Whether the column at a place lets a variable be at most a number, or else above it; not where there is no column.
+/// Whether the column at a place lets a variable be at most a number, or else above it; not if there is no column.
 fn column_goes(columns: &[Entry], place: u32, variable: u8, most: u8, below: bool) -> bool
     ensures { OnFalse result ((s : Scenario) → place < length columns.now → matches (column_at columns.now place).cube s ≡ true →
         nat_le (number_of s variable) most ≡ not below) }
@@ -369,7 +369,7 @@ fn sifted(
     })
 }
 
-/// Whether the column at a place may match some scenario together with a cube; not where there is no column.
+/// Whether the column at a place may match some scenario together with a cube; not if there is no column.
 fn column_may_meet(columns: &[Entry], place: u32, cube: &Cube) -> bool
     ensures { OnFalse result ((s : Scenario) → place < length columns.now → (matches cube.now s && matches (column_at columns.now place).cube s) ≡ false) }
 {
