@@ -136,7 +136,7 @@ fn settled(alloc: Global, problem: &Problem, listing: Listing) -> Result<Listing
 /// whole range of its variable, and the columns stand by the least scenario that they match along the order.
 ///
 /// Each entry must match some scenario, and no scenario two of them; their literals must be on variables of the problem
-/// and within their ranges. The one error is want of memory.
+/// and within their ranges. The one error is `OutOfMemory`.
 pub fn merged(
     alloc: Global,
     problem: &Problem,

@@ -215,7 +215,7 @@ pub fn most(tree: &Tree<Option<u64>>) -> Option<u64>
     most_of(tree.root())
 }
 
-/// The greatest number, with its least scenario; `None` exactly if no scenario has a number. The one error is want of memory.
+/// The greatest number, with its least scenario; `None` exactly if no scenario has a number. The one error is `OutOfMemory`.
 pub fn greatest(
     tree: &Tree<Option<u64>>,
     problem: &Problem,

@@ -24,7 +24,7 @@ pub fn tree_of(
 }
 
 /// For each item the tree of its row, if one is found: for each scenario the place of the one column that matches. The one error
-/// is want of memory.
+/// is `OutOfMemory`.
 pub fn row_trees(
     alloc: Global,
     problem: &Problem,

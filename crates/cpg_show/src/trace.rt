@@ -126,7 +126,7 @@ pub fn finish(problem: &Problem, cluster: &Cluster) -> u64
 /// A line for each start, each message or broadcast and each end that the nodes have come to, then the greatest end in
 /// time units, 0 if there is none. Lines go by time, then by number of the node; then ends come first, sends next and
 /// starts last, each by number of the item. The time of an end is the planned one; if the execution took less, its line
-/// tells the length. The one error is want of memory.
+/// tells the length. The one error is `OutOfMemory`.
 pub fn trace_text(
     alloc: Global,
     admitted: &Admitted,

@@ -155,7 +155,7 @@ impl<T: Copy> Tree<T> {
 
     /// What a function makes in each scenario of the greater number of two trees whose leaves are read as numbers. If one
     /// tree's numbers are at least the other's everywhere, nothing of the other is tested, which no clause asks for. The one
-    /// error is want of memory.
+    /// error is `OutOfMemory`.
     pub fn greater<U: Copy, V: Copy + Eq, R: Reading<T>, S: Reading<U>, F: Fn(u64) -> V>(
         &self,
         read: &R,

@@ -35,7 +35,7 @@ pub fn retuned_keep_rules()
     ensures { RetunedKeepRules }
 {}
 
-/// An admitted graph shows no fault but want of memory with other parts and another fault number.
+/// With other parts and another fault number an admitted graph shows no fault but that memory runs out.
 pub fn retuned_show_no_fault()
     ensures { RetunedShowNoFault }
 {}

@@ -461,8 +461,8 @@ impl Sieve {
         }
     }
 
-    /// Of the row's columns the places among which each is that matches some scenario together with a cube. Some may stand
-    /// there that don't, for want of faults, and some twice.
+    /// The places of a row's columns, among which is each that matches some scenario together with a cube. Some may
+    /// stand there that don't, as the faults don't suffice, and some twice.
     pub fn candidates(
         &self,
         alloc: Global,

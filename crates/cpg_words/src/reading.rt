@@ -23,7 +23,7 @@ fn asked(alloc: Global, name: &str, found: &ArgMatches<'_>) -> Result<Command, W
     command(alloc, name, words, turns)
 }
 
-// If `clap` refuses the words, and not for want of memory, they have no form.
+// If `clap` refuses the words, and memory hasn't run out, they have no form.
 fn fault_of(kind: ErrorKind) -> WordsFault
     ensures { result ≡ WordsFault.Bad ↔ kind ≢ ErrorKind.OutOfMemory }
 {
