@@ -24,7 +24,7 @@ module _ (g : Graph) (tables : List NodeTable) (s : Scenario) (law : IsScenario 
       let there : Contains (take i (columns_of tables x)) d = (j, omega (arith, length-take i (columns_of tables x)), get_or-take i (columns_of tables x) j d k ∙ f) in
       both_ways _ none (list_any_true (λ (q : Column). matches q.cube s) (take i (columns_of tables x)) d there n)
 
-  -- and no other
+  -- two columns of an item that match are one
   pub match_once : (c d : Column) → Contains (columns_of tables x) c → Contains (columns_of tables x) d → matches c.cube s ≡ true → matches d.cube s ≡ true → c ≡ d
   match_once c d k q m n = elim (cases_order k.0 q.0) [
     | inl same ↦ sym k.2 ∙ get_or_default (columns_of tables x) k.0 c d k.1 ∙ ap (λ i. get_or (columns_of tables x) i d) same ∙ q.2

@@ -114,7 +114,7 @@ module _ (g : Graph) (tables : List NodeTable) (w : World) (within : IsWithinLim
         reports = omega (arith, o.reports_room, ap (λ (t : NodeTable). length t.own) t);
       }
 
--- and they play correctly
+-- valid tables play correctly
 pub correct_open : (g : Graph) (tables : List NodeTable) → IsWithinLimits g → AreTablesOf (head_of g) tables → WellFormed g → IsValid g tables → IsCorrect g tables
 correct_open g tables within of f v = valid_tables_are_correct g tables f (has_shape g within tables of) v
 

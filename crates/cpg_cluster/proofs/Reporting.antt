@@ -140,7 +140,7 @@ module _ {g : Graph} {tables : List NodeTable} {w : World} (k : Played g tables 
       Rises (λ (x y : ℕ × Ended). x.1.process ≢ y.1.process) (reports_now g w (dispatcher_at c a) time)
   reports_apart c r a l time = subst (Rises (λ (x y : ℕ × Ended). x.1.process ≢ y.1.process)) (sym (now_is c r a l time)) (now_apart k a (r.holds a l).last time)
 
-  -- and each is that of an execution
+  -- each report is that of an execution
   pub report_is : (c : Cluster) (r : Reached g tables w c) (a : ℕ) → a < length g.nodes → (time : ℕ) (q : ℕ × Ended) → Contains (reports_now g w (dispatcher_at c a) time) q → OneReport g tables w a q
   report_is c r a l time q h = (now_parts k a (r.holds a l).last time q (subst (λ rs. Contains rs q) (now_is c r a l time) h)).0
 

@@ -80,7 +80,7 @@ module _ (g : Graph) (urgency order : List ℕ) (b : Grown) (is : IsGrownFor g u
     | inr ge ↦ absurd (none-some (due g p + b.excess.time) (sym (get_or_past late_times.ends p None ge) ∙ late_end))
   ]
 
-  -- and its end is no later than the greatest finish
+  -- the end of a late process is no later than the greatest finish
   pub late_small : due g p + b.excess.time ≤ b.worst.time
   late_small = omega (
     arith,
@@ -104,7 +104,7 @@ measured g urgency order b is = record {
   is_worst = is.worst;
 }
 
--- and what is found before its tables are made
+-- what is found before the tables are made measures the order
 pub found_measured : (g : Graph) (urgency order : List ℕ) (t : Grown) → IsGrownFor g urgency order t → IsMeasured g urgency order t.excess.time t.worst.time
 found_measured g urgency order t is = record {
   frozen = t.trees.frozen;

@@ -34,7 +34,7 @@ start-is_not_quiet q = let one : 1 ≡ 0 = ap length q.acts in absurd (omega (ar
 pub start-is_done : acts_of_turn (opening (own_table pair 0 (table_at pair_tables 0))) 0 [] [] ≡ [] → ⊥
 start-is_done e = let one : 1 ≡ 0 = ap length e in absurd (omega (arith, one))
 
--- nor one at which the report of an execution is due
+-- a turn at which the report of an execution is due may not be left out
 abbrev pub reported : Dispatcher
 reported = record (opening (own_table pair 0 (table_at pair_tables 0))) {
   running = Some (record { start = 0; report = Some (record { process = 0; faults = 0; value = false }) }) ∷ [];
@@ -115,7 +115,7 @@ told-all = record {
   small = omega arith;
 }
 
--- and does on them what it does there
+-- N2 does on the events that it is told what it does in the play
 pub told-acts : (after second (stream_bytes (closed_at lawful_events 105))).progress.acts ≡ act 90 1 1 ∷ []
 unfolding turns_below
 told-acts = refl

@@ -32,7 +32,7 @@ pub handed_as : {T : Type 0} (A B : Type 0) (wide : Option ℕ) (result : Result
 handed_as A B wide (Ok x) told same f h = absurd same
 handed_as A B wide (Err e) told same f h = subst (ShowsLarge wide B) (sym same) (shown_as A B wide told f h)
 
--- and for the same item by another name
+-- the fault of one name for an item is that of another name for it
 pub named_as : (A : Type 0) (wide other : Option ℕ) (fault : BuildFault) → wide ≡ other → ShowsLarge wide A fault → ShowsLarge other A fault
 named_as A wide other fault e h = subst (λ o. ShowsLarge o A fault) e h
 

@@ -138,7 +138,7 @@ module _ {V : Type 0} (g : Graph) (makes : ℕ → V) (delay d : ℕ) (same_dela
   pub as_read : (s : Scenario) (ls : List Literal) (n : ℕ) → Tells s ls n (later_by d read) → Agrees s ls (λ v. time_later delay v ≡ n) times
   as_read s ls n h = from_times delay s times ls n (subst (λ (m : ℕ). Tells s ls n (later_by m times)) (sym same_delay) (subst (λ (u : TreeState (Option ℕ)). Tells s ls n (later_by d u)) (sym is) h))
 
-  -- and of another tree
+  -- what is told of a tree that is read of a forest and of another tree
   pub told_and_read : (other : TreeState ℕ) (t : TreeState V) → IsTree g other → IsJoin (λ x y z. z ≡ makes (max x (time_later delay y))) other times t →
       (s : Scenario) → HasFew g.faults s → (first second : List Literal) (x y : ℕ) → Tells s first x other → Tells s second y (later_by d read) → Tells s (first ++ second) (makes (max x y)) t
   told_and_read other t of_other made s few first second x y tells there =
@@ -149,7 +149,7 @@ module _ {V : Type 0} (g : Graph) (makes : ℕ → V) (delay d : ℕ) (same_dela
   read_and_told other t of_other made s few first second x y there tells =
       made_told g (time_later delay) (λ n. n) makes times other t of_times of_other made s few first second x y (as_read s first x there) tells
 
-  -- and of ends
+  -- what is told of a tree that is read of a forest and of ends
   pub ends_and_read : (end read_end : TreeState (Option ℕ)) (t : TreeState V) → end ≡ read_end → IsTree g end → IsJoin (λ x y z. z ≡ makes (max (time_later delay x) (time_later 0 y))) times end t →
       (s : Scenario) → HasFew g.faults s → (first second : List Literal) (x y : ℕ) → Tells s first x (later_tree read_end) → Tells s second y (later_by d read) → Tells s (first ++ second) (makes (max x y)) t
   ends_and_read end read_end t is_end of_end made s few first second x y tells there =

@@ -232,7 +232,7 @@ module _ (t : NodeTable) (made : IsTable t) where
       let q = quiet_turns (node h r l) time k.count (turns_left_out (node h r l) time out h) in
       λ i. record { dispatcher = q.0 i; acts = (ap (λ (more : List Act). a ++ more) q.1 ∙ append-nil a) i }
 
-  -- so many turns of the one, and enough of the other
+  -- this many turns of the one and enough turns of the other leave both alike
   abbrev TurnsAlike : ℕ → ℕ → Type 0
   TurnsAlike n limit =
       (k : ℕ) (h : List Range) (r : List (Option Running)) (l m : Option ℕ)

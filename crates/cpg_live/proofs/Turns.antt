@@ -54,7 +54,7 @@ unfolding turns_below
 still zero limit p e = refl
 still (suc n) limit p e = ap (λ o. turns_below n limit (turn_if p o)) e ∙ still n limit p e
 
--- nor where so many turns are allowed
+-- more turns change nothing if enough turns for the limit are allowed
 no_more : (n limit : ℕ) (p : Progress) → limit ≤ n + after_last p.dispatcher.last → turns_below n limit p ≡ turns_below (suc n) limit p
 unfolding turns_below
 no_more zero limit p h = elim (below_or_not limit (next p.dispatcher)) [
@@ -73,7 +73,7 @@ unfolding turns_below
 turned_next zero p t e = absurd (omega (arith, (found_is zero (next p.dispatcher) t e).1))
 turned_next (suc m) p t e = sym (no_more m (suc m) (take_turn t p) (omega arith)) ∙ sym (ap (λ o. turns_below m (suc m) (turn_if p o)) e)
 
--- and its end
+-- a loop of turns ends when no instant is below the limit
 pub turned_last : (limit : ℕ) (p : Progress) → instant_below limit (next p.dispatcher) ≡ None → turned limit p ≡ p
 turned_last limit p e = still limit limit p e
 

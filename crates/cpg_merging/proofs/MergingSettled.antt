@@ -266,6 +266,6 @@ module _ (g : Graph) (few : process_count g ≤ 128) where
         s)
         (cases_order m.0 n.0)
 
-    -- so sorted columns are settled when they have been walked over
+    -- sorted columns are settled when they have been walked over
     pub settled : (c : Column) (ds : List Column) → AreGood g (c ∷ ds) → ((s : Scenario) → IsScenario g s → length (times_in (c ∷ ds) s) ≤ 1) → IsSortedBy (λ x y. is_lt (column_cmp v x y)) (c ∷ ds) → IsSettledOn g.faults v (walked g.faults v c ds)
     settled c ds good single up = settled_from (walked g.faults v c ds) (walk g few v known c ds good).good (walked_untouched c ds good (before_pairs (c ∷ ds) good single up))

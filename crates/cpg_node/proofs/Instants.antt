@@ -114,7 +114,7 @@ started_few (a ∷ acts) os h = omega (
 kept_parts : (p : ℕ → Bool) (xs ys : List ℕ) → length (filter p (xs ++ ys)) ≡ length (filter p xs) + length (filter p ys)
 kept_parts p xs ys = ap (λ (l : List ℕ). length l) (filter-append p xs ys) ∙ length-append (filter p xs) (filter p ys)
 
--- so a turn adds few possible ends
+-- a turn adds few possible ends
 grown_ends : (p : ℕ → Bool) (ended : List Ended) (acts : List Act) (time : ℕ) (os : List Own) (runs : List (Option Running)) → HaveFewEnds os →
     length (filter p (flat_map (λ ends. ends) (zip_with possible_ends os (zip_with (running_after ended acts time) os runs))))
     ≤ length (filter p (flat_map (λ ends. ends) (zip_with possible_ends os runs))) + length (started acts os) * 9
@@ -177,7 +177,7 @@ module _ (d : Dispatcher) (time : ℕ) (frames : List Frame) (comes : next d ≡
         | inr c ↦ omega (arith, fewer_left d.last time (planned_times d) after, one_less d.last time (end_times d) after c, grown, few, room, fixed)
       ]
 
--- so does one of a lawful table
+-- a turn of a lawful table leaves fewer instants
 pub table_less : (d : Dispatcher) (time : ℕ) (frames : List Frame) → next d ≡ Some time → IsTable d.table → instants_left (turn d time [] frames) < instants_left d
 table_less d time frames comes made = turn_less d time frames comes (own_rise d.table made) (own_few_ends d.table made)
 

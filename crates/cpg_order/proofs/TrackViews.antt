@@ -68,6 +68,6 @@ module _ (g : Graph) where
       let m = mul-le (length (filter (is_quiet g reached) tracks)) (2 ^ 42) 16384 (2 ^ 42) (omega arith) (omega arith) in
       omega arith
 
-  -- so a number of 64 bits holds them
+  -- a number of 64 bits holds the views with 16,384 tracks at most
   pub views_fit : process_count g ≤ 128 → g.faults ≤ 8 → (reached : List ℕ) (tracks : List (List Bool)) → AreTracks g tracks → length tracks ≤ 16384 → views g reached < 2 ^ 64
   views_fit few faults reached tracks are short = let v = views_small few faults reached tracks are short in omega arith

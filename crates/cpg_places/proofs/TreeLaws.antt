@@ -62,7 +62,7 @@ module _ {g : Graph} {columns : List Column} {tree : Places} (is : IsRowTree g c
   pub place_only : (i j : ℕ) → place_at tree s ≡ Some i → j < length columns → matches (column_at columns j).cube s ≡ true → j ≡ i
   place_only i j e l m = (told_as (Some i) e).1 j (matched_at columns s j l m)
 
-  -- so no two columns match
+  -- no two columns match
   pub one_place : (i j : ℕ) → i < length columns → j < length columns → matches (column_at columns i).cube s ≡ true → matches (column_at columns j).cube s ≡ true → i ≡ j
   one_place i j k l m n = go (place_at tree s) refl
     where

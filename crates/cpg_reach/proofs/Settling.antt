@@ -90,7 +90,7 @@ module _ (g : Graph) (order : List ℕ) (top : IsTopological g order) where
         | inr (inr c) ↦ (c.0, c.1, sym (ap (producer_of_item g) c.3) ∙ r.0)
       ]
 
-  -- and a message comes of its edge
+  -- a message comes of its edge
   pub message_at : (p e x : ℕ) → p < process_count g → e < edge_count g → x < item_count g → moment g order x ≡ place order p * phases g + (e + 3) → source g e ≡ p
   message_at p e x n h l is =
       let r = moment_parts x p (e + 3) l n (omega arith) is in

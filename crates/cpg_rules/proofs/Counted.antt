@@ -47,7 +47,7 @@ module _ (g : Graph) (order : List ℕ) (topological : IsTopological g order) (f
       rest = λ c l m. on.rest c l (omega arith);
     }
 
-    -- or it is true
+    -- its condition becomes true
     turns : (c : ℕ) → condition_of g p ≡ Some c → IsOnWay (k + 1) (settled s (step_of g p) true) (set o c true)
     turns c its = record {
       count = length-set o c true ∙ on.count;

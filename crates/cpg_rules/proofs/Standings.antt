@@ -73,7 +73,7 @@ module _ (g : Graph) (order : List ℕ) (topological : IsTopological g order) wh
       pub live_here : is_live_edge g s e ≡ live g o e
       live_here = live_by (get_or s (source g e) None) refl (are.right o follows (source g e) from sooner)
 
-    -- so it has the activation that they say
+    -- a process at the place has the activation that the standings say
     pub activation_here : (o : List Bool) → Follows g order k s o → (p : ℕ) → p < process_count g → place order p ≡ k → activation_in s (step_of g p) ≡ activation g o p
     activation_here o follows p h at =
         activation_in-is g s p
@@ -134,7 +134,7 @@ module _ (g : Graph) (order : List ℕ) (topological : IsTopological g order) wh
       pub its_condition : (c : ℕ) → choice (activation_in s (step_of g p)) (condition_of g p) ≡ Some c → condition_of g p ≡ Some c
       its_condition c e = chosen (activation_in s (step_of g p)) (condition_of g p) c e
 
-      -- and an outcome takes the way of its value
+      -- an outcome takes the way of the value of its condition
       pub follows_value : (c : ℕ) → choice (activation_in s (step_of g p)) (condition_of g p) ≡ Some c → (o : List Bool) → get_or o c false ≡ v → Follows g order k s o → Follows g order (k + 1) next o
       follows_value c some o value f =
           let its = its_condition c some in

@@ -281,7 +281,7 @@ module _ (g : Graph) (order : List ℕ) (rows : List (List Column)) (s : Scenari
         holds_is m (of_number v known is) = ap (holds s) is ∙ number_holds s v
         holds_is m (of_row y at row) = from_all (holds s) row.column.cube m row.matched row.literal
 
-    -- and is on variables of the graph, where the columns of earlier rows are
+    -- all that is carried is on variables of the graph, if the columns of earlier rows are
     pub carried_known : process_count g ≤ 128 → (x : ℕ) → x < item_count g → ((y : ℕ) → IsEarlier g order (place order (producer g x)) y → All (λ c. IsCube g c.cube) (row_at rows y)) →
         item_active g s.values (item_at g x) ≡ true → (m : Literal) → Contains (carried g order rows s x) m → IsVariable g m.variable
     carried_known few x l cubes on m j = known_is (carried_is few (place order (producer g x)) m x l (omega arith) on j)

@@ -57,7 +57,7 @@ module _ (g : Graph) (order : List ℕ) (frozen : List (Option ℕ)) (rows : Lis
     pub passed_inactive : item_active g s.values (item_at g x) ≡ false → AreEntriesAmong (done ++ s ∷ []) entries
     passed_inactive off = pass_over (λ e is least. both_ways _ off is.active)
 
-    -- nor has one that isn't the least of its cube
+    -- a scenario that isn't the least of its cube has no entry
     pub passed_other : (cube : List Literal) → IsCubeOf g.faults (carried g order rows s x) cube → lows g cube ≢ s → AreEntriesAmong (done ++ s ∷ []) entries
     passed_other cube is other = pass_over (λ e entry least. other (same_least g (carried g order rows s x) cube e.cube is entry.cube ∙ least))
 

@@ -77,11 +77,11 @@ module _ (g : Graph) (urgency order : List ℕ) (frozen : List (Option ℕ)) (ro
     pub cube_same : (u : Scenario) → IsScenario g u → matches cube u ≡ true → IsSameIn g order frozen rows x s u
     cube_same u lu h = carried_decides g urgency order frozen rows s u x timed l earlier law lu on (literals_hold g few (carried g order rows s x) cube is u lu h)
 
-    -- so it is the cube of what is carried there
+    -- a cube is that of what is carried in each scenario that it matches
     pub cube_there_too : (u : Scenario) → IsScenario g u → matches cube u ≡ true → IsCubeOf g.faults (carried g order rows u x) cube
     cube_there_too u lu h = subst (λ ls. IsCubeOf g.faults ls cube) (sym (cube_same u lu h).carried) is
 
-    -- and of its least scenario
+    -- the entry of a cube is that of its least scenario
     pub entry_of_least : (time : ℕ) → ((t : Times) → IsRun g order frozen s t → get_or t.times x None ≡ Some time) → IsEntryIn g order frozen rows x (lows g cube) (record { time = time; cube = cube })
     entry_of_least time here =
         let lawful = lows-lawful g few cube cube_known cube_met in

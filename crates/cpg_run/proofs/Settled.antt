@@ -51,7 +51,7 @@ module _ (g : Graph) (order : List ℕ) (topological : IsTopological g order) wh
         has = sym (unfrozen_same g order topological w.scenario w.times other x (agree_before g order topological w.scenario w.times other frozen others w.run run (moment g order x) same) h) ∙ w.has;
       }
 
-  -- so a frozen time stays one when what is set is not before it
+  -- a frozen time stays one when what is set is not before it
   pub frozen_time_kept : (frozen others : List (Option ℕ)) (x : ℕ) → x < item_count g → SameBefore frozen others x → get_or frozen x None ≡ get_or others x None → IsFrozenTime g order frozen x → IsFrozenTime g order others x
   frozen_time_kept frozen others x h same here f = record {
     reached = λ time e. would_have_same frozen others x time h same (f.reached time (here ∙ e));
@@ -59,7 +59,7 @@ module _ (g : Graph) (order : List ℕ) (topological : IsTopological g order) wh
     none = λ e time w. f.none (here ∙ e) time (would_have_same others frozen x time h (λ y i l. sym (same y i l)) w);
   }
 
-  -- and what an item would have is its frozen time once it is set
+  -- what an item would have is its frozen time once it is set
   pub frozen_time_set : (frozen others : List (Option ℕ)) (x : ℕ) → x < item_count g → SameBefore frozen others x → IsUnfrozenTime g order frozen x (get_or others x None) → IsFrozenTime g order others x
   frozen_time_set frozen others x h same f = record {
     reached = λ time e. would_have_same frozen others x time h same (f.reached time e);

@@ -65,7 +65,7 @@ module _ (k : ℕ) (known : List Literal) (l : Literal) (heard : (w : Literal) �
   bound_heard : is_heard k known l ≡ true
   bound_heard = and_from _ _ low_heard high_heard
 
--- so all literals of a column are where those on known variables are, and all bounds of the others
+-- all literals of a column are implied if those on known variables are, and all bounds of the others
 module _ (g : Graph) (tables : List NodeTable) (node : ℕ) (c : Column) (known : List Bool) (wanted : List Literal) (is : wanted ≡ flat_map (unknown_bounds g.faults known) c.cube) where
   pub all_wider : AreToldIn c.cube wanted
   all_wider w h = bounds_wider g.faults known c.cube w (subst (λ ws. Contains ws w) is h)

@@ -143,7 +143,7 @@ module _ {g : Graph} {tables : List NodeTable} (lasts : ℕ → Scenario → ℕ
   pub early_before : one.last + one.span.longest ≤ other.first → IsOver lasts g tables y x
   early_before h s c law here m = early_over is law c.time (omega (arith, h, All-contains (λ (d : Column). other.first ≤ d.time) (columns_of tables x) c by.first here))
 
-  -- and so is what is over by the time of the column at each place of the other's tree
+  -- what is over by the time of the column at each place of another's tree is over before it
   pub walked_before : (own tree : Places) → one.tree.now ≡ Some own → other.tree.now ≡ Some tree
       → ((s : Scenario) → IsScenario g s → IfSome (place_at tree s) (λ i. IsOverAt one (column_at other.columns.now i).time (place_at own s) s)) → IsOver lasts g tables y x
   walked_before own tree has there all s c law here m =

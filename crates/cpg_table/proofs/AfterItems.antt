@@ -44,11 +44,11 @@ after_all (x ∷ xs) (row ∷ rows) e =
     let parts : (row.item ≡ x) × (items_of rows ≡ xs) = (cc, cc) in
     after_all xs rows parts.1 ∙ sym (cond-true (row.item == x) (after_items xs rows) None (eq-eqb row.item x parts.0))
 
--- and nothing but those leaves nothing
+-- rows that leave nothing are rows of these items
 pub all_after : (xs : List ℕ) (rows : List Row) → Some [] ≡ after_items xs rows → items_of rows ≡ xs
 all_after xs rows e = (after_parts xs rows [] e).0 ∙ append-nil xs
 
--- so other rows are not those of these items
+-- rows that don't begin with those of these items are not rows of them
 pub not_these : (xs : List ℕ) (rows : List Row) → None ≡ after_items xs rows → items_of rows ≢ xs
 not_these xs rows e same = let all = after_all xs rows same in absurd (let none : Some [] ≡ None = all ∙ sym e in cc)
 

@@ -87,7 +87,7 @@ all_known g rows w k d l =
     let m : k < item_count g = omega (arith, l, long g rows w) in
     subst (λ (row : Row). row.item < item_count g) (get_or_default rows k no_row d l) (subst (λ n. n < item_count g) (sym (item_is g rows w k m)) m)
 
--- nor are others new
+-- the rows of other nodes are of items that exist, too
 pub still_known : (g : Graph) (node : ℕ) (rows : List Row) → All (λ row. row.item < item_count g) rows → All (λ row. row.item < item_count g) (other_rows g node rows)
 still_known g node rows h = All-filter (λ (row : Row). not (has_own g node row.item)) (λ (row : Row). row.item < item_count g) rows h
 

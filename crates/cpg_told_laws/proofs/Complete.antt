@@ -183,7 +183,7 @@ module _ (r : Run) (w : IsLawfulRun r) (k : KeepsShelf r.shelf.old r.shelf.new) 
   comes c values e t (inr (inr (inl x))) = inr (inr x.follows)
   comes c values e t (inr (inr (inr x))) = inr (inr x.follows)
 
-  -- but `live` no command follows one
+  -- for each command but `live`: its files were read, or memory ran out
   asked : (c : Command) (values : List Value) → is_live (Some c) ≡ false → command_of r.words ≡ Some c → AreTold r.shelf.old.stands None (files_of c) values → ((ws : List Value) × Has r c ws × AllAlike values ws) ⊎ (r.status ≡ 8)
   asked c values other e t = elim (comes c values e t w.ends) [
     | inl h ↦ inl h
