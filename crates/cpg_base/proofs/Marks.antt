@@ -53,6 +53,6 @@ many_pass p n i most l t e =
     let q : length (filter p (numbers_below (i + 1))) ≡ length (filter p (numbers_below i)) + 1 = ap length (filter_below_push p i ∙ ap (λ b. filter p (numbers_below i) ++ cond b (i ∷ []) []) t) ∙ length-append (filter p (numbers_below i)) (i ∷ []) in
     omega (arith, q, e, filter_grows p (i + 1) n (omega arith))
 
--- the same numbers pass where the marks agree with a test
+-- the same numbers pass if the marks agree with a test
 pub same_marked : (marks : List Bool) (p : ℕ → Bool) (n : ℕ) → n ≤ 128 → ((q : ℕ) → q < 128 → get_or marks q false ≡ p q) → filter (λ q. get_or marks q false) (numbers_below n) ≡ filter p (numbers_below n)
 same_marked marks p n few h = same_filter (λ q. get_or marks q false) p (numbers_below n) (λ q c. h q (omega (arith, numbers-Contains n q c)))

@@ -84,7 +84,7 @@ comes_before_from xs x y c = list_any_true (λ z. z == x) (before xs y) x c (eq-
 pub comes_before_from_places : (xs : List ℕ) (x y : ℕ) → Contains xs x → place xs x < place xs y → comes_before xs x y ≡ true
 comes_before_from_places xs x y c h = comes_before_from xs x y (Contains-before xs x y c h)
 
--- of two numbers one comes before the other
+-- one of two numbers comes before the other
 pub apart : (xs : List ℕ) (x y : ℕ) → Contains xs x → Contains xs y → x ≢ y → Contains (before xs y) x ⊎ Contains (before xs x) y
 apart xs x y c d ne = elim (cases_order (place xs x) (place xs y)) [
   | inl e ↦ absurd (ne (same_place xs x y c d e))

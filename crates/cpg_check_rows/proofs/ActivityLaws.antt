@@ -44,7 +44,7 @@ idle_found {g} {order} {guards} a cube p l o f = first_same g order (λ s. is_le
     ∙ ap (λ b. matches cube s && b) (same_false (is_active (outcome_at (tree_of guards p) s.values)) ∙ ap (λ t. not (is_active t)) ((a.guards.trees p l).is s.values i.values))) f
 
 module _ (g : Graph) (order : List ℕ) (cube : List Literal) where
-  -- of the part of the cube in which a literal holds
+  -- the first scenario of the part of the cube in which a literal holds
   pub with_part : (l : Literal) (part : List Literal) (o : Option Scenario) → ((s : Scenario) → matches part s ≡ (holds s l && matches cube s)) → IsFirst g order (matches part) o → IsFirst g order (λ s. matches cube s && holds s l) o
   with_part l part o both f = first_same g order (matches part) (λ s. matches cube s && holds s l) o (λ s _. both s ∙ and_comm (holds s l) (matches cube s)) f
 

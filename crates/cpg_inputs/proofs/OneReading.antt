@@ -71,7 +71,7 @@ AllAlike [] (w ∷ ws) = ⊥
 AllAlike (v ∷ vs) [] = ⊥
 AllAlike (v ∷ vs) (w ∷ ws) = IsAlike v w × AllAlike vs ws
 
--- of two values that are known
+-- two values are alike if the known values that they are, are alike
 as_known : (v w x y : Value) → v ≡ x → w ≡ y → IsAlike x y → IsAlike v w
 as_known v w x y e f k = subst (λ u. IsAlike u w) (sym e) (subst (IsAlike x) (sym f) k)
 
@@ -84,7 +84,7 @@ says_alike (Some g) LogFile bytes v w (l, e, x) (m, f, y) = as_known v w (log_va
 says_alike None ScenarioFile bytes v w x y = absurd x
 says_alike None LogFile bytes v w x y = absurd x
 
--- the same graph comes after them
+-- the same graph comes after two values that the same bytes say
 pub says_after : (g : Option Graph) (k : Kind) (bytes : Text) (v w : Value) → Says g k bytes v → Says g k bytes w → graph_after g w ≡ graph_after g v
 says_after g GraphFile bytes v w (a, e, x) (b, f, y) = ap (graph_after g) f ∙ (ap Some (admitted_alike bytes a b x y).graph ∙ sym (ap (graph_after g) e))
 says_after g PartFile bytes v w (a, e, x) (b, f, y) = ap (graph_after g) f ∙ sym (ap (graph_after g) e)

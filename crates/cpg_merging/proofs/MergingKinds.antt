@@ -19,7 +19,7 @@ use Rattle.cpg_merging.proofs.MergingTotals.{of_range, spoken, sum_parts, touch_
 
 -- ---- which columns are chosen
 
--- of two columns of one kind that ask differently either is, since a place tells but one
+-- if two columns of one kind ask differently, both are chosen, since a place tells but one
 pub both_chosen : (told : List ℕ) (differing : List Bool) (columns : List Column) → length differing ≡ length told → AreTold told differing (map kind_of columns) → HoldCandidates columns (filter (is_candidate differing) columns)
 both_chosen told differing columns long tell c d there other same apart = (
   Contains-filter (is_candidate differing) columns c (chosen c d there other same apart) there,

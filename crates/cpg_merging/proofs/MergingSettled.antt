@@ -42,7 +42,7 @@ apart_pairs {X} p (x ∷ xs) h = AllPairs-cons_by (λ x y. p x ≡ true → p y 
     both y px c true e l = omega (arith, c.1)
     both y px c false e l = cc
 
--- of columns that no scenario matches two of, no pair matches one
+-- if no scenario matches two of the columns, no pair matches one
 pub pairs_apart : (g : Graph) (columns : List Column) → ((s : Scenario) → IsScenario g s → length (times_in columns s) ≤ 1) →
     AllPairs (λ c d. (s : Scenario) → IsScenario g s → matches c.cube s ≡ true → matches d.cube s ≡ true → ⊥) columns
 pairs_apart g columns h = λ i j d l k s is. apart_pairs (λ (c : Column). matches c.cube s) columns

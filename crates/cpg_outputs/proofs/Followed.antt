@@ -16,7 +16,7 @@ same_head : (f e : Fetch) (fs es : List Fetch) → f ∷ fs ≡ e ∷ es → f �
 unfolding head_or
 same_head f e fs es is = ap (head_or f) is
 
--- of a stream that was followed to its close no call failed
+-- no call of a stream failed that was followed to its close
 pub closed_sound : (h : Head) (table : NodeTable) (name : List ℕ) (past now : List Fetch) (start : List ℕ) (old new : SinkState) → IsStreamed (Completes h table) name past now start old new →
     (fetch : Fetch) (before : List Fetch) → now ≡ fetch ∷ before → fetch.failed ≡ true → ⊥
 closed_sound h table name past now start old new s fetch before is failed =

@@ -395,7 +395,7 @@ module _ (k : ℕ) (node : Node (Option ℕ)) (wanted : Node Bool) (good : IsGoo
           let r = f g (record { few = of.few; first = forks_of_paths (is_variable g) k node of.known; second = forks_of_paths (is_variable g) k wanted of.known_too }) (whole_of g room (subst (λ n. IsWhole n room) of.faults whole)) in
           record { scenario = r.0; lawful = r.1; has = seen r.0 number (subst (λ n. HasFew n r.0) (sym of.faults) (scenario_few g r.0 r.1)) r.3 }
 
--- and of what its caller sees
+-- the greatest number of what the caller sees of the trees
 module _ (first : TreeState (Option ℕ)) (second : TreeState Bool) (node : Node (Option ℕ)) (wanted : Node Bool) (good : IsGood first.faults node) (paths : first.paths ≡ paths_of first.faults node)
     (good_too : IsGood second.faults wanted) (paths_too : second.paths ≡ paths_of second.faults wanted) (same : first.faults ≡ second.faults)
     (room : Space) (whole : IsWhole first.faults room) (all : (s : Scenario) → HasFew first.faults s → Lies room s) (o : Option ℕ) (most : IsMostIn room node wanted None o) where

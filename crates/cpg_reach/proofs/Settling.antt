@@ -41,7 +41,7 @@ apart_products a b f h m l k e = elim (cases_order a b) [
 ]
 
 module _ (g : Graph) (order : List ℕ) (top : IsTopological g order) where
-  -- of one moment there is one item
+  -- one moment has one item
   pub same_moment : (x y : ℕ) → x < item_count g → y < item_count g → moment g order x ≡ moment g order y → x ≡ y
   same_moment x y l m e =
       let r = apart_products (place order (producer g x)) (place order (producer g y)) (phase (item_at g x)) (phase (item_at g y)) (phases g) (phase_below g x l) (phase_below g y m) e in

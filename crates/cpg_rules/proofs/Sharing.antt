@@ -22,7 +22,7 @@ makes_extends a b c t n m e = record {
   is = e.same n m.within ∙ m.is;
 }
 
--- the same parts with other things known
+-- parts stay if other things are known
 pub extends_known : (a b : Sharing) → b.parts ≡ a.parts → b.ranks ≡ a.ranks → Extends a b
 extends_known a b parts ranks = record { ranks = ranks; longer = omega (arith, ap length parts); same = λ n l. ap (λ ps. tree_at ps n) parts }
 

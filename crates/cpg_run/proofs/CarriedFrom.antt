@@ -99,7 +99,7 @@ module _ (g : Graph) (order : List ℕ) (rows : List (List Column)) (s : Scenari
     by_message : active g s.values q ≡ true → (process_at g q).frozen ≡ false → FromMessage q m → FromProcess p q m
     by_count : Contains (before_on_node g order p) q → active g s.values q ≡ true → m ≡ number_known s q → FromProcess p q m
 
-  -- of a start that is not frozen
+  -- what a process on the node gives to a start that is not frozen
   pub record FromFree (p : ℕ) (m : Literal) : Type 0 where
     pub free : (process_at g p).frozen ≡ false
     pub process : ℕ

@@ -108,7 +108,7 @@ module _ (k : ℕ) (literals : List Literal) where
   spoken_below : List ℕ
   spoken_below = filter is_spoken (numbers_below (suc (greatest (map (λ (m : Literal). m.variable) literals))))
 
-  -- of each variable of the literals what is kept of it
+  -- what is kept of each variable of the literals
   pub cube_of : List Literal
   cube_of = map kept spoken_below
 

@@ -16,7 +16,7 @@ use Rattle.cpg_run.specs.Rows.{IsCubeOf, IsEntryIn, AreEntriesOf}
 use Rattle.cpg_run.proofs.CubesOf.{same_least}
 use Rattle.cpg_run.proofs.SameInRows.{only_one}
 
--- of a list without repeats no element stands before its place
+-- no element of a list without repeats stands before its place
 pub not_before_place : {X : Type 0} (xs : List X) (i : ℕ) (d : X) → AllPairs (λ x y. x ≢ y) xs → i < length xs → Contains (take i xs) (get_or xs i d) → ⊥
 not_before_place {X} xs i d apart l j =
     let x : X = get_or xs i d in

@@ -31,7 +31,7 @@ use Rattle.cpg_run.proofs.SameSends.{carried_decides}
 pub every : {X : Type 0} (P : X → Type 0) (xs : List X) → ((x : X) → Contains xs x → P x) → All P xs
 every P xs h k d l = h (get_or xs k d) (Contains-get_or xs k d l)
 
--- of a list no two of which pass, one passes at most
+-- at most one element passes of a list of which no two pass
 module _ {X : Type 0} (R : X → X → Type 0) (p : X → Bool) where
   two_at_most : (xs ys : List X) → ((y : X) → Contains ys y → Contains xs y × (p y ≡ true)) → AllPairs R ys → ((x y : X) → Contains xs x → Contains xs y → p x ≡ true → p y ≡ true → R x y → ⊥) → length ys ≤ 1
   two_at_most xs [] from pairs never = omega arith

@@ -36,7 +36,7 @@ module _ (g : Graph) (order : List ℕ) (frozen : List (Option ℕ)) (rows : Lis
   tells_nothing s law t run off = ap (flat_map (λ (c : Column). c.cube)) (none_of_map (λ (c : Column). c.time) (matching_in rows s y)
       (times s t law run ∙ ap option_to_list (time_is g order frozen s t run y l ∙ cond-false _ _ _ off)))
 
-  -- of an active item's row one column matches, with the time of the run
+  -- one column of an active item's row matches, with the time of the run
   pub record Match (s : Scenario) (t : Times) : Type 0 where
     pub column : Column
     pub only : filter (λ (c : Column). matches c.cube s) (row_at rows y) ≡ column ∷ []

@@ -104,7 +104,7 @@ module _ (g : Graph) (urgency order : List ℕ) (frozen : List (Option ℕ)) (ro
           (l, deciding_is_active g urgency k.urgent (urgency_is_topological g k.formed order k.topological urgency k.urgent) s.values p c l r.1)
 
       module _ (at : place order p ≤ bound) where
-        -- and what is heard of conditions that decide it
+        -- what is heard of the conditions that decide a process is the same, if it holds
         module _ (h : matches (heard g rows s p) u ≡ true) where
           hears : (c : ℕ) → Contains (deciding g s.values p) c → (node_of g (process_of g c) == node_of g p) ≡ false → Told (broadcast_item g c)
           unfolding k

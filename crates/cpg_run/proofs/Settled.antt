@@ -24,7 +24,7 @@ none_frozen g x = elim (cases_lt x (item_count g)) [
   | inr l ↦ get_or_past (nothing_frozen g) x None (omega (arith, length-replicate {A = Option ℕ} (item_count g) None))
 ]
 
--- of the frozen items along an order the first n have their times, and no other item has one
+-- the first n of the frozen items along an order have their times, and no other item has one
 pub record AreSettled (g : Graph) (order items : List ℕ) (n : ℕ) (frozen : List (Option ℕ)) : Type 0 where
   pub all : items ≡ frozen_along g order
   pub count : length frozen ≡ item_count g

@@ -26,7 +26,7 @@ both : (a b : Bool) (A B : Type 0) → Fails a A → Fails b B → Fails (a && b
 both false b A B f g = (λ e. inl (f.0 refl), λ s. refl)
 both true b A B f g = (λ e. inr (g.0 e), λ s. elim s [ inl x ↦ absurd (true≢false (f.1 x)) | inr y ↦ g.1 y ])
 
--- the same by facts that say the same
+-- a test fails by a fact exactly if it fails by another that says the same
 through : (test : Bool) (A B : Type 0) → Fails test A → (A → B) → (B → A) → Fails test B
 through test A B f on back = (λ e. on (f.0 e), λ b. f.1 (back b))
 

@@ -77,7 +77,7 @@ module _ {X Y : Type 0} (view : X → Y) (f : ℕ → Y) where
 
 -- ---- the rows of a node
 
--- those of another node aren't gone
+-- the rows of another node aren't gone
 pub still_there : (g : Graph) (m n : ℕ) (rows : List Row) → m ≢ n → own_rows g m (other_rows g n rows) ≡ own_rows g m rows
 still_there g m n rows apart = passes_both (λ (row : Row). has_own g m row.item) (λ (row : Row). not (has_own g n row.item))
     (λ row e. one_home (home g row.item) m n (ltb row.item (process_count g) || is_sent g row.item) apart e) rows

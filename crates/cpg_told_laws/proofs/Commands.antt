@@ -95,7 +95,7 @@ module _ (old new : ShelfState) (k : KeepsShelf old new) where
   tables_are : (g : Option Graph) (name : Text) (f : Fetch) (t : Tables) → IsRead g (file PackFile name) f (tables_value t) → Agrees old.stands f → Spells (old.stands name) t
   tables_are g name f t r ag = spells (old.stands name) f.given t (tells_whole old.stands (file PackFile name) f r.whole ag) r.whole.short (says_tables g f.given t r.says)
 
-  -- so of a pack that was read first
+  -- the tables of a pack that was read first are spelled by the bytes that stand under its name
   pub spelled_by : (name : Text) (f : Fetch) (t : Tables) → IsRead None (file PackFile name) f (tables_value t) → Agrees old.stands f → Spells (old.stands name) t
   spelled_by name f t r ag = tables_are None name f t r ag
 

@@ -7,7 +7,7 @@ use Rattle.cpg_tree.specs.declared.node.Node.{Node, Leaf, Fork'}
 use Rattle.cpg_tree.specs.Space.{Space, is_open_below, is_open_above, below_cut, above_cut, faults_of}
 use Rattle.cpg_tree.specs.Decision.{IsFit}
 
--- the same but for highs that are no lower, and no fewer faults left
+-- a space as another, but for highs that are no lower, and no fewer faults left
 record IsHigher (room other : Space) : Type 0 where
   pub low : room.low ≡ other.low
   pub left : room.left ≤ other.left
