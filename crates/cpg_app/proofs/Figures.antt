@@ -1,4 +1,4 @@
--- Of the graph of a number nothing stops a trial but want of memory, and its worst case has the greatest finish.
+-- Nothing stops a trial of the graph of a number unless memory runs out, and its worst case has the greatest finish.
 use Rattle.std.proofs.Common.{ℕ, ◌≡◌, ◌∙◌, Bool, true, false, List, length, refl, ap, sym, subst, arith}
 use Rattle.std.specs.Prelude.{◌↔◌, IsTrue, Result, Ok, Err, IfOk}
 use Rattle.std.proofs.lemmas.Bool.{false≢true}

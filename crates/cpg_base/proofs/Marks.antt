@@ -47,7 +47,7 @@ filter_grows_by p n (suc m) =
 pub filter_grows : (p : ℕ → Bool) (n k : ℕ) → n ≤ k → length (filter p (numbers_below n)) ≤ length (filter p (numbers_below k))
 filter_grows p n k h = subst (λ j. length (filter p (numbers_below n)) ≤ length (filter p (numbers_below j))) (let e : (k - n) + n ≡ k = omega arith in e) (filter_grows_by p n (k - n))
 
--- where a number passes that comes after so many others, there are more
+-- if a number passes that comes after so many others, there are more
 pub many_pass : (p : ℕ → Bool) (n i most : ℕ) → i < n → p i ≡ true → length (filter p (numbers_below i)) ≡ most → most < length (filter p (numbers_below n))
 many_pass p n i most l t e =
     let q : length (filter p (numbers_below (i + 1))) ≡ length (filter p (numbers_below i)) + 1 = ap length (filter_below_push p i ∙ ap (λ b. filter p (numbers_below i) ++ cond b (i ∷ []) []) t) ∙ length-append (filter p (numbers_below i)) (i ∷ []) in

@@ -32,7 +32,7 @@ use Rattle.cpg_cluster.proofs.Plays.{valid_tables_are_correct}
 use Rattle.cpg_cluster.proofs.Reached.{dispatchers_at, dispatchers_count}
 use Rattle.cpg_cluster.proofs.Stepping.{tables_of, play_of}
 
--- some member, where there is one
+-- some member, if there is one
 get_member : (ms : List Member) (i : ℕ) → i < length ms → Member
 get_member [] i l = absurd (omega arith)
 get_member (m ∷ ms) i l = m

@@ -38,7 +38,7 @@ module _ (g : Graph) (order : List ℕ) where
   least_if_some test None f = tt
   least_if_some test (Some s) f = f
 
-  -- what is outside one cube of the list, of which some literals tell all where the cube matches
+  -- what is outside one cube of the list, of which some literals tell all if the cube matches
   pub left_by_taken : {X : Type 0} (seen : X → List Literal) (xs : List X) (i : ℕ) (d : X) (literals cube : List Literal) (o : Option Scenario) → i < length xs
       → ((s : Scenario) → IsScenario g s → matches cube s ≡ true → matches literals s ≡ matches (seen (get_or xs i d)) s)
       → IsFirst g order (λ s. is_left (map seen (remove xs i)) cube s && not (matches literals s)) o → IsFirst g order (is_left (map seen xs) cube) o
@@ -142,7 +142,7 @@ module _ (g : Graph) (few : process_count g ≤ 128) (order : List ℕ) (by : Li
 -- ---- a cube narrowed by a literal
 
 module _ (g : Graph) (order : List ℕ) (by : List (List Literal)) (l : Literal) (cube : List Literal) where
-  -- where the literal leaves no number, nothing is left
+  -- if the literal leaves no number, nothing is left
   pub part_none : with_literal l cube ≡ None → IsFirst g order (is_left by (narrowed_by l cube)) None
   part_none e = λ s i. and_left (matches (narrowed_by l cube) s) (not (list_any (λ b. matches b s) by)) (matches-narrowed s l cube ∙ with-none s l cube e)
 

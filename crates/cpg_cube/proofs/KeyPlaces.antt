@@ -117,7 +117,7 @@ front f bytes number left (v ∷ vs) l = elim (cases_eq (f v) 0) [
   | inr n ↦ ap (place_in number) (asked_some left (f v) (map f vs) n) ∙ stop_at number (left * 256 + f v) (asked_from (left - 1) (map f vs)) (lt-ltb (left * 256 + f v) number (omega (arith, l, bytes v)))
 ]
 
--- lows that differ at one variable, where the first has none
+-- lows that differ at one variable, if the first has none
 module _ (v : ℕ) (f g : ℕ → ℕ) (nothing : f v ≡ 0) (something : g v ≢ 0) (others : (u : ℕ) → u ≢ v → g u ≡ f u) (bytes : (u : ℕ) → f u < 256) (byte : g v < 256) where
   inserted : (left : ℕ) (vs : List ℕ) → AllPairs (λ u w. u ≢ w) vs → length vs ≤ left → with_any_asked (left_at left vs v) (g v) (asked_from left (map f vs)) ≡ asked_from left (map g vs)
   inserted left [] apart few = refl

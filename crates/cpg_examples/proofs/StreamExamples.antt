@@ -48,7 +48,7 @@ report-is_not_quiet q = let one : 1 ≡ 0 = ap length q.ends in absurd (omega (a
 pub report-is_taken : turn reported 35 [] [] ≡ record reported { last = Some 35 } → ⊥
 report-is_taken e = true≢false (sym (ap (λ (d : Dispatcher). is_some (get_or d.running 0 None)) e))
 
--- where it isn't due a turn is quiet
+-- if it isn't due, a turn is quiet
 pub between-is_quiet : IsQuiet reported 34
 between-is_quiet = record { ends = refl; acts = refl }
 

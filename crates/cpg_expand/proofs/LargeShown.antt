@@ -36,7 +36,7 @@ handed_as A B wide (Err e) told same f h = subst (ShowsLarge wide B) (sym same) 
 pub named_as : (A : Type 0) (wide other : Option ℕ) (fault : BuildFault) → wide ≡ other → ShowsLarge wide A fault → ShowsLarge other A fault
 named_as A wide other fault e h = subst (λ o. ShowsLarge o A fault) e h
 
--- where no item is to be named no fault names one
+-- if no item is to be named, no fault names one
 pub none_named : (A : Type 0) (is_shown : ℕ → Type 0) (fault : BuildFault) → ShowsLarge None A fault → ShowsBuildFault is_shown fault
 none_named A is_shown (TooWide x) h = absurd (no_name x h.0)
   where

@@ -411,7 +411,7 @@ ready_always g active end wait always s few b first second x w v of_b ends waits
     let both = ends (always_true active always s b first of_b) in
     agrees_weaker s (later_tree end) second (first ++ second) (λ z. z ≡ time_later 0 x) (λ z. z ≡ v) (λ l j. Contains-append_right first second l j) (λ z e. e ∙ sym both.1) (to_ends s end second x both.0)
 
--- where the node was ready after ends
+-- if the node was ready after ends
 pub ready_after : (k : ℕ) (active : TreeState Bool) (end : TreeState (Option ℕ)) (tree before t : TreeState ℕ) → IsNoMore k tree before → IsReadyTree k active end before t → IsReadyTree k active end tree t
 ready_after k active end tree before t none readies s few b first second x w v of_b ends waits = readies s few b first second x w v of_b ends (λ e. let r = waits e in (none s few second w r.0, r.1))
 
@@ -419,7 +419,7 @@ pub wait_told : (g : Graph) (f : ForestState) (node : ℕ) (guard : Guard) (hear
 wait_told g f node guard heard t hears latest s few base x tells tell time told =
     latest s few base (told_of s tell (way guard s.values)) x (latest_of (heard_delay g node) time (way guard s.values)) tells (hears s few tell time told)
 
--- where nothing is tested
+-- if nothing is tested
 pub wait_leaf : (g : Graph) (f : ForestState) (node : ℕ) (a : Activation) → IsWaitTree g f node (Leaf a) (ready_of g f node)
 wait_leaf g f node a s few base x tells tell time told =
     agrees_weaker s (ready_of g f node) base (base ++ []) (λ y. y ≡ x) (λ y. y ≡ max x 0) (λ l j. Contains-append_left base [] l j) (λ y e. omega (arith, e)) tells

@@ -1,4 +1,4 @@
--- Step by step: where each step is refused by the first of its faults, so is a document.
+-- Step by step: if each step is refused by the first of its faults, so is a document.
 use Rattle.std.proofs.Common.{◌≡◌, ℕ, ◌+◌, ◌&&◌, Bool, true, false, not, List, [], ◌∷◌, ◌++◌, Option, Some, None, is_some, unwrap_or, option_and_then, Ok, Err, length, position, pos, refl, sym, ap, subst, if◌then◌else◌}
 use Rattle.std.specs.Prelude.{bytes_eq, nat_le}
 use Rattle.std.specs.List.{list_any, list_all}

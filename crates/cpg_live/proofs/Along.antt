@@ -139,7 +139,7 @@ pub opened : (h k : Head) (table made : NodeTable) (live : LiveState) → k ≡ 
 opened h k table made live same is e =
     ap₂ (λ (h : Head) (s : LiveState). record { head = h; table = s.progress.dispatcher.table; live = s; told = 0; read = 0 }) same (e ∙ ap open_stream is)
 
--- ---- where the shelf met a fault
+-- ---- if the shelf met a fault
 
 -- a fetch that failed
 abbrev pub broken_off : Fetch → Fetch

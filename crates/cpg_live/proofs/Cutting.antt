@@ -59,7 +59,7 @@ no_rest s e = go (is_some s.bad) s.closed
 abbrev more : LiveState → List ℕ → LiveState
 more s rest = cond (length rest == 14) (with_rest (take_record s rest) []) (with_rest s rest)
 
--- where a record was lawless
+-- if a record was lawless
 bad_byte : (s : LiveState) (bad : Bad) (rest bytes : List ℕ) (byte : ℕ) → s.bad ≡ Some bad → take_byte (with_rest s rest) byte ≡ more s bytes
 bad_byte s bad rest bytes byte e =
     let t : is_some s.bad ≡ true = ap is_some e in

@@ -69,7 +69,7 @@ not_long bad e = true≢false (ap is_lawless e)
     is_lawless (Lawless bad) = true
     is_lawless Long = false
 
--- all lines, where the state is known
+-- all lines, if the state is known
 lines_of : (h : Head) (table : NodeTable) (bytes : List ℕ) (s : LiveState) (ends : Result ℕ StreamFault) → after table (read_part bytes) ≡ s → stream_end table bytes ≡ ends → stream_lines h table bytes ≡ act_lines h s.progress.acts ++ close_of ends
 lines_of h table bytes s ends same e = ap₂ (λ (t : LiveState) r. act_lines h t.progress.acts ++ close_of r) same e
 

@@ -48,7 +48,7 @@ found_is limit o t e = elim (below_or_not limit o) [
   | inr n ↦ absurd (none-some t (sym n.none ∙ e))
 ]
 
--- where no instant is below the limit, more turns change nothing
+-- if no instant is below the limit, more turns change nothing
 pub still : (n limit : ℕ) (p : Progress) → instant_below limit (next p.dispatcher) ≡ None → turns_below n limit p ≡ p
 unfolding turns_below
 still zero limit p e = refl
@@ -92,7 +92,7 @@ turns_end (suc n) limit p h = elim (below_or_not limit (next p.dispatcher)) [
 pub turned_end : (limit : ℕ) (p : Progress) → IsTurned (turned limit p).dispatcher limit
 turned_end limit p = turns_end limit limit p (omega arith)
 
--- the last turn is before the limit, where it was
+-- the last turn is before the limit, if it was
 turns_after : (n limit : ℕ) (p : Progress) → is_after p.dispatcher.last limit ≡ true → is_after (turns_below n limit p).dispatcher.last limit ≡ true
 unfolding turns_below
 turns_after zero limit p h = h

@@ -163,14 +163,14 @@ not_there xs x (Err i) h up = λ there.
 
 -- ---- marks of variables
 
--- where none is found none is marked
+-- if none is found, none is marked
 pub none_on : (p : Bool → Bool) → p true ≡ true → (marks : List Bool) → list_any p marks ≡ false → (v : ℕ) → ¬ IsMarked marks v
 none_on p is marks none v on = elim (cases_lt v (length marks)) [
   | inl l ↦ true≢false (sym is ∙ from_any_false p marks true none (subst (Contains marks) on (Contains-get_or marks v false l)))
   | inr l ↦ true≢false (sym on ∙ get_or_past marks v false l)
 ]
 
--- a mark set where there was none leaves the others
+-- a mark set if there was none leaves the others
 pub mark_kept : (marks : List Bool) (place : ℕ) (b : Bool) → get_or marks place false ≡ false → (v : ℕ) → IsMarked marks v → IsMarked (slice_set marks place b) v
 mark_kept marks place b off v on = elim (cases_eq v place) [
   | inl e ↦ absurd (true≢false (sym on ∙ ap (λ (p : ℕ). get_or marks p false) e ∙ off))

@@ -33,7 +33,7 @@ one_kept true false x xs ys h l = absurd (true≢false (sym (h refl)))
 one_kept false true x xs ys h l = omega arith
 one_kept false false x xs ys h l = l
 
--- fewer, where the later moment is one of them
+-- fewer, if the later moment is one of them
 pub one_less : (last : Option ℕ) (time : ℕ) (xs : List ℕ) → is_after last time ≡ true → Contains xs time → left_of (Some time) xs < left_of last xs
 one_less last time [] a c = absurd (Contains-nil time c)
 one_less last time (x ∷ xs) a c = elim (Contains-cases x xs time c) [

@@ -8,7 +8,7 @@ use Rattle.cpg_node.specs.Dispatcher.{is_after, least_of}
 use Rattle.cpg_node.specs.Plan.{IsLine}
 use Rattle.cpg_node.proofs.Least.{least_is}
 
--- where the test of the last turn fails, the time has been reached
+-- if the test of the last turn fails, the time has been reached
 pub reached_time : (last time : ℕ) → is_after (Some last) time ≡ false → time ≤ last
 reached_time last time e = ltb-false last time e
 

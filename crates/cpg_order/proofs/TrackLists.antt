@@ -191,7 +191,7 @@ tracks_exist g = let all : List (List Bool) = filter (is_track g) (outcomes (con
   },
 )
 
--- ---- where no condition rests on another, each outcome is a track
+-- ---- if no condition rests on another, each outcome is a track
 
 filter_all : {X : Type 0} (p : X → Bool) (xs : List X) → ((x : X) → p x ≡ true) → filter p xs ≡ xs
 filter_all p [] h = refl

@@ -102,7 +102,7 @@ module _ (g : Graph) (order : List ℕ) (top : IsTopological g order) where
 
   -- ---- what has been sent before a moment
 
-  -- where nothing is sent at the moment, as much before the next
+  -- if nothing is sent at the moment, as much before the next
   pub sent_kept : (m node : ℕ) → ((y : ℕ) → y < item_count g → is_sent g y ≡ true → moment g order y ≡ m → ⊥) → sent_before g order (m + 1) node ≡ sent_before g order m node
   sent_kept m node none = same_filter _ _ (numbers_below (item_count g)) (λ y k. by_sent y (numbers-Contains (item_count g) y k) (is_sent g y) refl)
     where

@@ -1,4 +1,4 @@
--- Parts stay what they are where others are added, and so do the trees of processes.
+-- Parts stay what they are if others are added, and so do the trees of processes.
 use Rattle.std.proofs.Common.{ℕ, zero, suc, ◌<◌, ◌≡◌, List, [], ◌∷◌, length, set, All, arith, refl, ap, ap₂, ◌∙◌}
 use Rattle.std.proofs.lemmas.List.Elements.{All-head, All-tail}
 use Rattle.cpg_order.specs.Guard.{Guard}

@@ -111,7 +111,7 @@ module _ (g : Graph) (order : List ℕ) (topological : IsTopological g order) (g
   input_is_active : (e : ℕ) → Contains (inputs g p) e → live g o e ≡ true → is_active (outcome_at (tree_in e) o) ≡ true
   input_is_active e c l = ap is_active (input_at e c ∙ ap (λ b. if b then By e else Inactive) l)
 
-  -- what the tree of inputs tells, where there is one
+  -- what the tree of inputs tells, if there is one
   abbrev IsUnion : List ℕ → Option Guard → Type 0
   IsUnion es None = Unit {0}
   IsUnion es (Some t) = IsOne (outcome_at t o) (length (filter (live g o) es))

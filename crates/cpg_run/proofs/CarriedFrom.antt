@@ -31,7 +31,7 @@ use Rattle.cpg_run.proofs.CubesOf.{number_holds}
 use Rattle.cpg_run.proofs.Queued.{producer_no_later}
 use Rattle.cpg_run.proofs.SameSends.{producer_active}
 
--- a member of a list that is there only where a test passes
+-- a member of a list that is there only if a test passes
 in_if : {X : Type 0} (b : Bool) (xs : List X) (x : X) → Contains (if b then xs else []) x → (b ≡ true) × Contains xs x
 in_if true xs x j = (refl, j)
 in_if false xs x j = absurd (Contains-nil x j)
@@ -106,7 +106,7 @@ module _ (g : Graph) (order : List ℕ) (rows : List (List Column)) (s : Scenari
     pub stands : Contains (up_to g order p) process
     pub told : FromProcess p process m
 
-  -- beside a start: what decides its process or, where it is not frozen, more
+  -- beside a start: what decides its process or, if it is not frozen, more
   pub data FromStart (p : ℕ) (m : Literal) : Type 0 where
     own : FromValue p m → FromStart p m
     more : FromFree p m → FromStart p m

@@ -122,7 +122,7 @@ module _ (g : Graph) (urgency order : List ℕ) (frozen : List (Option ℕ)) (ro
     matches_once u lu = one_passes (λ (d e : Column). lows g d.cube ≢ lows g e.cube) (λ (c : Column). matches c.cube u) entries are.apart
         (λ d e i j h k ne. ne (same_least g (carried g order rows u x) d.cube e.cube (entry_cube d i u lu h) (entry_cube e j u lu k)))
 
-    -- one does where the item is active
+    -- one does if the item is active
     a_match : (u : Scenario) (w : Times) → IsScenario g u → IsRun g order frozen u w → item_active g u.values (item_at g x) ≡ true → (e : Column) × Contains entries e × (matches e.cube u ≡ true)
     a_match u w lu other on =
         let cube : List Literal = cube_of g.faults (carried g order rows u x) in

@@ -66,7 +66,7 @@ module _ (g : Graph) (order : List ℕ) (frozen : List (Option ℕ)) (rows : Lis
       pub time : get_or t.times y None ≡ get_or w.times y None
       pub tells : told_by rows u y ≡ told_by rows s y
 
-    -- where what its row tells in the first holds in the second
+    -- if what its row tells in the first holds in the second
     pub told_alike : item_active g s.values (item_at g y) ≡ true → matches (told_by rows s y) u ≡ true → SameTold
     told_alike on h =
         let m = the_match s ls t run on in

@@ -1,4 +1,4 @@
--- Each cause is there exactly where its test fails, and the tests stand in the order of the causes.
+-- Each cause is there exactly if its test fails, and the tests stand in the order of the causes.
 use Rattle.std.proofs.Common.{ℕ, zero, suc, ℤ, pos, negsuc, ◌≡◌, ◌<◌, ◌≤◌, ◌⊎◌, Bool, true, false, not, ◌&&◌, ◌||◌, if◌then◌else◌, List, [], ◌∷◌, Contains, Option, Some, None, Ok, Err, is_some, sum_by, codes, refl, sym, ap, subst, ◌∙◌, inl, inr, arith, true≢false}
 use Rattle.std.specs.Prelude.{◌↔◌, ⊤, IsSomeAnd, bytes_eq, nat_le, option_and_then}
 use Rattle.std.specs.List.{list_any, list_all}
@@ -17,7 +17,7 @@ use Rattle.cpg_scenario.specs.File.{top_keys, are_among, is_typed, are_typed, is
 use Rattle.cpg_scenario.specs.Causes.{document_of, Stands, HasEntry, HasOtherKey, HasOtherType, IsNoTableOf, HasBadField, HasUnknownName, HasBadValue, IsNegative, HasNegativeCount, IsOverBudget, IsNoLength, HasBadLength, IsIn, place_of, FirstCausesAreTold}
 use Rattle.cpg_scenario.proofs.Filling.{all_pass, one_fails}
 
--- ---- a test and what is so where it fails
+-- ---- a test and what is so if it fails
 
 abbrev Fails : Bool → Type 0 → Type 0
 Fails test Fact = (test ≡ false) ↔ Fact

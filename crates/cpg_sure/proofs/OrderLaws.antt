@@ -280,7 +280,7 @@ module _ (lasts : ℕ → Scenario → ℕ) (g : Graph) (tables : List NodeTable
       (All-weaker (Known left) (Known (left ++ get_or items i 0 ∷ [])) (λ y k. elim k [ inl a ↦ inl (Contains-append_left left (get_or items i 0 ∷ []) y a) | inr a ↦ inr a ]) (take i items) before)
       (inl (Contains-push left (get_or items i 0)))
 
-  -- where all that are left are apart, all are
+  -- if all that are left are apart, all are
   pub known_apart : (left items : List ℕ) → All (Known left) items → All (λ y. IsApart lasts g tables y x) left → All (λ y. IsApart lasts g tables y x) items
   known_apart left items known apart = All-weaker (Known left) (λ y. IsApart lasts g tables y x)
       (λ y k. elim k [ inl a ↦ All-contains (λ y. IsApart lasts g tables y x) left y apart a | inr a ↦ a ]) items known

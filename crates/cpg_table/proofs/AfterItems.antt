@@ -55,7 +55,7 @@ not_these xs rows e same = let all = after_all xs rows same in absurd (let none 
 pub not_all : (xs : List ℕ) (row : Row) (rest rows : List Row) → Some (row ∷ rest) ≡ after_items xs rows → items_of rows ≢ xs
 not_all xs row rest rows e same = let all = after_all xs rows same in absurd (let none : Some [] ≡ Some (row ∷ rest) = all ∙ sym e in cc)
 
--- whether these are the rows of the items: where nothing is left
+-- whether these are the rows of the items: if nothing is left
 pub these_where_nothing : (xs : List ℕ) (rows rest : List Row) → Some rest ≡ after_items xs rows → (b : Bool) → b ≡ (length rest == 0) → IsTrue b ↔ (items_of rows ≡ xs)
 these_where_nothing xs rows [] e b t = (λ _. all_after xs rows e, λ _. t)
 these_where_nothing xs rows (row ∷ rest) e b t = (λ k. absurd (let none : length (row ∷ rest) ≡ 0 = eqb-true (length (row ∷ rest)) 0 (sym t ∙ k) in omega (arith, none)), λ same. absurd (not_all xs row rest rows e same))

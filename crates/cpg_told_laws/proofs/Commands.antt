@@ -35,7 +35,7 @@ use Rattle.cpg_told_laws.proofs.Parts.{some_parts}
 use Rattle.cpg_told_laws.proofs.Stops.{admits, says, says_acts, says_scenario, spells, stops_graph, stops_log, stops_pack, stops_part, stops_scenario}
 use Rattle.cpg_told_laws.proofs.Values.{says_graph, says_log, says_part, says_played, says_tables}
 
--- ---- want of memory
+-- ---- out of memory
 
 unread_memory : (old new : ShelfState) (told : Option Text) (halt : Halt) → halt ≡ Memory → StopsReading (seen old new) told halt
 unread_memory old new told halt e = inr (inr (record { fault = ReadFault.OutOfMemory; halt_is = e; within = λ other. absurd (other refl); first = λ other. absurd (other refl) }))

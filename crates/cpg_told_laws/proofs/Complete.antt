@@ -1,4 +1,4 @@
--- What a run answers where the shelf tells what it asks for, and no count of faults rises.
+-- What a run answers if the shelf tells what it asks for, and no count of faults rises.
 use Rattle.std.proofs.Common.{ℕ, ◌≡◌, ◌≢◌, ◌∙◌, Bool, true, false, List, [], ◌∷◌, Option, Some, None, refl, sym, ap, subst, inl, inr, true≢false}
 use Rattle.std.specs.Prelude.{◌⊎◌, Ok, Err}
 use Rattle.cpg_base.specs.Graph.{Graph}
@@ -156,7 +156,7 @@ module _ (r : Run) (w : IsLawfulRun r) (k : KeepsShelf r.shelf.old r.shelf.new) 
   of_memory halt e (inl told) = told.status ∙ ap status_of e
   of_memory halt e (inr muted) = absurd (calm.err muted.err.rose)
 
-  -- its files were read, or memory was wanting, or it follows a stream
+  -- its files were read, or memory ran out, or it follows a stream
   abbrev Comes : Command → List Value → Type 0
   Comes c values = ((ws : List Value) × Has r c ws × AllAlike values ws) ⊎ ((r.status ≡ 8) ⊎ FollowsRun r)
 

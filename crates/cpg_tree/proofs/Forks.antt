@@ -293,15 +293,15 @@ module _ {T U : Type 0} (fact : Scenario → T → U → Type 0) (more_low : Sce
   two_leaf_of made = subst (λ (m : Node T). IsTwo fact more_low more_high domain m r) (sym is)
       (made_weaker domain _ _ _ _ _ _ r made (λ s z d t. t) (λ s u d. omega arith) (λ k s u d. omega arith))
 
--- where the forks of a tree that is a fork pass a test, so do those of its sides
+-- if the forks of a tree that is a fork pass a test, so do those of its sides
 pub passes_parts : {T : Type 0} (test : ℕ → Bool) (v cut : ℕ) (below above n : Node T) {p : Box (Unit {0}) Global} → n ≡ Fork' v cut p below above → DoForksPass test n → (test v ≡ true) × DoForksPass test below × DoForksPass test above
 passes_parts test v cut below above n is pass = subst (DoForksPass test) is pass
 
--- where such a tree fits, so do its sides
+-- if such a tree fits, so do its sides
 pub fit_parts : {T : Type 0} (room : Space) (v cut : ℕ) (below above n : Node T) {p : Box (Unit {0}) Global} → n ≡ Fork' v cut p below above → IsFit room n → IsFit room (Fork' v cut p below above)
 fit_parts room v cut below above n is fit = subst (IsFit room) is fit
 
--- where two pairs of sides are the same, so are their sides
+-- if two pairs of sides are the same, so are their sides
 module _ {T : Type 0} {one other : Node T × Node T} (same : one ≡ other) where
   pub same_below : one.0 ≡ other.0
   same_below = ap (λ (sides : Node T × Node T). sides.0) same
