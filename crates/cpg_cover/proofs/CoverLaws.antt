@@ -38,7 +38,7 @@ module _ (g : Graph) (order : List ℕ) where
   least_if_some test None f = tt
   least_if_some test (Some s) f = f
 
-  -- what is outside one cube of the list, of which some literals tell all if the cube matches
+  -- what is outside one cube of the list, of which some literals tell all where the cube matches
   pub left_by_taken : {X : Type 0} (seen : X → List Literal) (xs : List X) (i : ℕ) (d : X) (literals cube : List Literal) (o : Option Scenario) → i < length xs
       → ((s : Scenario) → IsScenario g s → matches cube s ≡ true → matches literals s ≡ matches (seen (get_or xs i d)) s)
       → IsFirst g order (λ s. is_left (map seen (remove xs i)) cube s && not (matches literals s)) o → IsFirst g order (is_left (map seen xs) cube) o

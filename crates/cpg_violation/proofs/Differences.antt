@@ -26,7 +26,7 @@ module _ {X : Type 0} (xs ys : List X) (i : ℕ) where
       go [] k q = absurd (omega arith)
       go (y ∷ ys) k q = none-some (get_or (y ∷ ys) i y) (sym (slice_get_past xs i h) ∙ q ∙ slice_get-get_or (y ∷ ys) i y k)
 
--- lists of two lengths differ if the shorter ends
+-- lists of two lengths differ where the shorter ends
 pub ends_differ : {X : Type 0} (xs ys : List X) (i : ℕ) → i ≡ min (length xs) (length ys) → length xs ≢ length ys → slice_get xs i ≢ slice_get ys i
 ends_differ xs ys i e n = elim (cases_lt i (length ys)) [
   | inl lt ↦ ends_first xs ys i (omega arith) lt
