@@ -133,7 +133,7 @@ pub(crate) fn part_of(
     }
 }
 
-/// The same of the column at a place, if there is one.
+/// As `part_of`, of the column at a place, if there is one.
 fn part_at(
     problem: &Problem,
     telling: Telling,

@@ -89,7 +89,7 @@ fn is_lawful(
     are_active(admitted, always, literals, &space)
 }
 
-/// The same for each of these columns.
+/// Whether an item and the processes of the literals of each of these columns are active wherever the column matches.
 fn are_lawful(
     admitted: &Admitted,
     always: &[bool],

@@ -78,7 +78,8 @@ fn least_lacking(
     Ok(found)
 }
 
-/// The same for several inputs.
+/// The least scenario in which a column matches and one of several inputs is live and not there by its time, if there
+/// is one.
 fn least_of_lacking(
     alloc: Global,
     admitted: &Admitted,

@@ -38,7 +38,7 @@ pub(crate) trait Question {
         ensures first { IfOk result (λ r. (order : List ℕ) → IsFirst problem.now order (asks self.now problem.now beside.now) r) };
 }
 
-/// The same for several columns.
+/// The least scenario in which one of several columns is as asked, if there is one.
 fn least_of<Q: Question>(
     alloc: Global,
     problem: &Problem,

@@ -136,7 +136,7 @@ fn put(literals: &mut SmallVec<Literal, FEW>, literal: Literal) -> Result<Narrow
     narrow(literals, literal)
 }
 
-/// The same literals. A list of its own takes many at once.
+/// A copy of literals. A list of its own takes many at once.
 fn copied(alloc: Global, literals: &[Literal]) -> Result<SmallVec<Literal, FEW>, OutOfMemory>
     ensures { IfOk result (λ copy. copy.items ≡ literals.now) }
 {
@@ -230,7 +230,7 @@ impl Cube {
         literal
     }
 
-    /// The same, at once if the variable is above all others.
+    /// As `range_left`, at once if the variable is above all others.
     fn range_with(&self, literal: Literal) -> Literal
         ensures { result ≡ range_left literal self.now }
     {

@@ -159,7 +159,7 @@ fn put_lows_of(
     Ok(())
 }
 
-/// The same, at once if all begin at 0.
+/// Puts the lows of literals, at once if all begin at 0.
 fn put_block(
     places: &[u16; VARIABLES],
     literals: &[Literal; BLOCK],

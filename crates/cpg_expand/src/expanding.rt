@@ -97,8 +97,8 @@ pub fn grow(alloc: Global, admitted: &Admitted, order: Order) -> Result<Grown, B
     Ok(grown)
 }
 
-/// The same, but an item isn't refused for its views. If one has too many, the leaves of trees are counted on the way, and
-/// `TooWide` shows the least such item if a tree has more than 147,456.
+/// As `grow`, but an item isn't refused for its views. If one has too many, the leaves of trees are counted on the
+/// way, and `TooWide` shows the least such item if a tree has more than 147,456.
 pub fn grow_bounded(alloc: Global, admitted: &Admitted, order: Order) -> Result<Grown, BuildFault>
     requires topological { IsTopological admitted.now.graph order }
     ensures grown { IfOk result (IsGrownFor admitted.now.graph admitted.now.order order) }
@@ -158,7 +158,7 @@ impl Grown {
         })
     }
 
-    /// The same, if no item has too many views.
+    /// As `build_bounded`, if no item has too many views.
     pub fn build(self, alloc: Global, admitted: &Admitted) -> Result<Built, OutOfMemory>
         requires topological { IsTopological admitted.now.graph self.order }
         requires narrow { IsNarrow admitted.now.graph self.order }

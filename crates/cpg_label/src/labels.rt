@@ -146,7 +146,7 @@ impl<'a> Labels<'a> {
         }
     }
 
-    /// The same labels, with the texts of literals of at most so many faults at hand.
+    /// These labels, with the texts of literals of at most `faults` faults at hand.
     fn with_phrases(mut self, alloc: Global, faults: u8) -> Result<Labels<'a>, OutOfMemory>
         ensures { IfOk result (λ labels. labels ≡ self.entry) }
     {
@@ -166,7 +166,7 @@ impl<'a> Labels<'a> {
         Ok(labels)
     }
 
-    /// The same of a head.
+    /// What a head calls its parts, with the texts of its literals at hand.
     pub fn ready_of_head(alloc: Global, head: &'a Head) -> Result<Labels<'a>, OutOfMemory>
         ensures { IfOk result (λ labels. labels ≡ head_labels head.entry.now) }
     {

@@ -74,7 +74,8 @@ fn gather_each<J: Test>(
     }
 }
 
-/// The same with a space of its own to change. In a function of its own, since that is cleared at each call.
+/// As `gather_each`, with a space of its own to change. It is a function of its own, since that space is cleared at
+/// each call.
 fn gather_in_all<J: Test>(
     node: &Node<Option<u32>>,
     space: &Space,

@@ -643,8 +643,8 @@ fn all_sorted_by(
     }
 }
 
-/// The same by forks at the first literal that is open, or, if that leads to no tree, by those that part the cubes best. The
-/// first is mostly a way, and takes less time.
+/// As `all_sorted_by`, by forks at the first literal that is open, or, if that leads to no tree, by those that part
+/// the cubes best. The first is mostly a way, and takes less time.
 fn all_sorted_out(
     alloc: Global,
     k: u8,

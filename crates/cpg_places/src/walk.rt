@@ -79,7 +79,8 @@ fn do_pass_each<J: Test>(node: &Node<Option<u32>>, space: &mut Space, test: &J) 
     }
 }
 
-/// The same with a space of its own to change. In a function of its own, since that is cleared at each call.
+/// As `do_pass_each`, with a space of its own to change. It is a function of its own, since that space is cleared at
+/// each call.
 fn do_pass_in_all<J: Test>(node: &Node<Option<u32>>, space: &Space, test: &J) -> bool
     ensures { OnTrue result ((s : Scenario) → Lies space.now s → J.tells test.now (value_at node.now s) s) }
 {

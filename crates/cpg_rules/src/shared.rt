@@ -202,7 +202,7 @@ impl Parts {
         self.parts[part].top
     }
 
-    /// The same tree as a part.
+    /// The tree of a part.
     pub fn tree(&self, part: usize) -> Result<GuardTree, OutOfMemory>
         requires { part < length self.now.parts }
         ensures { IfOk result (λ tree. tree ≡ tree_at self.now.parts part) }

@@ -119,7 +119,7 @@ impl Step {
         self.inputs.iter().any(|input| input.source == process)
     }
 
-    /// The same step.
+    /// A copy of the step.
     fn copy(&self) -> Result<Step, OutOfMemory>
         ensures { IfOk result (λ step. step ≡ self.now) }
     {

@@ -88,7 +88,7 @@ impl GuardTree {
         Ok(GuardTree { node })
     }
 
-    /// The same tree.
+    /// A copy of the tree.
     pub(crate) fn copy(&self) -> Result<GuardTree, OutOfMemory>
         ensures { IfOk result (λ tree. tree ≡ self.now) }
     {

@@ -19,7 +19,7 @@ pub fn entries_have_times()
     ensures { EntriesHaveTimes }
 {}
 
-/// So have rows, and an item that is never active has no column.
+/// Rows have the times of the runs, and an item that is never active has no column.
 pub fn rows_have_times()
     ensures { RowsHaveTimes }
 {}

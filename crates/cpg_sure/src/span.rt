@@ -25,7 +25,7 @@ pub(crate) struct Span {
 }
 
 impl Span {
-    /// That of the executions of a process, by its faults.
+    /// How long the executions of a process last at most, by its faults.
     pub(crate) fn of_execution(problem: &Problem, process: u32) -> Span
         requires { process < process_count problem.now }
         ensures { IsSpan problem.now (execution problem.now process) result }

@@ -19,7 +19,7 @@ process = [
 edge = [{ from = "A", to = "B" }]
 "#;
 
-/// The same with a frozen message, and in time.
+/// The graph of `PAIR` with a frozen message, and in time.
 pub const FROZEN: &str = r#"faults = 1
 deadline = 122
 node = [{ name = "N1" }, { name = "N2" }]
@@ -63,7 +63,7 @@ process = [
 edge = [{ from = "A", to = "B", when = true }, { from = "A", to = "C", when = false }]
 "#;
 
-/// The same with two faults, a join, releases, deadlines that are missed, and frozen items.
+/// A graph like that of `FORK`, with two faults, a join, releases, deadlines that are missed, and frozen items.
 pub const MIXED: &str = r#"faults = 2
 deadline = 150
 node = [{ name = "N1" }, { name = "N2" }]

@@ -227,7 +227,7 @@ fn is_found(alloc: Global, admitted: &Admitted, want: &Found) -> Result<bool, Ou
     Ok(unlike && found)
 }
 
-/// The same of the graph of a text, if it has three items.
+/// Whether all that is found of the graph of a text is so, if it has three items.
 fn is_found_of(alloc: Global, text: &str, want: &Found) -> Result<bool, Fail> {
     let admitted = admitted(alloc, text)?;
     if admitted.problem().item_count() != 3 {

@@ -56,7 +56,7 @@ impl<T: Copy> Node<T> {
         }
     }
 
-    /// The same part without bounds.
+    /// As `part`, without bounds.
     pub fn part_in(&self, space: &Space) -> &Node<T>
         ensures value { (s : Scenario) → Lies space.now s → value_at result.now s ≡ value_at self.now s }
         ensures same { IsWithin space.now self.now result.now }

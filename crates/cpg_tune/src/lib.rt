@@ -40,7 +40,7 @@ pub fn retuned_show_no_fault()
     ensures { RetunedShowNoFault }
 {}
 
-/// Nor does it with its best parts.
+/// With its best parts and another fault number an admitted graph shows no fault but that memory runs out.
 pub fn tuned_show_no_fault()
     ensures { TunedShowNoFault }
 {}
