@@ -53,7 +53,7 @@ abbrev pub CarriedRestsOnEarlier : Type 0
 CarriedRestsOnEarlier = (g : Graph) (order : List ℕ) (rows others : List (List Column)) (s : Scenario) (x : ℕ) → IsTopological g order →
     x < item_count g → SameRowsBefore g order (place order (producer g x)) rows others → carried g order rows s x ≡ carried g order others s x
 
--- it decides the time: if it holds in another scenario, the item is the same there
+-- what is carried beside a time decides the time: if it holds in another scenario, the item is the same there
 abbrev pub CarriedDecides : Type 0
 CarriedDecides = (g : Graph) (urgency order : List ℕ) (frozen : List (Option ℕ)) (rows : List (List Column)) (s u : Scenario) (x : ℕ) →
     IsTimed g urgency order frozen →

@@ -9,7 +9,8 @@ pub fn carried_rests_on_earlier()
     ensures { CarriedRestsOnEarlier }
 {}
 
-/// If it holds in another scenario, the item is active there too, at the same time, and the same is carried.
+/// If what is carried beside a time holds in another scenario, the item is active there too, at the same time, and
+/// the same is carried.
 pub fn carried_decides()
     ensures { CarriedDecides }
 {}
