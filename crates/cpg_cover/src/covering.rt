@@ -135,7 +135,7 @@ impl Ground {
     }
 }
 
-/// Whether it is found that a list covers a cube.
+/// Whether a list is found to cover a cube.
 pub(crate) fn is_surely_covered(
     alloc: Global,
     problem: &Problem,

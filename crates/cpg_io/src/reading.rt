@@ -19,7 +19,7 @@ pub enum ReadAll {
     /// There are more bytes than the limit.
     #[error("there are more bytes than the limit")]
     TooLong,
-    /// Want of memory.
+    /// Out of memory.
     #[error("out of memory")]
     OutOfMemory,
 }

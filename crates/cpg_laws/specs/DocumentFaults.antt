@@ -135,7 +135,7 @@ named_in tables.Edge From = Some tables.Process
 named_in tables.Edge To = Some tables.Process
 named_in table key = None
 
--- none there has the name
+-- no element of the table that has what the name names has the name
 abbrev pub IsUnknownName : Members → Place → Type 0
 IsUnknownName ms place = (others : Table) × (named_in place.table place.key ≡ Some others) × (name : List ℕ) ×
     (found_at ms place.table place.index place.key ≡ Some (string name)) × ((j : ℕ) → found_at ms others j Name ≢ Some (string name))

@@ -32,7 +32,7 @@ abbrev pub IsTop : List Part → Top → Guard → Type 0
 IsTop parts (LeafTop a) tree = tree ≡ Leaf a
 IsTop parts (TestTop c off on) tree = (off < length parts) × (on < length parts) × (tree ≡ Test c (tree_at parts off) (tree_at parts on))
 
--- it is the answer to what is asked; that two are never active at once has none
+-- a part is the answer to what is asked; that two are never active at once has none
 abbrev pub IsAnswer : List ℕ → List Part → Ask → ℕ → Type 0
 IsAnswer ranks parts (Live a x source) n = (source < length parts) × (n < length parts) × (tree_at parts n ≡ live_tree a x (tree_at parts source))
 IsAnswer ranks parts (Met join first second) n =

@@ -50,7 +50,7 @@ impl Model for GuardTrees {
 pub enum GuardFault {
     /// It has more than 16,384 tracks.
     TooManyTracks,
-    /// Want of memory.
+    /// Out of memory.
     OutOfMemory,
 }
 

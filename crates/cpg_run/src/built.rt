@@ -31,7 +31,7 @@ pub struct Built {
 pub enum BuildFault {
     /// The least item whose row would have too many columns.
     TooWide(u32),
-    /// Want of memory.
+    /// Out of memory.
     OutOfMemory,
 }
 

@@ -40,12 +40,12 @@ pub fn found_rows_fit()
     ensures { FoundRowsFit }
 {}
 
-/// Within those limits they can be written as tables.
+/// Rows that are found can be written as tables, if they are within the limits of a row and of all rows.
 pub fn found_rows_are_writable()
     ensures { FoundRowsAreWritable }
 {}
 
-/// Their tables, with the greatest finish and excess of the runs, are what a builder answers.
+/// The tables of rows that are found, with the greatest finish and excess of the runs, are what a builder answers.
 pub fn found_tables_are_built()
     ensures { FoundTablesAreBuilt }
 {}

@@ -8,7 +8,7 @@ use Rattle.cpg_base.specs.Graph.{Graph, source}
 abbrev pub latest : List (List (Option ℕ)) → ℕ → ℕ
 latest schedules p = greatest (flat_map (λ starts. option_to_list (get_or starts p None)) schedules)
 
--- its key by some of its inputs
+-- the key of a process by some of its inputs
 abbrev pub key_over : Graph → List (List (Option ℕ)) → List ℕ → ℕ → List ℕ → ℕ
 key_over g schedules keys p edges = greatest (flat_map (λ starts. option_to_list (get_or starts p None)) schedules ++ map (λ e.
     get_or keys (source g e) 0 + 1) edges)

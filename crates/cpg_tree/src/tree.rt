@@ -218,7 +218,7 @@ impl<T: Copy + Eq> Tree<T> {
 }
 
 impl Tree<bool> {
-    /// Whether it is true in every scenario, as far as a look at the first fork tells.
+    /// Whether the tree is true in every scenario, as far as a look at the first fork tells.
     pub fn is_true(&self) -> bool
         ensures { OnTrue result (IsConstant true self.now.faults self.now) }
     {
@@ -229,7 +229,7 @@ impl Tree<bool> {
     }
 }
 
-/// Whether it is a time of at least this.
+/// Whether a time is there and is at least this.
 fn is_time_from(time: Option<u64>, least: u64) -> bool
     ensures { OnTrue result (time ≡ Some (max (time_later 0 time) least)) }
 {
