@@ -108,7 +108,7 @@ module _ (g : Graph) (urgency : List ℕ) (urgent : IsUrgencyOrder g urgency) (l
             ap (option_map (λ start. start + duration g p (fault_of s p))) none ∙ sym (ap (option_map (λ start. start + duration g p (fault_of u p))) none)
       ]
 
-      -- so a run of the first is one of the second
+      -- a run of the first of these scenarios is one of the second
       pub run_of_alike : IsRun g order frozen u t
       run_of_alike = record {
         times = run.times ∙ same_map (time_by g order frozen s t) (time_by g order frozen u t) (numbers_below (item_count g)) (λ x c. time_same x (numbers-Contains (item_count g) x c));
@@ -116,7 +116,7 @@ module _ (g : Graph) (urgency : List ℕ) (urgent : IsUrgencyOrder g urgency) (l
         finish = run.finish;
       }
 
--- so scenarios with the same active numbers have the same runs
+-- scenarios with the same active numbers have the same runs
 pub same_runs : (g : Graph) (urgency : List ℕ) → IsUrgencyOrder g urgency → IsTopological g urgency → (s u : Scenario) → active_numbers g s ≡ active_numbers g u → HaveSameRuns g s u
 same_runs g urgency urgent lawful s u same = record {
   onward = λ order frozen t topological run. run_of_alike g urgency urgent lawful s u (alike_from_numbers g s u same) order topological frozen t run;

@@ -78,7 +78,7 @@ module _ (g : Graph) (order : List ℕ) (top : IsTopological g order) where
               (subst (λ (v : Times). IsLeastExceeding g v (excess_in_run g v) by) (run_unique g order top frozen s t u its_run run) exceeds);
         }
 
--- where something exceeds, some process has the greatest excess
+-- if something exceeds, some process has the greatest excess
 pub least_exceeding : (g : Graph) (t : Times) (by : Option ℕ) → 0 < excess_in_run g t → IfSome by (IsFirstExceeding g t (excess_in_run g t)) → IfNone by ((q : ℕ) → q < process_count g → excess_of g t q ≢ excess_in_run g t) → IsLeastExceeding g t (excess_in_run g t) by
 least_exceeding g t None some found none = elim (greatest_cases (map (excess_of g t) (numbers_below (process_count g)))) [
   | inl z ↦ z

@@ -110,7 +110,7 @@ module _ (f : ℕ → List ℕ) (n : ℕ) where
   none_placed = record { each = search rules; all = λ i l. absurd (omega arith) }
 
   module _ (old new : List (Vec ℕ × ℕ)) (k : Vec ℕ) (place : ℕ) (a : ArePlaced f n old) (is : k.items ≡ f n) (gets : GetsPlace k n old new place) where
-    -- where the numbers have no place, none before n has them
+    -- if the numbers have no place, none before n has them
     unknown_least : place_in old k.items ≡ None → (j : ℕ) → f j ≡ f n → n ≤ j
     unknown_least none j e = elim (cases_lt j n) [
       | inl l ↦ absurd (a.all j l (ap (place_in old) (e ∙ sym is) ∙ none))

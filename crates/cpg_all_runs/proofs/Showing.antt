@@ -11,7 +11,7 @@ use Rattle.cpg_all_runs.specs.Active.{HaveSameRuns, IsShown, AreExamples}
 use Rattle.cpg_all_runs.specs.FirstAlike.{scenario_at, AreFirstAlike}
 use Rattle.cpg_all_runs.specs.Listing.{AreScenarios}
 
--- of the first n scenarios the list shows what is active
+-- the list shows what is active in the first n scenarios
 pub record AreFirstExamples (g : Graph) (n : ℕ) (scenarios list : List Scenario) : Type 0 where
   pub lawful : (s : Scenario) → Contains list s → IsScenario g s
   pub shown : (i : ℕ) → i < n → IsShown g list (scenario_at g scenarios i)

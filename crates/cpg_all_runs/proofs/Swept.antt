@@ -49,7 +49,7 @@ module _ (g : Graph) (order : List ℕ) (frozen : List (Option ℕ)) (i : ℕ) (
   pub stepped_all : (n : ℕ) (found : List ProgressState) → AreStepped g order frozen i n list found → n ≡ length list → AreAlong g order frozen (i + 1) list found
   stepped_all n found a e = record { count = a.count; each = λ j s p l. a.stepped j s p (omega arith) l }
 
-  -- what is found before a place stays so where an item of the place, or of a later one, gets a frozen time
+  -- what is found before a place stays so if an item of the place, or of a later one, gets a frozen time
   pub along_kept : IsTopological g order → (more : List (Option ℕ)) (x : ℕ) (found : List ProgressState) → place_of g order x ≡ i → ((y : ℕ) → y ≢ x → get_or more y None ≡ get_or frozen y None)
       → AreAlong g order frozen i list found → AreAlong g order more i list found
   along_kept topological more x found at same a = record {

@@ -15,7 +15,7 @@ active_fault g s p = if active g s.values p then fault_of s p + 1 else 0
 abbrev pub active_value : Graph → Scenario → ℕ → ℕ
 active_value g s c = if active g s.values (process_of g c) then number_of_value (get_or s.values c false) + 1 else 0
 
--- of each process and then of each condition
+-- such a number for each process, and then for each condition: 0 if it isn't active
 abbrev pub active_numbers : Graph → Scenario → List ℕ
 active_numbers g s = map (active_fault g s) (numbers_below (process_count g)) ++ map (active_value g s) (numbers_below (condition_count g))
 

@@ -7,7 +7,7 @@ use Rattle.cpg_run.specs.Run.{Times}
 use Rattle.cpg_run.specs.Finish.{excess_of, IsWorst, IsExcess}
 use Rattle.cpg_all_runs.specs.Runs.{AreRuns}
 
--- of the first n the number at the place is the greatest, and of those that are as great its scenario comes first
+-- the number at a place is the greatest of the first n, and none that is as great has a scenario before its own
 pub record IsFirstGreatest (g : Graph) (urgency : List ℕ) (n : ℕ) (list : List Scenario) (numbers : List ℕ) (at : ℕ) : Type 0 where
   pub there : at < n
   pub most : (i : ℕ) → i < n → get_or numbers i 0 ≤ get_or numbers at 0

@@ -14,7 +14,7 @@ place_in entries numbers = lookup (is_at (λ k. slice_cmp nat_cmp numbers k.item
 abbrev pub with_place : List (Vec ℕ × ℕ) → Vec ℕ → ℕ → List (Vec ℕ × ℕ)
 with_place entries numbers place = insert_entry (λ x y. slice_cmp nat_cmp x.items y.items) entries numbers place
 
--- a list of numbers keeps the place that it has, and gets the given one where it has none
+-- a list of numbers keeps the place that it has, and gets the given one if it has none
 abbrev pub GetsPlace : Vec ℕ → ℕ → List (Vec ℕ × ℕ) → List (Vec ℕ × ℕ) → ℕ → Type 0
 GetsPlace numbers at old new place =
     ((place_in old numbers.items ≡ Some place) × (new ≡ old))

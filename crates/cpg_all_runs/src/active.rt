@@ -60,7 +60,7 @@ fn active_faults(
     Ok(numbers)
 }
 
-/// What is active in a scenario: for each process and then for each condition 0 where it isn't active or decided, else
+/// What is active in a scenario: for each process and then for each condition 0 if it isn't active or decided, else
 /// one more than its fault count or its value. Scenarios in which these are equal have equal runs.
 pub(crate) fn active_numbers(
     alloc: Global,

@@ -45,7 +45,7 @@ fn first_exceeding(problem: &Problem, times: &RunTimes, excess: u64) -> Option<u
     None
 }
 
-/// The first process with the greatest excess of a run, and `None` where nothing exceeds.
+/// The first process with the greatest excess of a run, and `None` if nothing exceeds.
 fn most_exceeding(problem: &Problem, times: &RunTimes) -> Option<u32>
     ensures { IsLeastExceeding problem.now times.now (excess_in_run problem.now times.now) result }
 {
@@ -69,7 +69,7 @@ fn excesses(alloc: Global, problem: &Problem, runs: &[RunTimes]) -> Result<Vec<u
 }
 
 /// How far an end is past its due at most over all scenarios of a graph, given all of them and the run of each: the
-/// first scenario by the urgency order that has it, and the first process that has it there, or `None` where nothing
+/// first scenario by the urgency order that has it, and the first process that has it there, or `None` if nothing
 /// exceeds.
 pub fn excess(
     alloc: Global,

@@ -136,8 +136,8 @@ fn sweep(
 }
 
 /// The times of the frozen items under an order, in time units, given all scenarios and what `first_alike` answers for them:
-/// of each item the greatest time that it would have in some scenario if it were not frozen, and none where it is never
-/// active. Where nothing is frozen no scenario is gone over.
+/// of each item the greatest time that it would have in some scenario if it were not frozen, and none if it is never
+/// active. If nothing is frozen, no scenario is gone over.
 pub fn frozen_times(
     alloc: Global,
     admitted: &Admitted,

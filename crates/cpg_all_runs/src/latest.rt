@@ -53,7 +53,7 @@ fn time_there(
     Ok(next.time(item))
 }
 
-/// The greatest time over all scenarios that an item would have if it were not frozen, in time units, or `None` where it
+/// The greatest time over all scenarios that an item would have if it were not frozen, in time units, or `None` if it
 /// is never active: given scenarios that show what can be active and what is found of each before the item's place, and frozen
 /// times that leave the item out.
 pub(crate) fn unfrozen_time(

@@ -57,7 +57,7 @@ fn first_ending(times: &RunTimes, processes: u32, time: u64) -> Option<u32>
 }
 
 /// The greatest finish over all scenarios of a graph, given all of them and the run of each: the first scenario by the
-/// urgency order that has it, and the first process that ends then, or `None` where the graph has no process.
+/// urgency order that has it, and the first process that ends then, or `None` if the graph has no process.
 pub fn worst(
     alloc: Global,
     admitted: &Admitted,

@@ -79,7 +79,7 @@ module _ (r : Ran) (c : Command) (vs : List Value) (has : Has r c vs) where
   pub printed : (text : Text) → Prints r text → (ws : List Value) × AllAlike vs ws × PutsOut c ws text
   printed text p = (p.values, alike p.command p.values p.has, subst (λ (k : Command). PutsOut k p.values text) (same_command p.command p.has.words) p.puts)
 
-  -- where it stops, memory is wanting, or its work stops
+  -- if it stops, memory runs out, or its work stops
   pub stopped_by : (h : Halt) → Stops r h → (h ≡ Memory) ⊎ ((ws : List Value) × AllAlike vs ws × StopsWork c ws h)
   stopped_by h (inl words) = elim words.cause [ inl formless ↦ absurd (none-some c (sym formless.1 ∙ has.words)) | inr memory ↦ inl memory ]
   stopped_by h (inr (inl files)) = inl (stops_memory None (files_of c) r.shelf.old.history r.shelf.new.history vs h has.reads

@@ -1,4 +1,4 @@
--- Of the graph of a number nothing stops a trial but want of memory, and its worst case has the greatest finish.
+-- Nothing stops a trial of the graph of a number unless memory runs out, and its worst case has the greatest finish.
 use Rattle.std.proofs.Common.{ℕ, ◌≡◌, ◌∙◌, Bool, true, false, List, length, refl, ap, sym, subst, arith}
 use Rattle.std.specs.Prelude.{◌↔◌, IsTrue, Result, Ok, Err, IfOk}
 use Rattle.std.proofs.lemmas.Bool.{false≢true}
@@ -40,7 +40,7 @@ use Rattle.cpg_app.proofs.Finishes.{finish_is}
 pub admission_fault : (number : ℕ) (g : Graph) (fault : RuleFault) → g ≡ generated number → ShowsFault g fault → fault ≡ RuleFault.OutOfMemory
 admission_fault number g fault same shows = no_fault number fault (subst (λ x. ShowsFault x fault) same shows)
 
--- and its tables are made
+-- the tables of a generated graph are made: no fault is shown but that memory runs out
 pub compile_fault : (g : Graph) (urgency : List ℕ) (fault : CompileFault) → IsGenerated g → IsTopological g urgency → ShowsCompileFault g urgency fault → fault ≡ CompileFault.OutOfMemory
 compile_fault g urgency (CompileFault.TooWide x) made topological shows = absurd (narrow made.0 urgency x (subst (λ g. IsWide g (first_order g urgency) x) made.1 shows.0.wide))
 compile_fault g urgency (CompileFault.Late s p time) made topological shows =

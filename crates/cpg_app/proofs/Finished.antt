@@ -47,7 +47,7 @@ module _ (r : Ran) where
   told_lawful : (h : Halt) → Stops r h → Untouched r.out → Sent r.err r.status (status_of h) (line_of h) → IsLawful r
   told_lawful h stops silent sent = lawful_by r h (record { stops = stops; ending = stopped r h silent sent })
 
-  -- or that of out of memory
+  -- it stops, and its line was sent, or that of out of memory
   either_lawful : (h : Halt) → h ≢ Read → Stops r h → Untouched r.out → Sent r.err r.status (status_of h) (line_of h) ⊎ Sent r.err r.status (status_of Memory) (line_of Memory) → IsLawful r
   either_lawful h other stops silent (inl sent) = told_lawful h stops silent sent
   either_lawful h other stops silent (inr sent) = told_lawful Memory (memory_too h other stops) silent sent

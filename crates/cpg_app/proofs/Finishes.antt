@@ -69,7 +69,7 @@ module _ (g : Graph) (formed : WellFormed g) (tables : List NodeTable) (order : 
       (subst (Contains t.ends) ends (subst (λ (es : List (Option ℕ)). Contains es (end_by g w.scenario t p)) (sym run.ends) (Contains-map (end_by g w.scenario t) (numbers_below (process_count g)) p (Contains-numbers (process_count g) p below))))
       (Contains-first x [])
 
-  -- and an end of the run one of the play
+  -- an end of the run is one of the play
   of_run : (x : ℕ) → Contains (flat_map option_to_list t.ends) x → Contains times x
   of_run x m =
       let one = Contains-flat_map_parts option_to_list t.ends x m in

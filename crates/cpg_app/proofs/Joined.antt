@@ -65,7 +65,7 @@ pub record IsOutputFor (spell : Graph → Compiled → Text) (g : Graph) (made :
   pub admitted : IsAdmitted admission.graph admission.order admission.guards
   pub made_of : IsMadeOf admission spell made
 
--- so it is where a command's output is made of a graph file
+-- if a command's output is made of a graph file, its graph is admitted, and the bytes are spelled from its tables
 output_of : (asked : Text → Command) (spell : Graph → Compiled → Text) → ((graph text : Text) (vs : List Value) → PutsOut (asked graph) vs text → OnGraph vs (λ a. IsMadeOf a spell text)) → ((graph : Text) → is_live (Some (asked graph)) ≡ false) →
     ((graph : Text) → files_of (asked graph) ≡ file GraphFile graph ∷ []) → (r : Ran) (g : Graph) (made : Text) → HasMade asked r g made → IsOutputFor spell g made
 output_of asked spell puts dead files r g made has = elim (has.lawful.done has.done) [

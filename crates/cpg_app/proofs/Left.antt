@@ -26,7 +26,7 @@ use Rattle.cpg_app.specs.Outputs.{AreJudgedSafe}
 
 -- ---- of a graph
 
--- want of memory, late, or too wide
+-- out of memory, late, or too wide
 abbrev pub CompileLeft : Admission → Halt → Type 0
 CompileLeft a h = (status_of h ≡ 8) ⊎ (((status_of h ≡ 5) × IsLate a.graph a.order) ⊎ ((status_of h ≡ 6) × ((x : ℕ) × IsWide a.graph (first_order a.graph a.order) x)))
 
@@ -59,7 +59,7 @@ module _ (a b : Admission) (same : AreAlike a b) (t : Tables) (lawful : AreLawfu
 
 -- ---- of parts
 
--- want of memory, or a refusal that is shown
+-- out of memory, or a refusal that is shown
 abbrev pub PartsLeft : List Part → Halt → Type 0
 PartsLeft parts h = (status_of h ≡ 8) ⊎ ((status_of h ≡ 4) × ((fault : HyperFault) × ShowsUnrolled parts (Err fault) × (fault ≢ OutOfMemory)))
 

@@ -238,7 +238,7 @@ module _ (r : Ran) where
     status_at : (n : ℕ) → r.status ≡ n → n ≢ 3 → status_of halt ≡ n
     status_at n e other = sym (told_at n e other).status ∙ e
 
-    -- where no sink met a fault, the status is the halt's
+    -- if no sink met a fault, the status is the halt's
     told_here : IsFaultless r → r.status ≡ status_of halt
     told_here faultless = elim by.ending [ inl t ↦ t.status | inr m ↦ absurd (faultless.err m.err.rose) ]
 

@@ -145,7 +145,7 @@ of_file g f fetch h (inr (inl long)) = inr (as_halt h _ long.halt_is (omega arit
 of_file g f fetch h (inr (inr (inl refused))) = inr (of_bytes g f.kind fetch.given h refused.refuses)
 of_file g f fetch h (inr (inr (inr wanting))) = inr (as_halt h _ wanting.halt_is (omega arith))
 
--- so at the last fetch
+-- the last fetch failed
 pub record FailsLast (now : List Fetch) : Type 0 where
   pub fetch : Fetch
   pub past : List Fetch

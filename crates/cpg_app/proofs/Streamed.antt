@@ -92,7 +92,7 @@ module _ (r : Ran) (f g : Follows r) where
   pub same_end : stream_end (table_of g) g.fetch.given ≡ stream_end (table_of f) f.fetch.given
   same_end = ap (λ (e : Fetch). stream_end (table_of g) e.given) (sym same_fetch) ∙ ap (λ t. stream_end t f.fetch.given) same_table
 
--- where its stream didn't fail, no fetch did
+-- if its stream didn't fail, no fetch did
 sound_all : (r : Ran) (f : Follows r) → f.fetch.failed ≡ false → AreSound r.shelf.old.history r.shelf.new.history
 sound_all r f sound =
     let past = f.read ∷ r.shelf.old.history in

@@ -97,7 +97,7 @@ module _ (c : Command) (vs : List Value) (r : Result Output Halt) where
   pub stops_compile : (a : Admission) → AreInputs c vs (Inputs.Graph a Purpose.Compile) → IfErr r (IsUncompiled a) → IfErr r (OrMemory (StopsWork c vs))
   stops_compile a (graph, e, is) err = stop_as (Compile graph) e (if_err r (λ h wrong. inl (a, is, wrong)) err)
 
-  -- want of memory alone
+  -- out of memory alone
   pub stops_memory : IfErr r (λ h. h ≡ Memory) → IfErr r (OrMemory (StopsWork c vs))
   stops_memory err = if_err r (λ h memory. inr memory) err
 

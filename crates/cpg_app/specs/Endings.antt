@@ -49,7 +49,7 @@ pub record Has (r : Ran) (command : Command) (values : List Value) : Type 0 wher
   pub words : command_of r.words ≡ Some command
   pub reads : Reads None (files_of command) r.shelf.old.history r.shelf.new.history values
 
--- the same for inputs, from one state of a shelf to a later one
+-- the files that the words name were read between two states of a shelf, and say these inputs
 pub record HasAt (asked : List Text) (old new : ShelfState) (inputs : Inputs) : Type 0 where
   pub command : Command
   pub words : command_of asked ≡ Some command

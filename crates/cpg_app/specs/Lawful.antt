@@ -120,7 +120,7 @@ pub record IsLawful (r : Ran) : Type 0 where
   pub formless : command_of r.words ≡ None → r.status ≢ 3 → (r.status ≡ 1) ⊎ (r.status ≡ 8)
   -- 2: the shelf met a fault at the last file; every earlier file was read, and none was rejected
   pub read : r.status ≡ 2 → IsFailed r × ((Stops r Read × IsTold r Read) ⊎ IsUnreadStream r)
-  -- and a fetch that failed ends the run with 2, or with 3 if `err` met a fault in the line of that
+  -- a fetch that failed ends the run with 2, or with 3 if `err` met a fault in the line that says so
   pub unread : AreSound r.shelf.old.history r.shelf.new.history ⊎ ((r.status ≡ 2) ⊎ ((r.status ≡ 3) × TookPart r.err (line_of Read)))
   -- 3: a sink met a fault
   pub write : r.status ≡ 3 → Rose r.out.before r.out.now ⊎ Rose r.err.before r.err.now

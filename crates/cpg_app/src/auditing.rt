@@ -29,7 +29,7 @@ fn scenario_line(
     Ok(text)
 }
 
-/// The text where no scenario gives a log. The contract alone names `problem`.
+/// The text if no scenario gives a log. The contract alone names `problem`.
 fn impossible(alloc: Global, problem: &Problem) -> Result<String, OutOfMemory>
     ensures { IfOk result (λ text. string_bytes text ≡ given_text problem.now None) }
 {

@@ -10,7 +10,7 @@ use Rattle.cpg_cube.specs.Column.{Column}
 use Rattle.cpg_log.specs.Log.{Log, logged_time}
 use Rattle.cpg_log.specs.declared.log.Logged.{Logged}
 
--- whether a log excludes a time of an item: another than the one that is logged, or any up to the log's time where none is
+-- whether a log excludes a time of an item: another than the one that is logged, or any up to the log's time if none is
 abbrev pub is_excluded : ℕ → Option ℕ → ℕ → Bool
 is_excluded until None time = nat_le time until
 is_excluded until (Some logged) time = not (time == logged)
@@ -19,11 +19,11 @@ is_excluded until (Some logged) time = not (time == logged)
 abbrev pub excluded_cubes : ℕ → Option ℕ → List Column → List (List Literal)
 excluded_cubes until logged columns = map (λ c. c.cube) (filter (λ c. is_excluded until logged c.time) columns)
 
--- those of an item
+-- the cubes of an item's columns whose times a log excludes
 abbrev pub excluded_of : List NodeTable → Log → ℕ → List (List Literal)
 excluded_of tables log x = excluded_cubes log.until (logged_time log.acts x) (columns_of tables x)
 
--- a time where a process or item isn't active, and none where it is
+-- a time if a process or item isn't active, and none if it is
 abbrev pub idle_time : Bool → Option ℕ
 idle_time active = if active then None else Some 0
 

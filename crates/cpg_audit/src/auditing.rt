@@ -93,7 +93,7 @@ fn push_cubes<'a>(columns: &'a [Entry], by: &mut Vec<&'a Cube>) -> Result<(), Ou
 }
 
 /// The least scenario along the urgency order, of at most the graph's faults, in which the items and times of what is due
-/// on all nodes up to a log's time are those of the log; `None` exactly where no scenario gives it. No scenario is listed.
+/// on all nodes up to a log's time are those of the log; `None` exactly if no scenario gives it. No scenario is listed.
 pub fn audit(
     alloc: Global,
     admitted: &Admitted,

@@ -7,7 +7,7 @@ use cpg_base::{OutOfMemory, Problem};
 use cpg_log::Log;
 use std::alloc::Global;
 
-/// An item, at the time at which a log names it or, where it doesn't, at the greatest.
+/// An item, at the time at which a log names it or, if it doesn't, at the greatest.
 #[derive(Drop)]
 pub struct Timed {
     time: u64,

@@ -1,4 +1,4 @@
-//! What is left of all scenarios where single cubes are taken off, as ranges.
+//! What is left of all scenarios once single cubes are taken off, as ranges.
 ghost use Rattle.std.specs.Prelude.{◌≡◌, ◌≤◌, ◌<◌, ◌||◌, ℕ, All, IfOk, IfSome, false, length, true};
 ghost use Rattle.std.specs.Bool.{OnTrue};
 ghost use Rattle.std.specs.List.{list_any};
@@ -54,7 +54,7 @@ fn extent_of(space: &Space, literals: &[Literal]) -> Extent
     }
 }
 
-/// The range that a variable is in where a literal on it doesn't hold; `None` where that isn't one range of the space.
+/// The range that a variable is in if a literal on it doesn't hold; `None` if that isn't one range of the space.
 fn range_outside(space: &Space, literal: Literal) -> Option<Literal>
     ensures { IfSome result (λ l. (s : Scenario) → Lies space.now s → holds s literal ≡ false → holds s l ≡ true) }
 {
@@ -78,7 +78,7 @@ fn range_outside(space: &Space, literal: Literal) -> Option<Literal>
     None
 }
 
-/// Leaves the scenarios in which a literal doesn't hold, where they have one range of its variable.
+/// Leaves the scenarios in which a literal doesn't hold, if they have one range of its variable.
 fn exclude(space: &mut Space, literal: Literal)
     ensures { (s : Scenario) → Lies space.old s → holds s literal ≡ false → Lies space.new s }
 {
@@ -90,7 +90,7 @@ fn exclude(space: &mut Space, literal: Literal)
     }
 }
 
-/// Leaves the scenarios that a cube doesn't match, where it tells of one variable, and keeps the cube unless it is known to match
+/// Leaves the scenarios that a cube doesn't match, if it tells of one variable, and keeps the cube unless it is known to match
 /// none of the space.
 fn take_off<'a>(
     space: &mut Space,
@@ -114,7 +114,7 @@ fn take_off<'a>(
 }
 
 /// Leaves the scenarios that no cube matches, as far as each by itself tells of one variable, and keeps the cubes but for those that
-/// are known to match nothing of what is left at their turn. It goes from the last on: where an item's cubes rise by the number of
+/// are known to match nothing of what is left at their turn. It goes from the last on: if an item's cubes rise by the number of
 /// faults, each then takes off the greatest number that is left, down to the one that the log tells.
 pub fn take_off_all<'a>(
     space: &mut Space,

@@ -10,7 +10,7 @@ use Rattle.cpg_base.specs.First.{IsFirst, earlier, first_of}
 use Rattle.cpg_base.proofs.ScenarioOrder.{not_before_transitive, before_one_way, one_least}
 
 module _ (g : Graph) (order : List ℕ) where
-  -- the same question
+  -- the first scenario that passes a test is that of another test with the same answers
   pub first_same : (p q : Scenario → Bool) (o : Option Scenario) → ((s : Scenario) → IsScenario g s → p s ≡ q s) → IsFirst g order p o → IsFirst g order q o
   first_same p q None h f = λ s i. sym (h s i) ∙ f s i
   first_same p q (Some s) h f = record {
@@ -22,7 +22,7 @@ module _ (g : Graph) (order : List ℕ) where
   pub first_none : (p : Scenario → Bool) → ((s : Scenario) → IsScenario g s → p s ≡ false) → IsFirst g order p None
   first_none p h = h
 
-  -- of two questions
+  -- the first scenario that passes one of two tests is the earlier of theirs
   pub first_or : (p q : Scenario → Bool) (a b : Option Scenario) → IsFirst g order p a → IsFirst g order q b → IsFirst g order (λ s. p s || q s) (earlier g order a b)
   first_or p q None None f h = λ s i. or_from (p s) (q s) (f s i) (h s i)
   first_or p q None (Some t) f h = record {
@@ -55,7 +55,7 @@ module _ (g : Graph) (order : List ℕ) where
             (or_cases (p u) (q u) k);
       }
 
-  -- of a list of questions
+  -- the first scenario that passes one of a list of tests is the earliest of theirs
   pub first_of_all : {X : Type 0} (test : X → Scenario → Bool) (answer : X → Option Scenario) (cs : List X) → ((c : X) → Contains cs c → IsFirst g order (test c) (answer c)) → IsFirst g order (λ s. list_any (λ c. test c s) cs) (first_of g order answer cs)
   first_of_all test answer [] h = λ s i. refl
   first_of_all test answer (c ∷ cs) h = first_or (test c) (λ s. list_any (λ d. test d s) cs) (answer c) (first_of g order answer cs)

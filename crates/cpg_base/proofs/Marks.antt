@@ -47,12 +47,12 @@ filter_grows_by p n (suc m) =
 pub filter_grows : (p : ℕ → Bool) (n k : ℕ) → n ≤ k → length (filter p (numbers_below n)) ≤ length (filter p (numbers_below k))
 filter_grows p n k h = subst (λ j. length (filter p (numbers_below n)) ≤ length (filter p (numbers_below j))) (let e : (k - n) + n ≡ k = omega arith in e) (filter_grows_by p n (k - n))
 
--- where a number passes that comes after so many others, there are more
+-- if a number passes that comes after so many others, there are more
 pub many_pass : (p : ℕ → Bool) (n i most : ℕ) → i < n → p i ≡ true → length (filter p (numbers_below i)) ≡ most → most < length (filter p (numbers_below n))
 many_pass p n i most l t e =
     let q : length (filter p (numbers_below (i + 1))) ≡ length (filter p (numbers_below i)) + 1 = ap length (filter_below_push p i ∙ ap (λ b. filter p (numbers_below i) ++ cond b (i ∷ []) []) t) ∙ length-append (filter p (numbers_below i)) (i ∷ []) in
     omega (arith, q, e, filter_grows p (i + 1) n (omega arith))
 
--- the same numbers pass where the marks agree with a test
+-- the same numbers pass if the marks agree with a test
 pub same_marked : (marks : List Bool) (p : ℕ → Bool) (n : ℕ) → n ≤ 128 → ((q : ℕ) → q < 128 → get_or marks q false ≡ p q) → filter (λ q. get_or marks q false) (numbers_below n) ≡ filter p (numbers_below n)
 same_marked marks p n few h = same_filter (λ q. get_or marks q false) p (numbers_below n) (λ q c. h q (omega (arith, numbers-Contains n q c)))

@@ -46,7 +46,7 @@ get_or-place xs x d c =
 pub same_place : (xs : List ℕ) (x y : ℕ) → Contains xs x → Contains xs y → place xs x ≡ place xs y → x ≡ y
 same_place xs x y c d e = sym (get_or-place xs x 0 c) ∙ ap (λ k. get_or xs k 0) e ∙ get_or-place xs y 0 d
 
--- also where it is not there
+-- the place of a number is below the length of a list, also if the number is not there
 pub place-below : (xs : List ℕ) (x : ℕ) → 0 < length xs → place xs x < length xs
 place-below xs x h = ⊎_elim
     (λ (l : position_or_len (λ q. q == x) xs < length xs). subst (λ b. unwrap_or (cond b (Some (position_or_len (λ q. q == x) xs)) None) 0 < length xs) (sym (lt-ltb _ _ l)) l)
@@ -84,7 +84,7 @@ comes_before_from xs x y c = list_any_true (λ z. z == x) (before xs y) x c (eq-
 pub comes_before_from_places : (xs : List ℕ) (x y : ℕ) → Contains xs x → place xs x < place xs y → comes_before xs x y ≡ true
 comes_before_from_places xs x y c h = comes_before_from xs x y (Contains-before xs x y c h)
 
--- of two numbers one comes before the other
+-- one of two numbers comes before the other
 pub apart : (xs : List ℕ) (x y : ℕ) → Contains xs x → Contains xs y → x ≢ y → Contains (before xs y) x ⊎ Contains (before xs x) y
 apart xs x y c d ne = elim (cases_order (place xs x) (place xs y)) [
   | inl e ↦ absurd (ne (same_place xs x y c d e))

@@ -1,4 +1,5 @@
--- The order of scenarios along an order of all processes is total. Where a scenario has a fact there is a least that has it, and one alone.
+-- The order of scenarios along an order of all processes is total. If a scenario has a fact, there is a least that
+-- has it, and one alone.
 use Rattle.std.proofs.Common.{ℕ, ◌<◌, ◌≤◌, ◌≡◌, true, false, List, [], ◌∷◌, ◌++◌, length, get_or, flat_map, Contains, Option, Some, None, arith, refl, sym, ap₂, ◌∙◌, subst, ⊎_elim, inl, inr, IsPermutation, ext_get_or}
 use Rattle.std.proofs.lemmas.Bool.{cases_lt}
 use Rattle.std.proofs.lemmas.List.{get_or_past}

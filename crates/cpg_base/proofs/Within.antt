@@ -1,4 +1,4 @@
--- A graph within the limits is well formed where its senders have slots.
+-- A graph within the limits is well formed if its senders have slots.
 use Rattle.cpg_base.specs.Graph.{Graph}
 use Rattle.cpg_base.specs.Limits.{IsWithinLimits}
 use Rattle.cpg_base.specs.WellFormed.{WellFormed, HasSenderSlots}

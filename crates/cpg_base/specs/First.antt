@@ -3,12 +3,12 @@ use Rattle.std.specs.Prelude.{ℕ, ◌≡◌, Bool, false, if◌then◌else◌, 
 use Rattle.cpg_base.specs.Graph.{Graph}
 use Rattle.cpg_base.specs.Scenario.{Scenario, IsScenario, IsLeast, is_before}
 
--- None where no scenario passes the test, and else the first that does
+-- None if no scenario passes the test, and else the first that does
 abbrev pub IsFirst : Graph → List ℕ → (Scenario → Bool) → Option Scenario → Type 0
 IsFirst g order test None = (s : Scenario) → IsScenario g s → test s ≡ false
 IsFirst g order test (Some s) = IsLeast g order (λ t. IsTrue (test t)) s
 
--- the earlier of two, where there are two
+-- the earlier of two, if there are two
 abbrev pub earlier : Graph → List ℕ → Option Scenario → Option Scenario → Option Scenario
 earlier g order None b = b
 earlier g order (Some s) None = Some s

@@ -4,7 +4,7 @@ use Rattle.std.specs.List.{list_any}
 use Rattle.cpg_base.specs.Graph.{Graph, node_of}
 use Rattle.cpg_base.specs.Numbers.{numbers_below}
 
--- the first place of a process in an order, or 0 where it is not in it
+-- the first place of a process in an order, or 0 if it is not in it
 abbrev pub place : List ℕ → ℕ → ℕ
 place order p = unwrap_or (position (λ q. q == p) order) 0
 
@@ -12,7 +12,7 @@ place order p = unwrap_or (position (λ q. q == p) order) 0
 abbrev pub before : List ℕ → ℕ → List ℕ
 before order p = take (place order p) order
 
--- those of them that are on its node
+-- the processes before one in an order that are on its node
 abbrev pub before_on_node : Graph → List ℕ → ℕ → List ℕ
 before_on_node g order p = filter (λ q. node_of g q == node_of g p) (before order p)
 

@@ -17,6 +17,6 @@ abbrev pub top_of : ℕ → Variable → ℕ
 top_of k (Count p) = k
 top_of k (Value c) = 1
 
--- and of the variable of a number
+-- the greatest number of the variable that has this number
 abbrev pub top : ℕ → ℕ → ℕ
 top k v = if nat_lt v 128 then k else 1

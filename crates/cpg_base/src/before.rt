@@ -5,8 +5,8 @@ ghost use Rattle.cpg_base.specs.Scenario.{IsScenario, is_before};
 
 use crate::{Order, Problem, Scenario};
 
-/// Whether the first scenario has fewer faults of a process, or as many and its condition false where the other has it
-/// true; `None` where they are alike there.
+/// Whether the first scenario has fewer faults of a process, or as many and its condition false while the other has it
+/// true; `None` if they are alike there.
 fn at_process(problem: &Problem, process: u32, first: &Scenario, second: &Scenario) -> Option<bool>
     requires process { process < process_count problem.now }
     requires first { IsScenario problem.now first.now }

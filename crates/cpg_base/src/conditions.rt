@@ -65,7 +65,7 @@ impl Conditions {
         self.count += 1;
     }
 
-    /// The conditions of so many processes, by number; `None` exactly where there are more than 32.
+    /// The conditions of so many processes, by number; `None` exactly if there are more than 32.
     pub fn of(processes: usize, edges: &[Edge]) -> Option<Conditions>
         requires few { processes ≤ 128 }
         requires sources { All (λ e. e.from < 128) edges.now }

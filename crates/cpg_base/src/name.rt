@@ -37,7 +37,7 @@ fn is_name(text: &[u8]) -> bool
 }
 
 impl Name {
-    /// The name that a text spells, and `None` exactly where the text is no name.
+    /// The name that a text spells, and `None` exactly if the text is no name.
     pub fn new(alloc: Global, text: &str) -> Result<Option<Name>, OutOfMemory>
         ensures name { IfOk result (λ r. IfSome r (λ name. name ≡ text.now)) }
         ensures taken { IfOk result (λ r. IfSome r (λ _. IsName text.now)) }
@@ -68,7 +68,7 @@ impl Name {
     }
 }
 
-/// Names are equal where their texts are.
+/// Names are equal if their texts are.
 impl PartialEq for Name {
     ghost use Rattle.std.specs.Prelude.{bytes_eq};
     ghost use Rattle.std.specs.Cmp.Rules.{comparing};

@@ -279,7 +279,7 @@ impl Problem {
         self.conditions.count() as u32
     }
 
-    /// The condition of a process, and `None` exactly where it has none.
+    /// The condition of a process, and `None` exactly if it has none.
     pub fn condition_of(&self, process: u32) -> Option<u32>
         requires { process < process_count self.now }
         ensures { result ≡ condition_of self.now process }

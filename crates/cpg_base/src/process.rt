@@ -34,7 +34,7 @@ pub struct Process {
     pub deadline: Option<u64>,
 }
 
-/// An edge between two processes. It is a message where they are on two nodes.
+/// An edge between two processes. It is a message if they are on two nodes.
 #[derive(Clone, Copy, Debug, PartialEq, Eq)]
 pub struct Edge {
     /// The number of the process that it leads away from.
@@ -43,7 +43,7 @@ pub struct Edge {
     pub to: u32,
     /// The size of its message in bytes, at least 1.
     pub size: u32,
-    /// The value of the source's condition with which it is taken; `None` where it always is.
+    /// The value of the source's condition with which it is taken; `None` if it always is.
     pub when: Option<bool>,
     /// Whether its message is sent at one time in all scenarios in which it is sent.
     pub frozen: bool,

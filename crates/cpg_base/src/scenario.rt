@@ -59,7 +59,7 @@ impl Scenario {
     }
 
     /// The number of a variable: the fault count of the process of that number, or from 128 on the value of a
-    /// condition, 0 or 1. It is 0 where the scenario has no such variable.
+    /// condition, 0 or 1. It is 0 if the scenario has no such variable.
     pub fn number(&self, variable: u8) -> u8
         ensures { result ≡ number_of self.now variable }
     {

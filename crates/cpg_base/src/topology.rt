@@ -110,7 +110,7 @@ impl Problem {
         }
     }
 
-    /// Whether an item goes over the bus: a message does, and a broadcast where there are two nodes or more.
+    /// Whether an item goes over the bus: a message does, and a broadcast if there are two nodes or more.
     pub fn is_sent(&self, item: u32) -> bool
         requires { item < item_count self.now }
         ensures { result ≡ is_sent self.now item }
@@ -159,7 +159,7 @@ impl Problem {
         self.node_of(self.producer(item))
     }
 
-    /// How long a node's slot lasts, in time units; 0 where it has none.
+    /// How long a node's slot lasts, in time units; 0 if it has none.
     pub fn slot_length(&self, node: u32) -> u64
         ensures { result ≡ slot_length self.now node }
     {

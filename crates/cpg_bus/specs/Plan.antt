@@ -8,7 +8,7 @@ use Rattle.cpg_bus.specs.Share.{ShareState, share_of}
 use Rattle.cpg_base.specs.Graph.{Graph, process_count, outputs, condition_of, is_message, message_item, broadcast_item}
 use Rattle.cpg_order.specs.Links.{EdgeLists, links_of}
 
--- the broadcast of a condition, where there are two nodes or more
+-- the broadcast of a condition, if there are two nodes or more
 abbrev pub broadcasts_of : Graph → Option ℕ → List ℕ
 broadcasts_of g None = []
 broadcasts_of g (Some c) = if nat_lt 1 (length g.nodes) then broadcast_item g c ∷ [] else []
@@ -28,7 +28,7 @@ pub record PlanState : Type 0 where
   pub shares : List (Option ShareState)
   pub turn : ℕ
 
--- that of a graph
+-- the edges, queues, shares and round of a graph
 abbrev pub plan_of : Graph → PlanState
 plan_of g = record {
   links = links_of g;

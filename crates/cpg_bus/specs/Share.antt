@@ -21,11 +21,11 @@ pub record IsShare (s : ShareState) : Type 0 where
   pub inside : s.offset + s.length ≤ s.round
   pub short : s.round ≤ 16000000000
 
--- that of a node
+-- the start and the length of a node's slot, and the length of the round
 abbrev pub share_of : Graph → ℕ → ShareState
 share_of g node = record { offset = offset g node; length = slot_length g node; round = round g }
 
--- its j-th start, the end of that slot, the number of the first start at a time or later, and that start
+-- the j-th start of a slot, then its end, the number of its first start at a time or later, and that start
 abbrev pub start_of : ShareState → ℕ → ℕ
 start_of s j = j * s.round + s.offset
 

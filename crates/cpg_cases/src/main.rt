@@ -23,7 +23,7 @@
 //! digits each, up to a `#` in a line.
 //!
 //! A run prints its words, each line of its output behind `>` and of its error output behind `!`, or the bytes by two
-//! digits where they are no text, and its status. The last four print of how many runs how many ended as they are to: by
+//! digits if they are no text, and its status. The last four print of how many runs how many ended as they are to: by
 //! a fault of the output after just that room, the same of the error output, by a fault of the shelf, and by a refusal of
 //! the pack at its end.
 #![tactic(auto)]

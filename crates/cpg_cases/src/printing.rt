@@ -18,7 +18,7 @@ fn is_plain(byte: u8) -> bool {
     byte == b'\n' || (b' ' <= byte && byte <= b'~')
 }
 
-/// Bytes as a text, where each of them is plain.
+/// Bytes as a text, if each of them is plain.
 fn text_of(bytes: &[u8]) -> Option<&str> {
     if bytes.iter().all(|byte| is_plain(*byte)) {
         str::from_utf8(bytes).ok()
@@ -61,7 +61,7 @@ fn print_rows(rt: &HostRuntime, mark: &str, bytes: &[u8], rows: usize) -> io::Re
     Ok(())
 }
 
-/// The first lines of what a sink took: as a text where it is plain, and else as digits.
+/// The first lines of what a sink took: as a text if it is plain, and else as digits.
 fn print_bytes(rt: &HostRuntime, mark: &str, bytes: &[u8], lines: usize) -> io::Result<()> {
     match text_of(bytes) {
         Some(text) => print_text(rt, mark, text, lines),

@@ -18,7 +18,7 @@ pub struct Setting {
     pub lines: usize,
 }
 
-/// What a run has where nothing is said.
+/// What a run has if nothing is said.
 pub const USUAL: Setting = Setting {
     out: 10_000_000,
     err: 1000,

@@ -11,16 +11,16 @@ use Rattle.cpg_check_rows.specs.Hears.{IsFirstHearFault}
 use Rattle.cpg_check.specs.declared.verdict.Verdict.{Verdict}
 use Rattle.cpg_check.specs.declared.verdict.Verdict.TheVariants.{Yes, Other, No}
 
--- the first violation of V1 to V9; or, where these hold, of V10
+-- the first violation of V1 to V9; or, if these hold, of V10
 abbrev pub IsFirstFault : Graph → List ℕ → List NodeTable → Fault → Type 0
 IsFirstFault g order tables f = IsFirstOf g order tables column_rules f ⊎ (AllHold g tables column_rules × IsFirstHearFault g tables f)
 
--- None where the tables are valid
+-- None if the tables are valid
 abbrev pub ShowsFault : Graph → List ℕ → List NodeTable → Option Fault → Type 0
 ShowsFault g order tables None = IsValid g tables
 ShowsFault g order tables (Some f) = IsFirstFault g order tables f
 
--- the first difference of the heads; or, where there is none, whether the tables are valid
+-- the first difference of the heads; or, if there is none, whether the tables are valid
 abbrev pub ShowsVerdict : Graph → List ℕ → Tables → Verdict → Type 0
 ShowsVerdict g order t Yes = IsHeadFor g t.head × IsValid g t.nodes
 ShowsVerdict g order t (Other part) = IsFirstDifference g t.head part

@@ -31,7 +31,7 @@ pub enum Verdict {
     No(Fault),
 }
 
-/// The first violation of V1 to V3, by the trees of all rows. The lines of the items are made only where some item isn't
+/// The first violation of V1 to V3, by the trees of all rows. The lines of the items are made only if some item isn't
 /// marked as sure.
 fn row_fault(
     alloc: Global,
@@ -76,7 +76,7 @@ fn later_fault(
     Ok(fault)
 }
 
-/// The first violation of V4 to V9, by the trees of all rows. The lines of the items are made only where some item isn't
+/// The first violation of V4 to V9, by the trees of all rows. The lines of the items are made only if some item isn't
 /// marked as sure.
 fn time_fault(
     alloc: Global,
@@ -135,7 +135,7 @@ fn first_fault(
     Ok(fault)
 }
 
-/// Whether tables are valid for an admitted graph: `Other` exactly where the head isn't the graph's, `Yes` exactly where
+/// Whether tables are valid for an admitted graph: `Other` exactly if the head isn't the graph's, `Yes` exactly if
 /// it is and the tables keep the ten rules of valid tables in every scenario, and else the first violation
 /// (docs/RULES.md). No scenario is listed.
 pub fn check(alloc: Global, admitted: &Admitted, tables: &Tables) -> Result<Verdict, OutOfMemory>

@@ -1,4 +1,4 @@
--- A literal is heard where its low is told and its high is told.
+-- A literal is heard if its low is told and its high is told.
 use Rattle.std.proofs.Common.{ℕ, ◌≡◌, ◌==◌, Bool, true, false, cond, ◌&&◌, ◌||◌, List, [], ◌∷◌, filter, map, fold, max, min, arith, sym, ap, ◌∙◌}
 use Rattle.std.specs.Prelude.{nat_le}
 use Rattle.std.specs.List.{list_any}

@@ -1,4 +1,4 @@
--- Where a column matches, a literal is heard whose process has ended: the process is active, so it has a column that
+-- If a column matches, a literal is heard whose process has ended: the process is active, so it has a column that
 -- matches, and its end tells the count and the value.
 use Rattle.std.proofs.Common.{ℕ, ◌+◌, ◌<◌, ◌≤◌, ◌≡◌, Bool, All, true, false, not, List, arith, refl, sym, ap, ◌∙◌, eq-eqb, le-leb}
 use Rattle.std.specs.List.{list_any}

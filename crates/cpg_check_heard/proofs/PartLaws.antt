@@ -61,7 +61,7 @@ off_both false h r e = refl
 
 module _ (g : Graph) (few : process_count g ≤ 128) (p : ℕ) (c : Column) (time : ℕ) (b : Bound) (can : CanTell g b (End p)) (known : IsVariable g (variable_of b))
     (counts : ℕ) (come : (n : ℕ) → n ≤ g.faults → nat_le (c.time + duration g p n) time ≡ nat_lt n counts) where
-  -- an end tells where the count is below a number and the variable is within the bound
+  -- an end tells if the count is below a number and the variable is within the bound
   end_is : (s : Scenario) → IsScenario g s → column_tells g (End p) time b s c ≡ (nat_lt (number_of s p) counts && holds s (range_of g.faults b))
   end_is s i = ap (λ t. t && list_any (tells b) (exactly p (number_of s p) ∷ value_fact s (condition_of g p))) (come (number_of s p) (count_within g few s i p can.0))
       ∙ ap (λ t. nat_lt (number_of s p) counts && t) (end_side g few s i b p known can.0 can.1 ∙ sym (range_holds g few s i b known))

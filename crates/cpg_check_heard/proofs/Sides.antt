@@ -1,4 +1,4 @@
--- When ends and frames tell a bound: where the variable's number is within it.
+-- When ends and frames tell a bound: if the variable's number is within it.
 use Rattle.std.proofs.Common.{ℕ, ◌-◌, ◌<◌, ◌≤◌, ◌≡◌, ◌==◌, Bool, false, ◌&&◌, ◌||◌, ◌⊎◌, ◌∷◌, Option, Some, None, arith, refl, sym, ap, ◌∙◌, inl, inr, subst, eqb-true, eq-eqb, le-leb, lt-ltb, le-ltb}
 use Rattle.std.specs.Prelude.{nat_le, nat_lt}
 use Rattle.std.specs.List.{list_any}

@@ -36,7 +36,7 @@ module _ (start : List (List Literal)) (s : Scenario) where
 pub told_heard : (own heard all : Bool) → all ≡ (own || heard) → heard ≡ true → all ≡ true
 told_heard own heard all is t = is ∙ or_right own heard t
 
--- where a bound is told all over a cube, it isn't open there
+-- if a bound is told all over a cube, it isn't open there
 pub untold_nowhere : (g : Graph) (cube : List Literal) (facts : Scenario → Bool) (free : Bool) → ((s : Scenario) → IsScenario g s → matches cube s ≡ true → facts s ≡ true) → (s : Scenario) → IsScenario g s → (matches cube s && not (free || facts s)) ≡ false
 untold_nowhere g cube facts free h s i = off_where (matches cube s) (not (free || facts s)) (λ m. ap not (or_right free (facts s) (h s i m)))
 
@@ -44,12 +44,12 @@ untold_nowhere g cube facts free h s i = off_where (matches cube s) (not (free |
 pub own_told : (free first own heard all : Bool) → first ≡ own → all ≡ (own || heard) → first ≡ true → (free || all) ≡ true
 own_told free first own heard all f is t = or_right free all (is ∙ ap (λ x. x || heard) (sym f ∙ t))
 
--- what isn't so where nothing is left follows from what is less
+-- what isn't so if nothing is left follows from what is less
 pub fewer_left : {A B : Type 0} (left : Bool) → (A → B) → OnFalse left A → OnFalse left B
 fewer_left false f a = f a
 fewer_left true f a = tt
 
--- where nothing is left of a cube, all of it is told
+-- if nothing is left of a cube, all of it is told
 pub left_nowhere : (g : Graph) (order : List ℕ) (cube : List Literal) (told : List (List Literal)) (o : Option Scenario) (facts : Scenario → Bool)
     → ((s : Scenario) → IsScenario g s → matches cube s ≡ true → list_any (λ b. matches b s) told ≡ true → facts s ≡ true)
     → IsFirst g order (is_left told cube) o → OnFalse (is_some o) ((s : Scenario) → IsScenario g s → matches cube s ≡ true → facts s ≡ true)

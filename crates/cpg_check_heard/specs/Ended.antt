@@ -9,7 +9,7 @@ use Rattle.cpg_cube.specs.declared.literal.Literal.{Literal}
 use Rattle.cpg_table.specs.Table.{NodeTable, columns_of}
 use Rattle.cpg_cube.specs.Column.{Column}
 
--- where a column matches, the processes of its literals are active
+-- if a column matches, the processes of its literals are active
 abbrev pub HasActive : Graph → Column → Type 0
 HasActive g c = (s : Scenario) (l : Literal) → IsScenario g s → matches c.cube s ≡ true → Contains c.cube l →
     active g s.values (process_of_variable g l.variable) ≡ true

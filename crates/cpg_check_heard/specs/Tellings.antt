@@ -29,7 +29,7 @@ column_tells g (Frame delay condition) time b s c = nat_le (c.time + delay) time
 abbrev pub is_telling : Graph → Telling → ℕ → Bound → Scenario → Column → Bool
 is_telling g telling time b s c = matches c.cube s && column_tells g telling time b s c
 
--- the same of the column at a place, if there is one
+-- whether there is a column at a place that matches, and whose end or frame tells a bound by a time
 abbrev pub is_telling_at : Graph → Telling → ℕ → Bound → List Column → Scenario → ℕ → Bool
 is_telling_at g telling time b columns s i = nat_lt i (length columns) && is_telling g telling time b s (column_at columns i)
 
@@ -62,7 +62,7 @@ item_telling g x (Broadcast c) = Frame (slot_length g (home g x)) (Some c)
 abbrev pub telling_of : Graph → ℕ → Telling
 telling_of g x = item_telling g x (item_at g x)
 
--- a cube for the scenarios that pass a test, and none where none passes
+-- a cube for the scenarios that pass a test, and none if none passes
 abbrev pub IsPart : Graph → (Scenario → Bool) → Option (List Literal) → Type 0
 IsPart g test None = (s : Scenario) → IsScenario g s → test s ≡ false
 IsPart g test (Some cube) = (s : Scenario) → IsScenario g s → matches cube s ≡ test s

@@ -31,7 +31,7 @@ pub(crate) struct Arrival<'a> {
     pub(crate) telling: Telling,
 }
 
-/// Whether the frame of a column may have come by a time; not where that of a column at this start hasn't, and the column
+/// Whether the frame of a column may have come by a time; not if that of a column at this start hasn't, and the column
 /// is no earlier.
 fn may_have_come(telling: Telling, start: u64, time: u64) -> bool
     ensures { OnFalse result ((g : Graph) (b : Bound) (s : Scenario) (c : Column) → start ≤ c.time → is_telling g telling time b s c ≡ false) }
@@ -140,7 +140,7 @@ fn tells_whole(
     cube.within(&column.cube, problem)
 }
 
-/// Whether one of these columns does.
+/// Whether the frame of one of these columns has come by a time and tells a bound wherever a cube matches.
 pub(crate) fn tells_one_whole(
     problem: &Problem,
     arrivals: &[Arrival<'_>],

@@ -55,7 +55,7 @@ fn first_unheard(
 }
 
 /// The first violation of V4, by item and column, with the least scenario in the urgency order in which it stands: the
-/// column matches, and one of its literals isn't heard at the item's node by the column's time. `None` exactly where the
+/// column matches, and one of its literals isn't heard at the item's node by the column's time. `None` exactly if the
 /// rule holds. V1 to V3 hold, and the lines are those of all items. Items at which the rule is marked as sure are left out.
 pub fn check_heard(
     alloc: Global,

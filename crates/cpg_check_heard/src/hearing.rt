@@ -140,7 +140,7 @@ impl Hearing<'_> {
         Ok(left)
     }
 
-    /// Adds a bound, where the node's own ends may leave it open at a column's time.
+    /// Adds a bound, if the node's own ends may leave it open at a column's time.
     fn add_open(
         &self,
         alloc: Global,

@@ -77,8 +77,9 @@ fn is_value(condition: Option<u32>, variable: u8) -> bool
     }
 }
 
-/// The part of a column's cube in which a frame has come that bounds a variable: all of it where the column's literals do,
-/// or else the part in which the value that it carries does.
+/// The part of a column's cube in which its frame has come by a time and tells a bound, if there is one. It is the
+/// whole cube if one of the column's literals tells the bound, or else the part in which the value that the frame
+/// carries is within the bound.
 fn frame_part(
     problem: &Problem,
     delay: u64,
@@ -132,7 +133,7 @@ pub(crate) fn part_of(
     }
 }
 
-/// The same of the column at a place, if there is one.
+/// As `part_of`, of the column at a place, if there is one.
 fn part_at(
     problem: &Problem,
     telling: Telling,

@@ -39,7 +39,7 @@ pub(crate) struct Teller<'a> {
     pub(crate) longest: usize,
 }
 
-/// The greatest number of literals of these columns; 0 where there is none.
+/// The greatest number of literals of these columns; 0 if there is none.
 fn longest(columns: &[Entry]) -> usize {
     let mut longest = 0;
     for column in columns {

@@ -32,11 +32,11 @@ other_bool true false = refl
 other_bool false true = refl
 other_bool false false = refl
 
--- the other value's literal holds where the value isn't there
+-- the other value's literal holds if the value isn't there
 pub other_holds : (s : Scenario) (c : ℕ) (v : Bool) → holds s (value_literal c (not v)) ≡ not (same_bool v (get_or s.values c false))
 other_holds s c v = value_holds s c (not v) ∙ other_bool v (get_or s.values c false)
 
--- a process isn't active where its tree comes to no activation
+-- a process isn't active if its tree comes to no activation
 pub idle_found : {g : Graph} {order : List ℕ} {guards : Guards} → IsAdmitted g order guards → (cube : List Literal) (p : ℕ) → p < process_count g → (o : Option Scenario)
     → IsFirst g order (λ s. is_left [] cube s && comes_to (tree_of guards p) false s) o → IsFirst g order (λ s. matches cube s && not (active g s.values p)) o
 idle_found {g} {order} {guards} a cube p l o f = first_same g order (λ s. is_left [] cube s && comes_to (tree_of guards p) false s) (λ s. matches cube s && not (active g s.values p)) o
@@ -44,7 +44,7 @@ idle_found {g} {order} {guards} a cube p l o f = first_same g order (λ s. is_le
     ∙ ap (λ b. matches cube s && b) (same_false (is_active (outcome_at (tree_of guards p) s.values)) ∙ ap (λ t. not (is_active t)) ((a.guards.trees p l).is s.values i.values))) f
 
 module _ (g : Graph) (order : List ℕ) (cube : List Literal) where
-  -- of the part of the cube in which a literal holds
+  -- the first scenario of the part of the cube in which a literal holds
   pub with_part : (l : Literal) (part : List Literal) (o : Option Scenario) → ((s : Scenario) → matches part s ≡ (holds s l && matches cube s)) → IsFirst g order (matches part) o → IsFirst g order (λ s. matches cube s && holds s l) o
   with_part l part o both f = first_same g order (matches part) (λ s. matches cube s && holds s l) o (λ s _. both s ∙ and_comm (holds s l) (matches cube s)) f
 

@@ -17,7 +17,7 @@ use Rattle.cpg_table.proofs.GraphTables.{suits_graph}
 use Rattle.cpg_table.specs.Found.{row_columns}
 use Rattle.cpg_check_rows.specs.Hears.{HearsHold, IsHeardWell, due_columns}
 
--- where items rise, each row is the first of its item
+-- if items rise, each row is the first of its item
 first_of_item : (rows : List Row) → Rises (λ (a b : Row). a.item < b.item) rows → (row : Row) → Contains rows row → row_columns rows row.item ≡ Some row.columns
 first_of_item [] h row k = absurd (Contains-nil row k)
 first_of_item (r ∷ rs) h row k = elim (Contains-cases r rs row k) [

@@ -30,7 +30,7 @@ both_active item none e f = ap₂ (λ a b. not a || b) e f
 rest_of : {T : Type 0} (at : ℕ) (xs : List T) → take (length xs - at) (drop at xs) ≡ drop at xs
 rest_of at xs = grind (arith, common_steps)
 
--- literals match only where those from a place on do
+-- literals match only if those from a place on do
 pub matches_from : (literals : List Literal) (at : ℕ) (s : Scenario) → matches literals s ≡ true → matches (take (length literals - at) (drop at literals)) s ≡ true
 matches_from literals at s m = subst (λ ls. matches ls s ≡ true) (sym (rest_of at literals)) (and_parts (matches (take at literals) s) (matches (drop at literals) s)
     (sym (list_all-append (holds s) (take at literals) (drop at literals)) ∙ ap (list_all (holds s)) (take-append-drop at literals) ∙ m)).1

@@ -35,7 +35,7 @@ turned false true false = refl
 turned false false n = refl
 
 module _ (g : Graph) (order : List ℕ) (columns : List Column) where
-  -- what is so when a process is active and a cube matches
+  -- what is so if a process is active and a cube matches
   pub absent_from : (b : Scenario → Bool) (p : ℕ) (cube : List Literal) → ((s : Scenario) → IsScenario g s → b s ≡ (active g s.values p && matches cube s)) → (o : Option Scenario)
       → IsFirst g order (λ s. is_left (map (λ (c : Column). c.cube) columns) cube s && active g s.values p) o → IsFirst g order (λ s. b s && has_none columns s) o
   absent_from b p cube is o f = first_same g order (λ s. is_left (map (λ (c : Column). c.cube) columns) cube s && active g s.values p) (λ s. b s && has_none columns s) o
@@ -80,7 +80,7 @@ all_mapped P f [] h k d l = absurd (omega arith)
 all_mapped P f (x ∷ xs) h zero d l = h 0 x (omega arith)
 all_mapped P f (x ∷ xs) h (suc k) d l = all_mapped P f xs (λ j e m. h (suc j) e (omega arith)) k d (omega arith)
 
--- a process is active where its tree comes to an activation
+-- a process is active if its tree comes to an activation
 pub active_found : {g : Graph} {order : List ℕ} {guards : Guards} → IsAdmitted g order guards → (by : List (List Literal)) (cube : List Literal) (p : ℕ) → p < process_count g → (o : Option Scenario)
     → IsFirst g order (λ s. is_left by cube s && comes_to (tree_of guards p) true s) o → IsFirst g order (λ s. is_left by cube s && active g s.values p) o
 active_found {g} {order} {guards} a by cube p l o f = first_same g order (λ s. is_left by cube s && comes_to (tree_of guards p) true s) (λ s. is_left by cube s && active g s.values p) o

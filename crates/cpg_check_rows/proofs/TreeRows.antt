@@ -1,4 +1,4 @@
--- Rows with trees keep V2, and V3 where the tree has no place only where the item is inactive.
+-- Rows with trees keep V2, and V3 if the tree has no place only when the item is inactive.
 use Rattle.std.proofs.Common.{ℕ, ◌<◌, ◌≡◌, false, not, ◌&&◌, List, [], Option, None, Some, length, get_or, take, arith, refl, ap, ◌∙◌, subst, inl, inr}
 use Rattle.std.specs.List.{list_any}
 use Rattle.std.specs.Prelude.{IfSome, is_some}

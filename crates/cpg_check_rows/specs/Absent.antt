@@ -4,6 +4,6 @@ use Rattle.cpg_base.specs.Graph.{Graph, item_at}
 use Rattle.cpg_base.specs.Activity.{item_active}
 use Rattle.cpg_base.specs.Scenario.{Scenario, IsScenario}
 
--- where there is no place, the item is inactive
+-- if there is no place, the item is inactive
 abbrev pub IsIdleWhere : Graph → ℕ → Option ℕ → Scenario → Type 0
 IsIdleWhere g x place s = place ≡ None → IsScenario g s → item_active g s.values (item_at g x) ≡ false

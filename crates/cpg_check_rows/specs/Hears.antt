@@ -10,7 +10,7 @@ use Rattle.cpg_table.specs.declared.fault.Fault.{Fault}
 use Rattle.cpg_table.specs.declared.rule.Rule.{Rule}
 use Rattle.cpg_table.specs.Found.{row_columns}
 
--- the first place at which two lists differ: the length of the shorter one where it begins the other
+-- the first place at which two lists differ: the length of the shorter one if it begins the other
 pub record DifferFirstAt (xs ys : List Column) (i : ℕ) : Type 0 where
   pub before : take i xs ≡ take i ys
   pub here : slice_get xs i ≢ slice_get ys i

@@ -187,7 +187,7 @@ fn first_idle(
 }
 
 /// The first violation of V1, by item and column, with the least scenario in the urgency order in which it stands: the
-/// column matches, and the item or the process of one of the column's literals isn't active. `None` exactly where the
+/// column matches, and the item or the process of one of the column's literals isn't active. `None` exactly if the
 /// rule holds. Items at which it is marked as sure are left out.
 pub(crate) fn check_activity(
     alloc: Global,

@@ -49,7 +49,7 @@ fn is_later(heard: &Entry, sent: &Entry, delay: u64) -> bool
     are_same(heard.cube.literals(), sent.cube.literals())
 }
 
-/// The first column that isn't the sender's, later by the delay: the shorter length where all before it are.
+/// The first column that isn't the sender's, later by the delay: the shorter length if all before it are.
 fn first_difference(heard: &[Entry], sent: &[Entry], delay: u64) -> Option<u32>
     requires { length sent.now ≤ MOST_LOAD }
     ensures same { IfNone result (heard.now ≡ map (later_by delay) sent.now) }
@@ -99,7 +99,7 @@ fn first_hear(tables: &Tables, nodes: u32, item: u32, sent: &[Entry], delay: u64
 
 /// The first violation of V10: the least item that some node hears at other columns than the sender's, each later by the
 /// sender's slot, with the first column that differs at the least such node, in the scenario without faults in which
-/// every value is false. `None` exactly where the rule holds.
+/// every value is false. `None` exactly if the rule holds.
 pub fn check_hears(
     alloc: Global,
     admitted: &Admitted,

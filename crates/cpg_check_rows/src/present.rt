@@ -93,7 +93,7 @@ fn least_absent(
 }
 
 /// The first violation of V3, by item, with the least scenario in the urgency order in which it stands: the item is
-/// active and no column of its row matches. `None` exactly where the rule holds. Items at which it is marked as sure are
+/// active and no column of its row matches. `None` exactly if the rule holds. Items at which it is marked as sure are
 /// left out.
 pub(crate) fn check_present(
     alloc: Global,

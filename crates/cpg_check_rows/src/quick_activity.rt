@@ -1,4 +1,4 @@
-//! The quick test of V1: where a column matches, its item and the processes of its literals are active.
+//! The quick test of V1: if a column matches, its item and the processes of its literals are active.
 ghost use Rattle.std.specs.Prelude.{◌≡◌, ◌<◌, ℕ, All, IfOk, false, not, true};
 ghost use Rattle.std.specs.Bool.{OnTrue};
 ghost use Rattle.std.specs.List.{list_any};
@@ -89,7 +89,7 @@ fn is_lawful(
     are_active(admitted, always, literals, &space)
 }
 
-/// The same for each of these columns.
+/// Whether an item and the processes of the literals of each of these columns are active wherever the column matches.
 fn are_lawful(
     admitted: &Admitted,
     always: &[bool],
@@ -126,7 +126,7 @@ fn is_plain(admitted: &Admitted, all: bool, everywhere: &Space, item: u32) -> bo
     is_item_running(admitted, item, everywhere)
 }
 
-/// Whether a row keeps the rule. Where all processes are always active no column is looked at.
+/// Whether a row keeps the rule. If all processes are always active, no column is looked at.
 fn is_sure(
     admitted: &Admitted,
     tables: &Tables,

@@ -16,7 +16,7 @@ use cpg_violation::{Line, RowMarks};
 use std::alloc::Global;
 
 /// The first violation of V1, V2 and V3, by rule, item and column, with the least scenario in the urgency order in which
-/// it stands. `None` exactly where the three rules hold. The lines are those of all items. Where a rule is marked as sure at
+/// it stands. `None` exactly if the three rules hold. The lines are those of all items. If a rule is marked as sure at
 /// an item, it isn't looked at there.
 pub fn check_rows(
     alloc: Global,

@@ -107,7 +107,7 @@ fn have_tree(
     Ok(tree.is_some())
 }
 
-/// How many first columns of a row are found to have a tree, by halving: where not all have one, mostly the next column is the
+/// How many first columns of a row are found to have a tree, by halving: if not all have one, mostly the next column is the
 /// first that matches together with an earlier one, and a long row's columns needn't be held against one another.
 fn first_with_tree(
     alloc: Global,

@@ -52,7 +52,7 @@ module _ (g : Graph) (cube : List Literal) (delay : Delay) (time : ℕ) where
   first_delay order columns o f = first_same g order (λ s. list_any (λ d. delays g cube delay time d s) columns) (λ s. matches cube s && list_any (λ d. is_late g delay time d s) columns) o
       (λ s _. both_any (matches cube s) (λ d. is_late g delay time d s) columns) f
 
-  -- where the last is early enough, all are
+  -- if the last is early enough, all are
   pub never_delays : (most last : ℕ) → IsMost g delay most → (columns : List Column) → All (λ d. d.time ≤ last) columns → last + most ≤ time → (s : Scenario) → IsScenario g s → (matches cube s && list_any (λ d. is_late g delay time d s) columns) ≡ false
   never_delays most last is columns all early s i = and_right (matches cube s) _ (list_any_false (λ d. is_late g delay time d s) columns (λ d k.
       let by : d.time ≤ last = All-contains (λ (d : Column). d.time ≤ last) columns d all k in

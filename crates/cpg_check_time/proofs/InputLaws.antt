@@ -37,18 +37,18 @@ use Rattle.cpg_check_time.proofs.Waits.{late_where}
 
 -- ---- live edges
 
--- an edge is live where its source is active and has the value that it asks for
+-- an edge is live if its source is active and has the value that it asks for
 live_asked : {g : Graph} {order : List ℕ} {guards : Guards} → IsAdmitted g order guards → (s : Scenario) → IsScenario g s → (e : ℕ) → e < edge_count g → live g s.values e ≡ (active g s.values (source g e) && is_asked g e s)
 live_asked {g} {order} {guards} a s i e l = live_tested g order a.topological guards a.guards s.values i.values e l
 
 module _ {g : Graph} {order : List ℕ} {guards : Guards} (admitted : IsAdmitted g order guards) (tables : List NodeTable) (rules : AllHold g tables row_rules) (s : Scenario) (law : IsScenario g s) where
-  -- where a process is active and hasn't ended by a time, one of its columns is late
+  -- if a process is active and hasn't ended by a time, one of its columns is late
   end_late : (p : ℕ) → p < process_count g → (time : ℕ) → (active g s.values p && not (is_by time (ends_of g tables s p))) ≡ list_any (λ d. is_late g (Execution p) time d s) (columns_of tables p)
   end_late p l time =
       ap (λ i. item_active g s.values i && not (is_by time (ends_of g tables s p))) (sym (item_at-start g p l))
       ∙ late_where g tables s law p (omega arith) rules (λ start. start + duration g p (fault_of s p)) time
 
-  -- where a live input isn't there by a time, it is late
+  -- if a live input isn't there by a time, it is late
   input_late : (e : ℕ) → e < edge_count g → (time : ℕ) → (live g s.values e && not (input_is_there g tables s time e)) ≡ is_input_late g tables time e s
   input_late e l time = go (is_message g e) refl
     where

@@ -21,7 +21,7 @@ use Rattle.cpg_check_time.proofs.Seeking.{and_swap, any_at, both_any}
 
 -- ---- two columns, and those of another item
 
--- where they have one time, they share a slot wherever both match
+-- if they have one time, they share a slot wherever both match
 pub share_where : (g : Graph) (c d : Column) → d.time ≡ c.time → (order : List ℕ) (o : Option Scenario) → IsFirst g order (λ s. matches c.cube s && matches d.cube s) o → IsFirst g order (shares c d) o
 share_where g c d same order o f = first_same g order (λ s. matches c.cube s && matches d.cube s) (shares c d) o
     (λ s _. ap (λ b. matches c.cube s && b) (with_true (matches d.cube s) (d.time == c.time) (eq-eqb d.time c.time same))) f

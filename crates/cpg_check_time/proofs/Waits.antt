@@ -1,4 +1,4 @@
--- What V1, V2 and V3 say of columns that match: where an item is active, and done after a time, one of its columns is late.
+-- What V1, V2 and V3 say of columns that match: if an item is active, and done after a time, one of its columns is late.
 use Rattle.std.proofs.Common.{ℕ, ◌<◌, ◌≡◌, true, false, not, ◌&&◌, List, length, get_or, take, map, Contains, arith, sym, ap, ◌∙◌, inl, inr, lt-ltb, length-take}
 use Rattle.std.specs.Prelude.{nat_le, nat_lt}
 use Rattle.std.specs.List.{list_any}
@@ -24,7 +24,7 @@ module _ (g : Graph) (tables : List NodeTable) (s : Scenario) (law : IsScenario 
       let there : Contains (take i (columns_of tables x)) d = (j, omega (arith, length-take i (columns_of tables x)), get_or-take i (columns_of tables x) j d k ∙ f) in
       both_ways _ none (list_any_true (λ (q : Column). matches q.cube s) (take i (columns_of tables x)) d there n)
 
-  -- and no other
+  -- two columns of an item that match are one
   pub match_once : (c d : Column) → Contains (columns_of tables x) c → Contains (columns_of tables x) d → matches c.cube s ≡ true → matches d.cube s ≡ true → c ≡ d
   match_once c d k q m n = elim (cases_order k.0 q.0) [
     | inl same ↦ sym k.2 ∙ get_or_default (columns_of tables x) k.0 c d k.1 ∙ ap (λ i. get_or (columns_of tables x) i d) same ∙ q.2
@@ -32,7 +32,7 @@ module _ (g : Graph) (tables : List NodeTable) (s : Scenario) (law : IsScenario 
     | inr (inr above) ↦ absurd (not_after c d k.0 q.0 k.1 above k.2 q.2 m n)
   ]
 
-  -- where it is active and not done by a time, a column that matches is done later
+  -- if it is active and not done by a time, a column that matches is done later
   pub late_where : (done : ℕ → ℕ) (time : ℕ) → (item_active g s.values (item_at g x) && not (is_by time (map done (at tables x s)))) ≡ list_any (λ d. matches d.cube s && nat_lt time (done d.time)) (columns_of tables x)
   late_where done time = same_truth _ _
       (λ t.

@@ -21,7 +21,7 @@ use cpg_violation::{Line, TimeMarks};
 use std::alloc::Global;
 
 /// The first violation of the first of V5 to V9 that is broken, by item and column, with the least scenario in the urgency
-/// order in which it stands. `None` exactly where all five hold. V1 to V4 hold, and the lines are those of all items. Where
+/// order in which it stands. `None` exactly if all five hold. V1 to V4 hold, and the lines are those of all items. If
 /// a rule is marked as sure at an item, it isn't looked at there.
 pub fn check_time(
     alloc: Global,

@@ -79,7 +79,7 @@ impl<'a> Question for Late<'a> {
 }
 
 /// The least scenario that a column matches, and in which what some column of an item begins is done after its time; if there is
-/// one. Only columns that may match together with it are looked at, and none where even the last is early enough. The contract
+/// one. Only columns that may match together with it are looked at, and none if even the last is early enough. The contract
 /// alone names `tables`.
 pub(crate) fn least_delay(
     alloc: Global,

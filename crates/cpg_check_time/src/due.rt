@@ -48,7 +48,7 @@ impl Judge for Due {
 
 /// The first violation of V9, by item and column, with the least scenario in the urgency order in which it stands: the
 /// column matches, and the execution that it starts ends after the lesser of the deadline and the process's own. `None`
-/// exactly where the rule holds. Items at which it is marked as sure are left out.
+/// exactly if the rule holds. Items at which it is marked as sure are left out.
 pub(crate) fn check_due(
     alloc: Global,
     admitted: &Admitted,

@@ -98,7 +98,7 @@ impl Judge for Frozen {
 
 /// The first violation of V8, by item and column, with the least scenario in the urgency order in which it stands: the
 /// item is frozen, the column matches, and its time is another than that of the row's first column that matches in any
-/// scenario. `None` exactly where the rule holds. Items at which it is marked as sure are left out.
+/// scenario. `None` exactly if the rule holds. Items at which it is marked as sure are left out.
 pub(crate) fn check_frozen(
     alloc: Global,
     admitted: &Admitted,

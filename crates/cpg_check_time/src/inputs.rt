@@ -26,7 +26,7 @@ use cpg_table::Tables;
 use cpg_violation::{Line, edge_cube};
 use std::alloc::Global;
 
-/// The scenarios that two cubes match; `None` exactly where there are none.
+/// The scenarios that two cubes match; `None` exactly if there are none.
 fn common(cube: &Cube, other: &Cube) -> Result<Option<Cube>, OutOfMemory>
     ensures both { IfOk result (λ r. IfSome r (λ part. (s : Scenario) → matches part s ≡ (matches cube.now s && matches other.now s))) }
     ensures known { IfOk result (λ r. IfSome r (λ part. (g : Graph) → IsKnown g cube.now → IsKnown g other.now → IsKnown g part)) }
@@ -78,7 +78,8 @@ fn least_lacking(
     Ok(found)
 }
 
-/// The same for several inputs.
+/// The least scenario in which a column matches and one of several inputs is live and not there by its time, if there
+/// is one.
 fn least_of_lacking(
     alloc: Global,
     admitted: &Admitted,

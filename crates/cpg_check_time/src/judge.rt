@@ -74,7 +74,7 @@ fn first_in_row<J: Judge>(
 }
 
 /// The first violation of the rule, by item and column, with the least scenario in the urgency order in which it
-/// stands. `None` exactly where the rule holds. Items at which it is marked as sure are left out.
+/// stands. `None` exactly if the rule holds. Items at which it is marked as sure are left out.
 pub(crate) fn first_violation<J: Judge>(
     alloc: Global,
     admitted: &Admitted,

@@ -14,7 +14,7 @@ use cpg_base::{OutOfMemory, Problem, Scenario};
 use cpg_cube::{Cube, Entry, Literal};
 use cpg_violation::met;
 
-/// The least count of faults with which an execution that starts at a time ends after another; `None` where even the
+/// The least count of faults with which an execution that starts at a time ends after another; `None` if even the
 /// greatest is too few.
 fn least_count(problem: &Problem, process: u32, start: u64, time: u64) -> Option<u8>
     requires process { process < process_count problem.now }
@@ -32,7 +32,7 @@ fn least_count(problem: &Problem, process: u32, start: u64, time: u64) -> Option
     None
 }
 
-/// The scenarios of a cube in which an execution that starts at a time ends after another; `None` where there are none.
+/// The scenarios of a cube in which an execution that starts at a time ends after another; `None` if there are none.
 pub(crate) fn late_part(
     problem: &Problem,
     cube: &Cube,

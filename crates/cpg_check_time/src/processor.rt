@@ -67,7 +67,7 @@ impl<'a> Pairs for Processors<'a> {
     ghost clash = { overlaps_some };
 
     /// The least scenario in which the execution that a column starts overlaps one of another process of its node, if there is
-    /// one. Only columns that may match together with this one are looked at, and none where all are too early or too late.
+    /// one. Only columns that may match together with this one are looked at, and none if all are too early or too late.
     /// The contract alone names `tables`.
     fn least_with(
         &self,

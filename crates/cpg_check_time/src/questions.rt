@@ -38,7 +38,7 @@ pub(crate) trait Question {
         ensures first { IfOk result (λ r. (order : List ℕ) → IsFirst problem.now order (asks self.now problem.now beside.now) r) };
 }
 
-/// The same for several columns.
+/// The least scenario in which one of several columns is as asked, if there is one.
 fn least_of<Q: Question>(
     alloc: Global,
     problem: &Problem,
@@ -61,8 +61,8 @@ fn least_of<Q: Question>(
     Ok(found)
 }
 
-/// The least scenario in which a column of a line is as asked, where only one that matches together with a cube can be; if
-/// there is one. Only columns that may match together with the cube are looked at.
+/// The least scenario in which a column of a line is as asked, if there is one. Only a column that matches together
+/// with a cube can be, and only columns that may are looked at.
 pub(crate) fn least_near<Q: Question>(
     alloc: Global,
     admitted: &Admitted,

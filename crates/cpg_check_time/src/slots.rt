@@ -57,7 +57,7 @@ impl<'a> Pairs for Slots<'a> {
     ghost clash = { shares_some };
 
     /// The least scenario in which a column matches together with one of another item that the same node sends at that time, if
-    /// there is one. Only columns that may match together with this one are looked at, and none where all are earlier or
+    /// there is one. Only columns that may match together with this one are looked at, and none if all are earlier or
     /// later. The contract alone names `tables`.
     fn least_with(
         &self,

@@ -23,7 +23,7 @@ first_from p a (suc n) i l m none is = elim (cases_eq a i) [
 pub first_waits : (p : ℕ → Bool) (n i : ℕ) → i < n → ((j : ℕ) → j < i → p j ≡ false) → p i ≡ true → Waits i ≡ answer_by (filter p (numbers_below n))
 first_waits p n i l none is = sym (first_from p 0 n i (omega arith) (omega arith) (λ j _ h. none j h) is)
 
--- and where none does a turn is taken
+-- if none passes, a turn is taken
 pub none_waits : (p : ℕ → Bool) (n : ℕ) → ((j : ℕ) → j < n → p j ≡ false) → Took ≡ answer_by (filter p (numbers_below n))
 none_waits p n none = sym (ap answer_by (filter_none p (numbers_below n) (λ j c. none j (numbers-Contains n j c))))
 

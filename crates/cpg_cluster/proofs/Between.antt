@@ -40,7 +40,7 @@ module _ (g : Graph) (ms : List Member) (fits : AllFit g ms) (a : ℕ) (m : Memb
   table_is : (dispatcher_at (cluster_of ms) a).table ≡ m.node.dispatcher.table
   table_is = ap (λ (d : Dispatcher). d.table) (dispatcher_is ms a m l ∙ ap (λ (m : Member). m.node.dispatcher) (here m))
 
-  -- a node waits on another exactly where its rows say so
+  -- a node waits on another exactly if its rows say so
   waits_is : (time b : ℕ) (d : Member) → b < length ms → waits_between time m b (get_or ms b d) ≡ waits_on g (cluster_of ms) a time b
   waits_is time b d k =
       let o = get_or ms b d in

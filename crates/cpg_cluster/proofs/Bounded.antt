@@ -88,7 +88,7 @@ most_remaining g c within few own columns = omega (
       (subst (λ (os : List Own). length os ≤ 128) (sym same) (few_own g i within), subst HaveFewEnds (sym same) (own_few_ends g i within))),
 )
 
--- of the nodes that a choice asks no more wait than there are
+-- no more nodes wait than a choice asks
 pub few_waits : (g : Graph) (w : World) (c : Cluster) (xs : List ℕ) → (choose g w c xs).waits ≤ length xs
 few_waits g w c [] = omega arith
 few_waits g w c (x ∷ xs) = go (answer g c x) (few_waits g w c xs)

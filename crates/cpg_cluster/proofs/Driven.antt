@@ -13,7 +13,7 @@ use Rattle.cpg_cluster.specs.Playing.{Playing, stepped}
 use Rattle.cpg_cluster.specs.Driving.{circle, Choice, chosen, choose}
 use Rattle.cpg_node.specs.Instants.{instants_left}
 
--- where a turn leaves a node fewer instants, it leaves fewer to all together
+-- if a turn leaves a node fewer instants, it leaves fewer to all together
 pub nearer_set : (nodes : List Dispatcher) (a : ℕ) (d e : Dispatcher) → a < length nodes → instants_left d < instants_left (get_or nodes a e) → sum_by instants_left (set nodes a d) < sum_by instants_left nodes
 nearer_set nodes a d e l less = omega (arith, sum_by-set instants_left nodes a d e l, less)
 

@@ -86,7 +86,7 @@ module _ (g : Graph) (w : World) (ms : List Member) (p : IsPlaying (play_of g w 
   count : length ms ≡ length g.nodes
   count = sym (length-map ms (λ (m : Member). m.node.dispatcher.table)) ∙ p.shape.count
 
-  -- where no member has a next instant all nodes are done
+  -- if no member has a next instant, all nodes are done
   pub all_done : list_any (λ (m : Member). is_some (next m.node.dispatcher)) ms ≡ false → AllDone g (cluster_of ms)
   all_done e b l =
       let k : b < length ms = omega (arith, l, count) in
@@ -97,7 +97,7 @@ module _ (g : Graph) (w : World) (ms : List Member) (p : IsPlaying (play_of g w 
       member [] i l = absurd (omega arith)
       member (m ∷ ms) i l = m
 
-  -- and else they are not
+  -- if some member has a next instant, not all nodes are done
   pub not_done : list_any (λ (m : Member). is_some (next m.node.dispatcher)) ms ≡ true → AllDone g (cluster_of ms) → ⊥
   not_done e d = let q = left_node ms e in never_done _ (sym (ap (answer_at g (cluster_of ms) q.0) q.3) ∙ d q.0 (omega (arith, q.1, count)))
 
@@ -113,7 +113,7 @@ module _ (g : Graph) (w : World) (ms : List Member) (p : IsPlaying (play_of g w 
     ]
   ]
 
--- so many choices on, the number is this one
+-- the number that comes this many choices after a number
 abbrev pub number_after : ℕ → ℕ → ℕ
 number_after zero x = x
 number_after (suc n) x = number_after n (next_number x)

@@ -27,7 +27,7 @@ others_noted : (x : ℕ) (acts : List Act) (noted : List (Option Act)) → ((a :
 others_noted x [] noted h = refl
 others_noted x (a ∷ acts) noted h = others_noted x acts (note noted a) (λ b m. h b (Contains-rest a acts b m)) ∙ get_or-set_other noted a.item x (Some a) None (λ e. h a (Contains-first a acts) (sym e))
 
--- of acts of different items the one of an item is noted
+-- the act of an item is noted, if all acts are of different items
 noted_once : (x : ℕ) (acts : List Act) (noted : List (Option Act)) → Rises (λ (a b : Act). a.item ≢ b.item) acts → x < length noted → get_or noted x None ≡ None →
     filter (λ (a : Act). a.item == x) acts ≡ option_to_list (get_or (fold note noted acts) x None)
 noted_once x [] noted r l n = sym (ap option_to_list n)

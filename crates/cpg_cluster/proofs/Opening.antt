@@ -32,7 +32,7 @@ use Rattle.cpg_cluster.proofs.Plays.{valid_tables_are_correct}
 use Rattle.cpg_cluster.proofs.Reached.{dispatchers_at, dispatchers_count}
 use Rattle.cpg_cluster.proofs.Stepping.{tables_of, play_of}
 
--- some member, where there is one
+-- some member, if there is one
 get_member : (ms : List Member) (i : ℕ) → i < length ms → Member
 get_member [] i l = absurd (omega arith)
 get_member (m ∷ ms) i l = m
@@ -114,7 +114,7 @@ module _ (g : Graph) (tables : List NodeTable) (w : World) (within : IsWithinLim
         reports = omega (arith, o.reports_room, ap (λ (t : NodeTable). length t.own) t);
       }
 
--- and they play correctly
+-- valid tables play correctly
 pub correct_open : (g : Graph) (tables : List NodeTable) → IsWithinLimits g → AreTablesOf (head_of g) tables → WellFormed g → IsValid g tables → IsCorrect g tables
 correct_open g tables within of f v = valid_tables_are_correct g tables f (has_shape g within tables of) v
 

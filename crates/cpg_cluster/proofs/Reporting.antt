@@ -31,7 +31,7 @@ pub record OneReport (g : Graph) (tables : List NodeTable) (w : World) (node : �
   pub time : column.time + get_or w.lengths process 0 ≡ q.0
   pub is : q.1.process ≡ process
 
--- of each process one at most, and by the last turn
+-- a node has reported at most one execution of each process, all by the last turn
 pub record HasReported (g : Graph) (tables : List NodeTable) (w : World) (node : ℕ) (last : Option ℕ) (reports : List (ℕ × Ended)) : Type 0 where
   pub only : (q : ℕ × Ended) → Contains reports q → OneReport g tables w node q × (by last q.0 ≡ true)
   pub apart : Rises (λ (a b : ℕ × Ended). a.1.process ≢ b.1.process) reports
@@ -135,12 +135,12 @@ module _ {g : Graph} {tables : List NodeTable} {w : World} (k : Played g tables 
       ap (λ d. reports_now g w d time) (r.holds a l).is ∙ ap (flat_map (λ rs. rs)) (zip_with-map (report_of g w time) (planned g tables w last) (own_of_node g a))
       ∙ flat_id (λ o. report_of g w time o (planned g tables w last o)) (own_of_node g a)
 
-  -- is of different processes
+  -- what a node reports is of different processes
   pub reports_apart : (c : Cluster) → Reached g tables w c → (a : ℕ) → a < length g.nodes → (time : ℕ) →
       Rises (λ (x y : ℕ × Ended). x.1.process ≢ y.1.process) (reports_now g w (dispatcher_at c a) time)
   reports_apart c r a l time = subst (Rises (λ (x y : ℕ × Ended). x.1.process ≢ y.1.process)) (sym (now_is c r a l time)) (now_apart k a (r.holds a l).last time)
 
-  -- and each is that of an execution
+  -- each report is that of an execution
   pub report_is : (c : Cluster) (r : Reached g tables w c) (a : ℕ) → a < length g.nodes → (time : ℕ) (q : ℕ × Ended) → Contains (reports_now g w (dispatcher_at c a) time) q → OneReport g tables w a q
   report_is c r a l time q h = (now_parts k a (r.holds a l).last time q (subst (λ rs. Contains rs q) (now_is c r a l time) h)).0
 

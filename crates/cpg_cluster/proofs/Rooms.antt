@@ -47,7 +47,7 @@ module _ {g : Graph} {tables : List NodeTable} {w : World} (k : Played g tables 
       let same = asked_once k.setting node a b (d.only a m).0 (d.only b n).0 e in
       let self = subst (Before g a) (sym same) before in not_both_ways g a a self self) d.rising
 
-  -- so there are no more than rows
+  -- there are no more acts than rows
   pub acts_few : (acts : List Act) → Done g tables w.scenario node last acts → length acts ≤ length (table_at tables node).sends + length (table_at tables node).starts
   acts_few acts d =
       let rows = (table_at tables node).starts ++ (table_at tables node).sends in

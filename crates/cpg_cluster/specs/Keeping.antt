@@ -49,12 +49,12 @@ times_by other row sender = cond (sender == other) (map {A = Column} {B = ℕ} (
 abbrev pub arrival_times : ℕ → List Row → List ℕ → List ℕ
 arrival_times other rows senders = flat_map (λ ts. ts) (zip_with (times_by other) rows senders)
 
--- the same times, in order
+-- the arrival times of one sender's columns, in order
 pub record IsIndex (rows : List Row) (senders : List ℕ) (other : ℕ) (times : List ℕ) : Type 0 where
   pub same : IsPermutation (arrival_times other rows senders) times
   pub rises : IsNonDecreasingBy (λ (t : ℕ). t) times
 
--- the same for each sender below a number
+-- the arrival times of each sender below a number, in order
 pub record AreIndexed (rows : List Row) (senders : List ℕ) (number : ℕ) (index : List (Vec ℕ)) : Type 0 where
   pub count : length index ≡ number
   pub each : (b : ℕ) (d : Vec ℕ) → b < number → IsIndex rows senders b (get_or index b d).items
@@ -86,7 +86,7 @@ pub record Fits (g : Graph) (number : ℕ) (m : Member) : Type 0 where
   pub ends : length m.node.dispatcher.table.own ≤ vec_capacity m.ends
   pub reports : length m.node.dispatcher.table.own ≤ vec_capacity m.reports
 
--- the same for each node, by number
+-- each node keeps of the graph and notes what it should, and has the room
 abbrev pub AllFit : Graph → List Member → Type 0
 AllFit g members = (i : ℕ) (d : Member) → i < length members → Fits g i (get_or members i d)
 
@@ -108,7 +108,7 @@ pub record IsOpen (g : Graph) (number : ℕ) (t : NodeTable) (m : Member) : Type
 abbrev pub HearsItems : Graph → NodeTable → Type 0
 HearsItems g t = All (λ (row : Row). row.item < item_count g) t.hears
 
--- the same for the first nodes, up to a number
+-- the first nodes, up to a number, are as before their first turn, with their tables
 pub record AreOpen (g : Graph) (tables : List NodeTable) (number : ℕ) (members : List Member) : Type 0 where
   pub count : length members ≡ number
   pub each : (i : ℕ) (d : Member) → i < number → IsOpen g i (table_at tables i) (get_or members i d)

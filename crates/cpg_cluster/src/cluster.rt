@@ -152,7 +152,7 @@ impl Cluster {
         })
     }
 
-    /// The next instant of a node, in time units. `None` exactly where it has none.
+    /// The next instant of a node, in time units. `None` exactly if it has none.
     pub fn next(&self, node: u32) -> Option<u64>
         requires { node < length self.now.graph.nodes }
         ensures { result ≡ next (dispatcher_at self.now.cluster node) }

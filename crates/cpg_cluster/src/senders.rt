@@ -20,7 +20,7 @@ pub fn senders_of(alloc: Global, problem: &Problem, rows: &[Row]) -> Result<Vec<
     Ok(senders)
 }
 
-/// The value of a condition in a scenario, and false where there is no such condition.
+/// The value of a condition in a scenario, and false if there is no such condition.
 fn value_of(problem: &Problem, scenario: &Scenario, condition: u32) -> bool
     requires { IsScenario problem.now scenario.now }
     ensures { result ≡ get_or scenario.now.values condition false }
@@ -44,7 +44,7 @@ pub fn value_of_item(problem: &Problem, scenario: &Scenario, item: u32) -> bool
     }
 }
 
-/// The value of the condition of a process in a scenario, and false where it has none.
+/// The value of the condition of a process in a scenario, and false if it has none.
 pub fn value_of_process(problem: &Problem, scenario: &Scenario, condition: Option<u32>) -> bool
     requires { IsScenario problem.now scenario.now }
     ensures { result ≡ (is_some condition && get_or scenario.now.values (unwrap_or condition 0) false) }

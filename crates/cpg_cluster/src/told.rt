@@ -23,7 +23,7 @@ fn arrives(act: &Act, item: u32, slot: u64, time: u64) -> bool
     time >= slot && act.time == time - slot
 }
 
-/// Adds the frame of an act, where it is of the item and arrives at the time.
+/// Adds the frame of an act, if it is of the item and arrives at the time.
 fn add_frame(value: bool, item: u32, slot: u64, time: u64, act: &Act, frames: &mut Vec<Frame>)
     requires { vec_len frames.old + length (frames_from value item slot time (act.now ∷ [])) ≤ vec_capacity frames.old }
     ensures frames { frames.new.items ≡ frames.old.items ++ frames_from value item slot time (act.now ∷ []) }
@@ -48,7 +48,7 @@ fn act_of(noted: &[Option<Act>], item: u32) -> Option<Act>
     }
 }
 
-/// Adds the frame of the act of an item, where there is one that arrives at the time.
+/// Adds the frame of the act of an item, if there is one that arrives at the time.
 pub fn add_noted_frame(
     value: bool,
     item: u32,

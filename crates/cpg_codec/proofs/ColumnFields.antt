@@ -74,7 +74,7 @@ some_value e c least few h = omega arith
 some_there : (e c least : ℕ) → e ≤ least → 0 < (e - least) + ((128 + c) - max 128 least) → max 128 least < 128 + c
 some_there e c least h some = omega arith
 
--- where there is room, there is a variable that takes no more than its own
+-- if there is room, there is a variable that takes no more than its own
 room_some : (s : Space) (least : ℕ) → fault_end s ≤ 128 → 0 < room s least → (v : ℕ) × (least ≤ v) × (is_variable s v ≡ true) × (room s least ≤ suc (room s (suc v)))
 room_some s least few some = elim (cases_lt least (fault_end s)) [
   | inl h ↦ (least, omega arith, is_fault_variable s least h, some_fault (fault_end s) s.conditions least few h)

@@ -33,7 +33,7 @@ digit_bad low high w n b rest lt =
     (and_right (ltb low ((n * 256 + b + 1) * 256 ^ w)) (leb ((n * 256 + b) * 256 ^ w) high) (lt-leb ((n * 256 + b) * 256 ^ w) high lt)) in
     rw t refl
 
--- ---- the same at a slice, where k digits are left
+-- ---- the same at a slice, if k digits are left
 
 pub digit_goes_on : (low high k w n : ℕ) (bytes : List ℕ) → k ≡ suc w → 1 ≤ length bytes → get_or bytes 0 0 < 256 → low < (n * 256 + get_or bytes 0 0 + 1) * 256 ^ w → (n * 256 + get_or bytes 0 0) * 256 ^ w ≤ high
     → digits_at (within low high) k n bytes ≡ digits_at (within low high) w (n * 256 + get_or bytes 0 0) (take (length bytes - 1) (drop 1 bytes))

@@ -119,7 +119,7 @@ module _ (Lawful : ℕ → Type 0) (may : ℕ → ℕ → Bool) (choice : IsChoi
       (λ m c. digit_fits w n m c)
       (λ m c. refl)
 
-  -- a number of w bytes, where each lawful one has so many and one is there
+  -- a number of w bytes, if each lawful one has so many and one is there
   pub number_reads : (w some : ℕ) → Lawful some → ((m : ℕ) → Lawful m → m < 256 ^ w) → Reads Lawful (bytes_high_first w) (number_at w may)
   number_reads w some lawful fit =
       adapt (digits_reads w 0 (choice.all (0 * 256 ^ w) ((0 + 1) * 256 ^ w) some (omega arith) (omega (arith, fit some lawful)) lawful))

@@ -67,7 +67,7 @@ module _ {X : Type 0} (f : X → List ℕ) where
 pub Puts-failed : {E : Type 0} (a b h m x : List ℕ) (r : Result Unit E) (e : E) → r ≡ Err e → TookPrefix a b (h ++ x) → Puts a b h m r x
 Puts-failed a b h m x r e is p = rw is p
 
--- the same where the element has a name of its own
+-- one element more is put, if the element has a name of its own
 module _ {X : Type 0} (f : X → List ℕ) where
   pub item_more : (a b c h l m : List ℕ) (xs : List X) (i : ℕ) (x : X) → x ≡ get_or xs i x → i < length xs → IsPut a b h l (flat_map f (take i xs)) → IsPut b c l m (f x) → IsPut a c h m (flat_map f (take (i + 1) xs))
   item_more a b c h l m xs i x is lt p q = puts_more f a b c h l m xs i x lt p (subst (λ (y : X). IsPut b c l m (f y)) is q)

@@ -35,7 +35,7 @@ pub small_end : (low high : ℕ) → small_at low high [] ≡ Err 0
 unfolding digits_at
 small_end low high = refl
 
--- the same at a slice that isn't empty, as code sees it
+-- a small number is read at a slice that isn't empty, as code sees it
 pub small_gives : (low high : ℕ) (bytes : List ℕ) → 1 ≤ length bytes → get_or bytes 0 0 < 256 → low ≤ get_or bytes 0 0 → get_or bytes 0 0 ≤ high
     → small_at low high bytes ≡ Ok (get_or bytes 0 0, take (length bytes - 1) (drop 1 bytes))
 small_gives low high [] some lt lo hi = absurd (omega arith)

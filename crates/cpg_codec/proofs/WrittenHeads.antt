@@ -178,7 +178,7 @@ version_either false = (omega arith, omega arith)
 pub version_within : (h : Head) → (1 ≤ version_of h) × (version_of h ≤ 2)
 version_within h = version_either (is_some h.extras)
 
--- ---- counts that are 0 where there is none below
+-- ---- counts that are 0 if there is none below
 
 pub limit_some : (below most n : ℕ) → n ≤ limit below most → 0 < n → 0 < below
 limit_some zero most n le some = absurd (omega arith)

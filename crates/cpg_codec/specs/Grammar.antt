@@ -139,7 +139,7 @@ literal_at s left least = do
   high ← small_at low (high_end s variable low)
   pure (record { variable = variable; low = low; high = high })
 
--- so many literals, the variables rising
+-- this many literals, by rising variable
 unfoldable pub literals_at : Space → ℕ → Reader (List Literal)
 literals_at s count = each_at (λ (least : ℕ) (l : Literal). suc l.variable) (literal_at s) (down count) 0
 

@@ -10,7 +10,8 @@ pub record IsPut (before after held left piece : List ℕ) : Type 0 where
   pub taken : Took before after written
   pub same : held ++ piece ≡ written ++ left
 
--- they are so at Ok, and the sink took a proper front of them at Err
+-- the held bytes and a piece are in part taken, in part left in the buffer at Ok, and the sink took a proper front of
+-- them at Err
 abbrev pub Puts : {E : Type 0} → List ℕ → List ℕ → List ℕ → List ℕ → Result Unit E → List ℕ → Type 0
 Puts before after held left (Ok _) piece = IsPut before after held left piece
 Puts before after held left (Err _) piece = TookPrefix before after (held ++ piece)

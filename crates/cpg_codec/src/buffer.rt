@@ -80,7 +80,7 @@ fn push_each(bytes: &mut Vec<u8>, literals: &[Literal])
     }
 }
 
-/// The same, four at once.
+/// Adds literals as `push_each` does, four at once.
 fn push_few(bytes: &mut Vec<u8>, literals: &[Literal])
     requires { vec_len bytes.old + 3 * length literals.now ≤ vec_capacity bytes.old }
     ensures items { bytes.new.items ≡ bytes.old.items ++ flat_map literal_bytes literals.now }
@@ -95,7 +95,7 @@ fn push_few(bytes: &mut Vec<u8>, literals: &[Literal])
     push_each(bytes, rest);
 }
 
-/// The same, eight at a time.
+/// Adds literals as `push_each` does, eight at a time.
 fn push_literals(bytes: &mut Vec<u8>, literals: &[Literal])
     requires { vec_len bytes.old + 3 * length literals.now ≤ vec_capacity bytes.old }
     ensures items { bytes.new.items ≡ bytes.old.items ++ flat_map literal_bytes literals.now }
@@ -179,7 +179,7 @@ impl Buffer {
         Ok(())
     }
 
-    /// Adds a piece, and writes the buffer whole where that makes it full.
+    /// Adds a piece, and writes the buffer whole if that makes it full.
     pub fn put<O: Sink>(&mut self, sink: &mut O, piece: &[u8]) -> Result<(), Failed>
         requires { length piece.now ≤ 65536 }
         ensures put { Puts (O.state sink.old).taken (O.state sink.new).taken self.old self.new result piece.now }

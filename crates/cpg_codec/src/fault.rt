@@ -11,7 +11,7 @@ pub enum WriteFault {
     /// The sink met a fault, and its count of faults rose.
     #[error("the sink met a fault")]
     Failed,
-    /// Want of memory.
+    /// Out of memory.
     #[error("out of memory")]
     OutOfMemory,
 }
@@ -55,7 +55,7 @@ pub enum PackFault {
     /// They are no pack. The number is the length of the longest prefix of them that is a prefix of some pack, in bytes.
     #[error("the first {0} bytes can begin a pack, no more")]
     BadPack(u64),
-    /// Want of memory.
+    /// Out of memory.
     #[error("out of memory")]
     OutOfMemory,
 }
@@ -65,7 +65,7 @@ pub enum PackFault {
 pub enum ReadError {
     /// How many bytes are left from the first bad one on.
     Left(usize),
-    /// Want of memory.
+    /// Out of memory.
     Memory,
 }
 
@@ -107,7 +107,7 @@ impl<T: Drop> From<AllocFailed<T>> for ReadError {
 pub enum Untaken {
     /// They may be no rows of a pack: reading them field by field tells.
     Odd,
-    /// Want of memory.
+    /// Out of memory.
     Memory,
 }
 

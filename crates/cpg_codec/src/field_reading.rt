@@ -88,7 +88,7 @@ pub fn time_of(bytes: &[u8]) -> Result<(u64, &[u8]), ReadError>
     long_of(bytes, 0, 1152921504606846975)
 }
 
-/// So many times.
+/// Reads `count` times, and gives them with the bytes behind them.
 pub fn times_of(alloc: Global, bytes: &[u8], count: u32) -> Result<(Vec<u64>, &[u8]), ReadError>
     ensures { Gives (λ x. (x.0.items, x.1.now)) result (times_at time_at count bytes.now) }
 {
@@ -134,7 +134,7 @@ pub fn name_of(alloc: Global, bytes: &[u8]) -> Result<(Name, &[u8]), ReadError>
     Ok((name, rest))
 }
 
-/// So many letters of a name.
+/// Reads `count` letters of a name, and gives them with the bytes behind them.
 fn letters_of(alloc: Global, bytes: &[u8], count: u32) -> Result<(Vec<u8>, &[u8]), ReadError>
     ensures { Gives (λ x. (x.0.items, x.1.now)) result (times_at (byte_by is_name_byte) count bytes.now) }
 {

@@ -45,7 +45,7 @@ pub fn process_node(record: &Fixed<2>) -> u8
     number!(record, 0)
 }
 
-/// 1 where a process has a condition, and 0 where it has none.
+/// 1 if a process has a condition, and 0 if it has none.
 pub fn process_flag(record: &Fixed<2>) -> u8
     ensures { result ≡ field 1 1 «record».now }
 {

@@ -32,7 +32,7 @@ fn flag_end(ones: u32) -> u8
     }
 }
 
-/// The node of a process, and its condition flag, where `ones` processes before have a condition; field by field.
+/// The node of a process, and its condition flag, if `ones` processes before have a condition; field by field.
 #[tactic(auto, unfolding(crate::specs::Grammar::place_at))]
 fn place_by_fields(bytes: &[u8], nodes: u8, ones: u32) -> Result<(u8, u8, &[u8]), ReadError>
     requires { 0 < nodes }
@@ -49,7 +49,7 @@ fn are_within(node: u8, flag: u8, nodes: u8, ones: u32) -> bool
     node < nodes && flag <= flag_end(ones)
 }
 
-/// The node of a process, and its condition flag, where `ones` processes before have a condition.
+/// The node of a process, and its condition flag, if `ones` processes before have a condition.
 fn place_of(bytes: &[u8], nodes: u8, ones: u32) -> Result<(u8, u8, &[u8]), ReadError>
     requires { 0 < nodes }
     ensures { Gives (λ x. ((x.0, x.1), x.2.now)) result (place_at nodes ones bytes.now) }
@@ -110,7 +110,7 @@ fn push_extra(extras: &mut Vec<Extra>, extra: Option<Extra>) -> Result<(), Alloc
     Ok(())
 }
 
-/// So many processes, and what version 2 says of them.
+/// Reads `count` processes and what version 2 says of them, and gives the bytes behind them.
 fn processes_of(
     alloc: Global,
     bytes: &[u8],
@@ -137,7 +137,7 @@ fn processes_of(
     Ok((processes, extras, rest))
 }
 
-/// So many names.
+/// Reads `count` names, and gives them with the bytes behind them.
 fn names_of(alloc: Global, bytes: &[u8], count: u8) -> Result<(Vec<Name>, &[u8]), ReadError>
     ensures { Gives (λ x. (x.0.items, x.1.now)) result (times_at name_at count bytes.now) }
 {
@@ -151,7 +151,7 @@ fn names_of(alloc: Global, bytes: &[u8], count: u8) -> Result<(Vec<Name>, &[u8])
     Ok((names, rest))
 }
 
-/// An edge between two of so many processes, field by field.
+/// Reads an edge between two of `processes` processes, field by field.
 #[tactic(auto, unfolding(crate::specs::Grammar::edge_at))]
 fn edge_by_fields(bytes: &[u8], processes: u8) -> Result<((u32, u32), &[u8]), ReadError>
     requires { 0 < processes }
@@ -184,7 +184,7 @@ fn edge_of(bytes: &[u8], processes: u8) -> Result<((u32, u32), &[u8]), ReadError
     edge_by_fields(bytes, processes)
 }
 
-/// So many edges.
+/// Reads `count` edges, and gives them with the bytes behind them.
 fn edges_of(
     alloc: Global,
     bytes: &[u8],

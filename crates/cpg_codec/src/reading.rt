@@ -80,7 +80,7 @@ fn answer_of(alloc: Global, bytes: Vec<u8>) -> Result<Tables, PackFault>
 
 /// The tables that all of the bytes spell.
 ///
-/// `BadPack` exactly where they spell none, with the length of the longest prefix of them that is a prefix of some
+/// `BadPack` exactly if they spell none, with the length of the longest prefix of them that is a prefix of some
 /// pack. The bytes are given back as they are read.
 pub fn read_pack(alloc: Global, bytes: Vec<u8>) -> Result<Tables, PackFault>
     ensures found { IfOk result (λ t. AreLawful t × (bytes.items ≡ spelling t)) }

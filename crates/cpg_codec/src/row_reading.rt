@@ -110,7 +110,7 @@ fn literal_of<'a>(
     literal_by_fields(bytes, space, left, least)
 }
 
-/// So many literals.
+/// Reads `count` literals, and gives them with the bytes behind them.
 fn literals_of<'a>(
     alloc: Global,
     bytes: &'a [u8],
@@ -194,7 +194,7 @@ fn column_of<'a>(
     Ok((Entry { time, cube }, rest))
 }
 
-/// So many columns.
+/// Reads `count` columns, and gives them with the bytes behind them.
 fn columns_of<'a>(
     alloc: Global,
     bytes: &'a [u8],
@@ -235,7 +235,7 @@ fn row_by_fields<'a>(
     Ok((Row::new(item, columns), before + count, rest))
 }
 
-/// A row, where `before` columns were read before, and how many were read up to its end. `held` is for literals.
+/// A row, if `before` columns were read before, and how many were read up to its end. `held` is for literals.
 fn row_of<'a>(
     alloc: Global,
     held: &mut Vec<Literal>,
@@ -276,7 +276,7 @@ fn next_row(
     Ok((row, total))
 }
 
-/// The rows of these items, where `before` columns were read before, and how many were read up to their end.
+/// The rows of these items, if `before` columns were read before, and how many were read up to their end.
 fn rows_of(
     alloc: Global,
     unread: &mut Unread,
@@ -300,7 +300,7 @@ fn rows_of(
     Ok((rows, total))
 }
 
-/// The table of a node, where `before` columns were read before, and how many were read up to its end. `items` are
+/// The table of a node, if `before` columns were read before, and how many were read up to its end. `items` are
 /// those of its rows.
 #[tactic(auto, unfolding(crate::specs::Grammar::node_table_at))]
 pub fn table_of(

@@ -64,7 +64,7 @@ fn four_of(bytes: [u8; 12]) -> [Literal; 4]
     ]
 }
 
-/// So many literals more.
+/// Appends the first `count` literals of `bytes` to `held`, and gives the bytes behind them.
 fn take_each<'a>(held: &mut Vec<Literal>, bytes: &'a [u8], count: u8) -> Result<&'a [u8], Untaken>
     ensures taken { IfOk result (λ rest. flat_map literal_bytes held.old.items ++ bytes.now ≡ flat_map literal_bytes held.new.items ++ rest.now) }
     ensures count { IfOk result (λ rest. length held.new.items ≡ length held.old.items + count) }
@@ -84,7 +84,8 @@ fn take_each<'a>(held: &mut Vec<Literal>, bytes: &'a [u8], count: u8) -> Result<
     Ok(rest)
 }
 
-/// So many literals more, four of them at once if there are as many.
+/// Appends the first `count` literals of `bytes` to `held`, and gives the bytes behind them. The first four are taken
+/// at once if there are as many.
 fn take_few<'a>(held: &mut Vec<Literal>, bytes: &'a [u8], count: u8) -> Result<&'a [u8], Untaken>
     ensures taken { IfOk result (λ rest. flat_map literal_bytes held.old.items ++ bytes.now ≡ flat_map literal_bytes held.new.items ++ rest.now) }
     ensures count { IfOk result (λ rest. length held.new.items ≡ length held.old.items + count) }
@@ -99,7 +100,8 @@ fn take_few<'a>(held: &mut Vec<Literal>, bytes: &'a [u8], count: u8) -> Result<&
     take_each(held, behind, count - 4)
 }
 
-/// So many literals, in place of those that `held` had: eight at a time, as most columns have many.
+/// Puts the first `count` literals of `bytes` in place of those that `held` had, and gives the bytes behind them.
+/// Eight are taken at a time, as most columns have many.
 fn take_literals<'a>(
     held: &mut Vec<Literal>,
     bytes: &'a [u8],
@@ -147,7 +149,7 @@ fn take_column<'a>(
     Ok((Entry { time, cube }, rest))
 }
 
-/// So many lawful columns.
+/// Takes `count` lawful columns from `bytes`, and gives them with the bytes behind them.
 fn take_columns<'a>(
     alloc: Global,
     held: &mut Vec<Literal>,
@@ -196,7 +198,7 @@ fn take_row<'a>(
     Ok((Row::new(item, columns), rest))
 }
 
-/// A lawful row, where `before` columns were read before, and how many were read up to its end.
+/// A lawful row, if `before` columns were read before, and how many were read up to its end.
 pub fn take_lawful<'a>(
     alloc: Global,
     held: &mut Vec<Literal>,

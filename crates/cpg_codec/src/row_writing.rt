@@ -38,7 +38,7 @@ fn put_each<O: Sink>(buffer: &mut Buffer, sink: &mut O, literals: &[Literal]) ->
     Ok(())
 }
 
-/// Literals, all at once where the buffer has room for them.
+/// Literals, all at once if the buffer has room for them.
 fn put_literals<O: Sink>(
     buffer: &mut Buffer,
     sink: &mut O,
@@ -79,7 +79,7 @@ fn put_parts<O: Sink>(buffer: &mut Buffer, sink: &mut O, column: &Entry) -> Resu
     put_counted(buffer, sink, column.cube.literals())
 }
 
-/// The same, all at once where the buffer has room for it, as it mostly has.
+/// A column, all at once if the buffer has room for it, as it mostly has.
 fn put_column<O: Sink>(buffer: &mut Buffer, sink: &mut O, column: &Entry) -> Result<(), Failed>
     requires { length column.now.cube ≤ 255 }
     ensures put { Puts (O.state sink.old).taken (O.state sink.new).taken buffer.old buffer.new result (column_bytes column.now) }

@@ -46,7 +46,7 @@ fn write_through<O: Sink>(buffer: &mut Buffer, sink: &mut O, tables: &Tables) ->
 
 /// Writes the spelling of tables.
 ///
-/// `Failed` only where the sink's count of faults rose. The sink has taken a proper prefix of the spelling then. The
+/// `Failed` only if the sink's count of faults rose. The sink has taken a proper prefix of the spelling then. The
 /// buffer is taken before the first write, so on `OutOfMemory` the sink is as it was.
 pub fn write_pack<O: Sink>(alloc: Global, tables: &Tables, sink: &mut O) -> Result<(), WriteFault>
     ensures whole { OnOk result (Took (O.state sink.old).taken (O.state sink.new).taken (spelling tables.now)) }

@@ -1,4 +1,4 @@
--- What builders answer under both orders is a compilation where nothing is late, and else shows what is.
+-- What builders answer under both orders is a compilation if nothing is late, and else shows what is.
 use Rattle.std.proofs.Common.{◌≡◌, ◌+◌, ◌-◌, ◌<◌, ◌≤◌, ◌∙◌, ℕ, zero, suc, List, [], ◌∷◌, Option, Some, None, Contains, unwrap_or, option_to_list, flat_map, length, get_or, refl, sym, ap, subst, inl, inr, arith}
 use Rattle.std.proofs.lemmas.Bool.{cases_eq, cases_lt}
 use Rattle.std.proofs.lemmas.List.{get_or_past}
@@ -29,7 +29,7 @@ use Rattle.cpg_run.specs.Laws.{Keeps}
 use Rattle.cpg_run.specs.Finish.{IsExcess, IsLeastExceeding}
 use Rattle.cpg_run.specs.Run.{Times, IsRun, end_in, end_by}
 
--- tables that a builder answers are valid where nothing is late
+-- tables that a builder answers are valid if nothing is late
 pub built_valid : (g : Graph) (urgency order : List ℕ) (b : Built) → IsBuiltFor g urgency order b → b.excess ≡ 0 → IsValid g b.tables.nodes
 built_valid g urgency order b is none = record {
   rules = λ rule x column s lawful within. kept rule s lawful x within column;
@@ -40,7 +40,7 @@ built_valid g urgency order b is none = record {
     kept Rule.Due = is.due none
     kept rule = is.rules rule (λ e. cc)
 
--- nothing is late where no process is shown
+-- nothing is late if no process is shown
 pub nothing_late : (g : Graph) (urgency order : List ℕ) (frozen : List (Option ℕ)) (peak : Peak) → IsExcess g urgency order frozen peak.time peak.scenario peak.process → peak.process ≡ None → peak.time ≡ 0
 nothing_late g urgency order frozen peak is none =
     let run = is.least.holds in
@@ -80,7 +80,7 @@ module _ (g : Graph) (urgency order : List ℕ) (b : Grown) (is : IsGrownFor g u
     | inr ge ↦ absurd (none-some (due g p + b.excess.time) (sym (get_or_past late_times.ends p None ge) ∙ late_end))
   ]
 
-  -- and its end is no later than the greatest finish
+  -- the end of a late process is no later than the greatest finish
   pub late_small : due g p + b.excess.time ≤ b.worst.time
   late_small = omega (
     arith,
@@ -104,7 +104,7 @@ measured g urgency order b is = record {
   is_worst = is.worst;
 }
 
--- and what is found before its tables are made
+-- what is found before the tables are made measures the order
 pub found_measured : (g : Graph) (urgency order : List ℕ) (t : Grown) → IsGrownFor g urgency order t → IsMeasured g urgency order t.excess.time t.worst.time
 found_measured g urgency order t is = record {
   frozen = t.trees.frozen;
@@ -123,13 +123,13 @@ late_under g urgency order t is l = (t.excess.time, t.worst.time, found_measured
 pub in_time_under : (g : Graph) (urgency order : List ℕ) (b : Built) → IsBuiltFor g urgency order b → b.excess ≡ 0 → IsInTimeUnder g urgency order
 in_time_under g urgency order b is e = (b.worst, subst (λ n. IsMeasured g urgency order n b.worst) e (measured g urgency order b is))
 
--- some process is shown where the excess is above 0
+-- some process is shown if the excess is above 0
 pub some_shown : (g : Graph) (urgency order : List ℕ) (t : Grown) → IsGrownFor g urgency order t → 0 < t.excess.time → t.excess.process ≡ None → ⊥
 some_shown g urgency order t is l e = omega (arith, nothing_late g urgency order t.trees.frozen t.excess is.excess e)
 
 module _ (g : Graph) (w : WellFormed g) (urgency : List ℕ) (top : IsTopological g urgency) (first_top : IsTopological g (first_order g urgency)) (narrow : g.order ≡ None → IsNarrow g (first_order g urgency))
     (first : Grown) (is : IsGrownFor g urgency (first_order g urgency) first) where
-  -- without tables of the track order none is better
+  -- no order is better than the first if the track order has no tables
   pub no_tables : HasNoTables g → HasNoBetter g urgency first
   no_tables h = elim h [
     | inl given ↦ record {
@@ -146,7 +146,7 @@ module _ (g : Graph) (w : WellFormed g) (urgency : List ℕ) (top : IsTopologica
     }
   ]
 
-  -- nor where its measures are no better
+  -- no order is better than the first if the track order's measures are no better
   pub no_better : (order : List ℕ) → HasTrackOrder g order → IsNarrow g order → (excess worst : ℕ) → IsMeasured g urgency order excess worst → (IsBetter excess worst first.excess.time first.worst.time → ⊥) → HasNoBetter g urgency first
   no_better order track own_narrow excess worst own worse = record {
     none = not_preferred_worse g w urgency top first_top narrow first.excess.time first.worst.time (found_measured g urgency (first_order g urgency) first is) order track own_narrow excess worst own worse;
@@ -168,12 +168,12 @@ module _ (g : Graph) (w : WellFormed g) (urgency : List ℕ) (top : IsTopologica
     ];
   }
 
-  -- nor if the track order is the first order
+  -- no order is better than the first if the track order is the first order
   pub same_order : g.order ≡ None → (order : List ℕ) → HasTrackOrder g order → order ≡ first_order g urgency → HasNoBetter g urgency first
   same_order ungiven order track same = no_better (first_order g urgency) (subst (HasTrackOrder g) same track) (narrow ungiven) first.excess.time first.worst.time (found_measured g urgency (first_order g urgency) first is)
       (λ better. elim better [ inl less ↦ omega (arith, less) | inr earlier ↦ omega (arith, earlier.1) ])
 
-  -- where the better ones are late, so are the others, and nothing helps
+  -- if the better ones are late, so are the others, and nothing helps
   pub late_too : (t : Grown) → IsPreferredTo g urgency first t → 0 < t.excess.time → (0 < first.excess.time) × IsHelpless g urgency
   late_too t h l = (
     elim h.better [ inl less ↦ omega arith | inr same ↦ omega (arith, same.0) ],

@@ -142,7 +142,7 @@ module _ (g : Graph) (few : process_count g ≤ 128) (order : List ℕ) (by : Li
 -- ---- a cube narrowed by a literal
 
 module _ (g : Graph) (order : List ℕ) (by : List (List Literal)) (l : Literal) (cube : List Literal) where
-  -- where the literal leaves no number, nothing is left
+  -- if the literal leaves no number, nothing is left
   pub part_none : with_literal l cube ≡ None → IsFirst g order (is_left by (narrowed_by l cube)) None
   part_none e = λ s i. and_left (matches (narrowed_by l cube) s) (not (list_any (λ b. matches b s) by)) (matches-narrowed s l cube ∙ with-none s l cube e)
 

@@ -83,7 +83,7 @@ module _ (g : Graph) (few : process_count g ≤ 128) (s : Scenario) (lawful : Is
       outside : (holds s l ≡ true → ⊥) → (nat_lt (number_of s l.variable) l.low || nat_lt l.high (number_of s l.variable)) ≡ true → not (holds s l) ≡ (nat_lt (number_of s l.variable) l.low || nat_lt l.high (number_of s l.variable))
       outside n e = ap not (false_from_ne_true (holds s l) n) ∙ sym e
 
-  -- some part matches exactly where the cube does and the other doesn't
+  -- some part matches exactly if the cube does and the other doesn't
   pub matches_parts : (ls cube : List Literal) → All (λ l. IsVariable g l.variable) ls → list_any (λ c. matches c s) (parts_outside g.faults ls cube) ≡ (matches cube s && not (matches ls s))
   matches_parts [] cube known = sym (and_right (matches cube s) false refl)
   matches_parts (l ∷ ls) cube known =
@@ -101,7 +101,7 @@ module _ (g : Graph) (order : List ℕ) (by : List (List Literal)) (cube : List 
   pub left_of_none : IsFirst g order (matches cube) None → IsFirst g order (is_left by cube) None
   left_of_none none = λ s i. and_left (matches cube s) (not (list_any (λ b. matches b s) by)) (none s i)
 
-  -- its least scenario is left where no cube of the list matches that
+  -- its least scenario is left if no cube of the list matches that
   pub left_at_once : (least : Scenario) → IsFirst g order (matches cube) (Some least) → list_any (λ b. matches b least) by ≡ false → IsFirst g order (is_left by cube) (Some least)
   left_at_once least first e = record {
     lawful = first.lawful;

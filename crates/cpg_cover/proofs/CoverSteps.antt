@@ -82,7 +82,7 @@ module _ (g : Graph) (order : List ℕ) (by : List (List Literal)) (cube : List 
       let r = and_parts (matches cube s) (not (list_any (λ b. matches b s) by)) f.holds in
       (r.0, not-true (list_any (λ b. matches b s) by) r.1)
 
-  -- ---- the whole search: None exactly where all is covered, else the least that isn't
+  -- ---- the whole search: None exactly if all is covered, else the least that isn't
 
   module _ (few : process_count g ≤ 128) (known : All (All (λ l. IsVariable g l.variable)) by) (is : IsCube g cube) where
     pub none_where_covered : (uncovered g order by cube ≡ None) ↔ ((s : Scenario) → IsScenario g s → matches cube s ≡ true → list_any (λ b. matches b s) by ≡ true)

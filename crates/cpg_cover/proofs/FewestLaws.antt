@@ -152,7 +152,7 @@ value_from cubes off on v room a b r large keeps needs keeps' needs' la lb lr co
     (cases_lt 0 (n v)))
     (cases_lt room (sum_by n (numbers_below count)))
 
--- where there is no room for a fault
+-- if there is no room for a fault
 pub count_without : (cubes : List (List Literal)) (v room w r : ℕ) → v < 128 → NeedsWithout cubes v room w → r ≤ w → r ≤ 1 → Needs cubes r
 count_without cubes v room w r small needs lw lr count e n values t = ⊎_elim
     (λ (p : 0 < sum_by n (numbers_below count)). omega arith)

@@ -1,4 +1,4 @@
--- Numbers beyond the lows of a cube: where no cube of a list is matched by them but with more faults than are left, the list covers the cube.
+-- Numbers beyond the lows of a cube: if no cube of a list is matched by them but with more faults than are left, the list covers the cube.
 use Rattle.std.proofs.Common.{ℕ, zero, suc, ◌+◌, ◌-◌, ◌<◌, ◌≤◌, ◌≡◌, true, false, List, Some, length, get_or, sum_by, arith, refl, sym, ap, ◌∙◌, ⊎_elim, le-ltb, leb-true, Contains, add-one}
 use Rattle.std.specs.Prelude.{nat_le, nat_lt}
 use Rattle.std.specs.List.{list_any}

@@ -13,7 +13,7 @@ use Rattle.cpg_cube.specs.declared.literal.Literal.{Literal}
 use Rattle.cpg_cube.proofs.Mapped.{any_map}
 use Rattle.cpg_cover.specs.Cover.{is_left}
 
--- what is left depends on the list only where the cube matches
+-- what is left depends on the list only if the cube matches
 pub left_same : {X : Type 0} (f : X → List Literal) (xs ys : List X) (cube : List Literal) (s : Scenario) → (matches cube s ≡ true → list_any (λ b. matches (f b) s) xs ≡ list_any (λ b. matches (f b) s) ys)
     → is_left (map f xs) cube s ≡ is_left (map f ys) cube s
 left_same f xs ys cube s h = ⊎_elim

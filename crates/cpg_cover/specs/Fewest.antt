@@ -23,15 +23,17 @@ is_any_at n cubes = list_any (matches_at n) cubes
 abbrev pub AreValues : (ℕ → ℕ) → Type 0
 AreValues n = (v : ℕ) → 128 ≤ v → n v ≤ 1
 
--- a cube isn't matched but with so many faults (the count of variables for faults stands as a number apart, for the prover's sake)
+-- if a cube isn't matched, there are at least so many faults (the count of variables for faults stands as a number
+-- apart, for the prover's sake)
 abbrev pub NeedsOutside : List Literal → ℕ → Type 0
 NeedsOutside cube r = (count : ℕ) → count ≡ 128 → (n : ℕ → ℕ) → matches_at n cube ≡ false → r ≤ sum_by n (numbers_below count)
 
--- no cube of a list is matched but with so many faults
+-- if no cube of a list is matched, there are at least so many faults
 abbrev pub Needs : List (List Literal) → ℕ → Type 0
 Needs cubes r = (count : ℕ) → count ≡ 128 → (n : ℕ → ℕ) → AreValues n → is_any_at n cubes ≡ false → r ≤ sum_by n (numbers_below count)
 
--- nor with fewer faults than a room has and none of one process
+-- if no cube of a list is matched, the number of a variable is 0, and there are no more faults than a room has, there
+-- are at least so many
 abbrev pub NeedsWithout : List (List Literal) → ℕ → ℕ → ℕ → Type 0
 NeedsWithout cubes variable room r = (count : ℕ) → count ≡ 128 → (n : ℕ → ℕ) → AreValues n → n variable ≡ 0 →
     sum_by n (numbers_below count) ≤ room → is_any_at n cubes ≡ false → r ≤ sum_by n (numbers_below count)
@@ -67,7 +69,7 @@ pub record AreMore (cube : List Literal) (marks later : List Bool) : Type 0 wher
 abbrev pub beyond : List ℕ → (ℕ → ℕ) → ℕ → ℕ
 beyond low s v = s v - get_or low v 0
 
--- the numbers are not below the lows, and a literal holds where it has all numbers that its variable has with so many faults left
+-- the numbers are not below the lows, and a literal holds if it has all numbers that its variable has with so many faults left
 pub record IsOn (low high : List ℕ) (left : ℕ) (s : ℕ → ℕ) : Type 0 where
   pub lows : (v : ℕ) → get_or low v 0 ≤ s v
   pub spanned : (l : Literal) → spans low high left l ≡ true → holds_at s l ≡ true

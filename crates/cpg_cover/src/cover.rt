@@ -22,7 +22,7 @@ use cpg_base::{Order, OutOfMemory, Problem, Scenario, is_before, top};
 use cpg_cube::{Bounds, Cube, Literal, budget_left, variables_along};
 use std::alloc::Global;
 
-/// The earlier of two scenarios, where there are two.
+/// The earlier of two scenarios, if there are two.
 pub fn earlier(
     problem: &Problem,
     order: &Order,
@@ -89,7 +89,7 @@ fn meeting<'a>(
     Ok(kept)
 }
 
-/// The literals of a list that don't hold wherever a cube matches: where it matches, the others do.
+/// The literals of a list that aren't known to hold in every scenario that a cube matches. The others hold in each of them.
 fn cutting(
     alloc: Global,
     problem: &Problem,
@@ -117,7 +117,7 @@ fn cutting(
     Ok(kept)
 }
 
-/// The literal of the range below a literal's, if there is one.
+/// The numbers below a literal's range, as a literal; none if the range begins at 0.
 fn below(literal: &Literal) -> Option<Literal>
     ensures { result ≡ range_below literal.now }
 {
@@ -131,7 +131,8 @@ fn below(literal: &Literal) -> Option<Literal>
     })
 }
 
-/// The literal of the range above a literal's, if there is one.
+/// The numbers above a literal's range, as a literal; none if the range ends at the greatest number that the variable
+/// has in scenarios of at most `k` faults.
 fn above(k: u8, literal: &Literal) -> Option<Literal>
     ensures { result ≡ range_above k literal.now }
 {
@@ -451,7 +452,7 @@ fn left_along(
     Ok(found)
 }
 
-/// The least scenario along an order that a cube matches and no cube of a list does; `None` exactly where every
+/// The least scenario along an order that a cube matches and no cube of a list does; `None` exactly if every
 /// scenario within the problem's faults that matches the cube matches one of the list.
 pub fn uncovered(
     alloc: Global,
@@ -486,7 +487,7 @@ fn lent<'a>(alloc: Global, by: &'a [Cube]) -> Result<Vec<&'a Cube>, OutOfMemory>
     Ok(cubes)
 }
 
-/// Whether a list covers a cube: `None` exactly where every scenario within the problem's faults that matches the cube
+/// Whether a list covers a cube: `None` exactly if every scenario within the problem's faults that matches the cube
 /// matches one of the list, and else the least along the order that doesn't.
 pub fn covers(
     alloc: Global,

@@ -51,7 +51,7 @@ impl Ground {
         })
     }
 
-    /// What literals ask beyond the lows, but for those that hold everywhere; `None` where one can't hold.
+    /// What literals ask beyond the lows, but for those that hold everywhere; `None` if one can't hold.
     fn asked(
         &self,
         alloc: Global,
@@ -135,7 +135,7 @@ impl Ground {
     }
 }
 
-/// Whether it is found that a list covers a cube.
+/// Whether a list is found to cover a cube.
 pub(crate) fn is_surely_covered(
     alloc: Global,
     problem: &Problem,

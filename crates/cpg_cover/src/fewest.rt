@@ -71,7 +71,7 @@ fn fewest_of_apart(cubes: &[Cube]) -> u8
     sum
 }
 
-/// Whether a cube matches where all numbers are 0.
+/// Whether a cube matches if all numbers are 0.
 fn matches_zero(cube: &Cube) -> bool {
     cube.literals().iter().all(|literal| literal.low == 0)
 }
@@ -91,7 +91,7 @@ fn most_frequent(cubes: &[Cube]) -> u8 {
     best
 }
 
-/// The fewest faults of a value, by those where it is false and where it is true.
+/// The fewest faults of a value, by those with it false and those with it true.
 #[cycle(fewest)]
 fn fewest_by_value(
     alloc: Global,
@@ -112,7 +112,7 @@ fn fewest_by_value(
     Ok(fewer.min(room.saturating_add(1)))
 }
 
-/// The fewest faults where a process has none and these are the fewest, and where it has some.
+/// The fewest faults if a process has none and these are the fewest, and if it has some.
 #[cycle(fewest)]
 fn fewest_with(
     alloc: Global,
@@ -140,7 +140,7 @@ fn fewest_with(
     Ok(few.min(most + 1))
 }
 
-/// The fewest faults where a process has none, and where it has some, put together.
+/// The fewest faults if a process has none, and if it has some, put together.
 #[cycle(fewest)]
 fn fewest_by_count(
     alloc: Global,
@@ -207,7 +207,7 @@ fn fewest_of_joined(
     Ok(few)
 }
 
-/// At most so many faults as a scenario has that none of the cubes matches, and as many where they are within the room.
+/// At most so many faults as a scenario has that none of the cubes matches, and as many if they are within the room.
 #[cycle(fewest)]
 pub(crate) fn fewest(
     alloc: Global,

@@ -1,4 +1,4 @@
-//! What cubes ask where one variable is settled, or has one fault.
+//! What cubes ask when one variable is settled, or has one fault.
 ghost use Rattle.std.specs.Prelude.{◌≡◌, ◌≤◌, ◌<◌, ◌||◌, ℕ, IfOk, IfSome, false, length, true};
 ghost use Rattle.cpg_cover.specs.Fewest.{IsStep, after, holds_at, is_any_at, matches_at, rest_holds};
 
@@ -109,7 +109,7 @@ fn rest_of(literal: Literal, step: Step, room: u8) -> Rest
     }
 }
 
-/// What the literals ask after the step; `None` where they can't all hold.
+/// What the literals ask after the step; `None` if they can't all hold.
 fn asked_after(
     alloc: Global,
     literals: &[Literal],
@@ -130,7 +130,7 @@ fn asked_after(
     Ok(Some(asked))
 }
 
-/// Where a cube belongs in a list that is sorted, and `None` where it stands there already. A long list isn't kept sorted: it is
+/// Where a cube belongs in a list that is sorted, and `None` if it stands there already. A long list isn't kept sorted: it is
 /// at its end there.
 fn place_of(cubes: &[Cube], cube: &Cube) -> Option<usize>
     ensures { IfSome result (λ place. place ≤ length cubes.now) }

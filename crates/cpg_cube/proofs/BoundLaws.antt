@@ -165,7 +165,7 @@ module _ (g : Graph) (few : process_count g ≤ 128) (a : List Literal) (is_a : 
           omega arith,
         )
 
-    -- the other fits beside the bounds exactly where the cubes meet
+    -- the other fits beside the bounds exactly if the cubes meet
     pub fits_is_meet : is_some (budget_left (touches g.faults lows highs) (more_asked lows) left b) ≡ do_meet g a b
     fits_is_meet = budget_is (touches g.faults lows highs) (more_asked lows) left b ∙ same_truth (list_all (touches g.faults lows highs) b && nat_le (sum_by (more_asked lows) b) left) (do_meet g a b)
         (λ t. let r = and_parts _ _ t in meet_from_touch r.0 (leb-true _ _ r.1))

@@ -1,4 +1,4 @@
--- Demands that are taken from a budget one by one fit exactly where their sum does.
+-- Demands that are taken from a budget one by one fit exactly if their sum does.
 use Rattle.std.proofs.Common.{ℕ, ◌+◌, ◌-◌, ◌≤◌, ◌≡◌, Bool, true, false, cond, ◌&&◌, List, [], ◌∷◌, Option, Some, None, sum_by, arith, refl, sym, ap, ◌∙◌, ⊎_elim, le-leb, leb-true}
 use Rattle.std.specs.Prelude.{nat_le, is_some}
 use Rattle.std.specs.List.{list_all}

@@ -117,7 +117,7 @@ front f bytes number left (v ∷ vs) l = elim (cases_eq (f v) 0) [
   | inr n ↦ ap (place_in number) (asked_some left (f v) (map f vs) n) ∙ stop_at number (left * 256 + f v) (asked_from (left - 1) (map f vs)) (lt-ltb (left * 256 + f v) number (omega (arith, l, bytes v)))
 ]
 
--- lows that differ at one variable, where the first has none
+-- lows that differ at one variable, if the first has none
 module _ (v : ℕ) (f g : ℕ → ℕ) (nothing : f v ≡ 0) (something : g v ≢ 0) (others : (u : ℕ) → u ≢ v → g u ≡ f u) (bytes : (u : ℕ) → f u < 256) (byte : g v < 256) where
   inserted : (left : ℕ) (vs : List ℕ) → AllPairs (λ u w. u ≢ w) vs → length vs ≤ left → with_any_asked (left_at left vs v) (g v) (asked_from left (map f vs)) ≡ asked_from left (map g vs)
   inserted left [] apart few = refl
@@ -220,7 +220,7 @@ module _ (g : Graph) (few : process_count g ≤ 128) where
           ])
           (AllPairs-cons_by (λ u v. u ≢ v) (value_variable c) [] (λ y k. absurd (Contains-nil y k)) (AllPairs-nil (λ u v. u ≢ v)))
 
-  -- of which process a variable is
+  -- the process that a variable is of
   own_cases : (p v : ℕ) → Contains (variables_of g p) v → (p ≡ v) ⊎ ((c : ℕ) × (condition_of g p ≡ Some c) × (value_variable c ≡ v))
   own_cases p v k = elim (Contains-cases p (variable_of_value (condition_of g p)) v k) [
     | inl e ↦ inl e
@@ -271,7 +271,7 @@ lows_above f h v left (u ∷ us) few there same less = elim (cases_eq u v) [
       ]) less
 ]
 
--- of two cubes whose lows first differ at a variable along an order the one with the greater low isn't before the other
+-- if the lows of two cubes first differ at a variable along an order, the one with the greater low isn't before the other
 pub first_differ : (g : Graph) (order places : List ℕ) → ArePlaces (variables_along g order) places → (a b : List Literal) (v : ℕ) → get_or places v 0 ≢ 0 → ((u : ℕ) → get_or places v 0 < get_or places u 0 → low_in a u ≡ low_in b u) →
     low_in a v < low_in b v → is_below (lows_along g order (low_in b)) (lows_along g order (low_in a)) ≡ false
 first_differ g order places is a b v there same less =

@@ -8,7 +8,7 @@ use Rattle.cpg_cube.specs.Cube.{Literal, IsRising}
 use Rattle.cpg_cube.specs.Rising.{rises_from}
 use Rattle.cpg_cube.proofs.Ranges.{rising_rest, rising_first}
 
--- where the variables rise from a least one on, none is below it
+-- if the variables rise from a least one on, none is below it
 from_least : (least : ℕ) (ls : List Literal) → rises_from least ls ≡ true → (m : Literal) → Contains ls m → least ≤ m.variable
 from_least least [] h m c = absurd (Contains-nil m c)
 from_least least (l ∷ ls) h m c =

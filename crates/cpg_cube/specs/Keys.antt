@@ -52,11 +52,11 @@ abbrev pub asked_from : ℕ → List ℕ → List ℕ
 asked_from left [] = []
 asked_from left (x ∷ xs) = if x == 0 then asked_from (left - 1) xs else (left * 256 + x) ∷ asked_from (left - 1) xs
 
--- so of the lows along an order
+-- the key of the lows of variables along an order
 abbrev pub key_along : Graph → List ℕ → (ℕ → ℕ) → List ℕ
 key_along g order low = asked_from 256 (lows_along g order low)
 
--- and of the lows of variables
+-- the key of a cube's lows on some variables
 abbrev pub key_by : List ℕ → List Literal → List ℕ
 key_by variables cube = asked_from 256 (map (low_in cube) variables)
 
@@ -82,7 +82,7 @@ place_in number (more ∷ key) = if nat_lt more number then 0 else suc (place_in
 abbrev pub with_number : ℕ → List ℕ → List ℕ
 with_number number key = take (place_in number key) key ++ number ∷ drop (place_in number key) key
 
--- so with that of a low, where places are left
+-- a key with a low and how many places are left as one number, or the key itself if none are left
 abbrev pub with_any_asked : ℕ → ℕ → List ℕ → List ℕ
 with_any_asked left low key = if left == 0 then key else with_number (left * 256 + low) key
 

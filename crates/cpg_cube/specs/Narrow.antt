@@ -17,6 +17,6 @@ abbrev pub range_left : Literal → List Literal → Literal
 range_left l [] = l
 range_left l (m ∷ ms) = if l.variable == m.variable then meet_literal l m else range_left l ms
 
--- the cube narrowed by the literal, or None where that leaves its variable no number
+-- the cube narrowed by the literal, or None if that leaves its variable no number
 abbrev pub with_literal : Literal → List Literal → Option (List Literal)
 with_literal l cube = if nat_le (range_left l cube).low (range_left l cube).high then Some (narrowed_by l cube) else None

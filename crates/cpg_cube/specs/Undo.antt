@@ -18,7 +18,7 @@ pub record IsUndo (n : Narrowing) (new old : List Literal) : Type 0 where
   pub place : n.place < length new
   pub back : restored n new ≡ old
 
--- the place of a narrowing has a literal on a variable, and so had it before where there was one
+-- the place of a narrowing has a literal on a variable, and so had it before if there was one
 pub record IsOn (v : ℕ) (n : Narrowing) (literals : List Literal) : Type 0 where
   pub now : (d : Literal) → (get_or literals n.place d).variable ≡ v
   pub before : IfSome n.was (λ w. w.variable ≡ v)

@@ -14,14 +14,14 @@ use cpg_base::{FIRST_VALUE, Problem, Scenario};
 /// How many variables there may be.
 pub const VARIABLES: usize = 256;
 
-/// The least and the greatest number of each variable in a cube, 0 and 255 where it has no literal on the variable.
+/// The least and the greatest number of each variable in a cube, 0 and 255 if it has no literal on the variable.
 #[derive(Drop)]
 pub struct Bounds {
     pub low: [u8; VARIABLES],
     pub high: [u8; VARIABLES],
 }
 
-/// What is left of `k` faults after those that the literals ask for; `None` where they match no scenario of at most `k`
+/// What is left of `k` faults after those that the literals ask for; `None` if they match no scenario of at most `k`
 /// faults.
 pub fn budget_left(k: u8, literals: &[Literal]) -> Option<u8>
     ensures { result ≡ budget_left (is_open k) asked_of_literal k literals.now }
@@ -90,7 +90,7 @@ impl Bounds {
         true
     }
 
-    /// Whether a literal's range has all numbers of its variable where so many faults are left.
+    /// Whether a literal's range has all numbers of its variable if so many faults are left.
     pub fn spans(&self, left: u8, literal: &Literal) -> bool
         ensures { result ≡ spans self.now.low self.now.high left literal.now }
     {
@@ -104,14 +104,14 @@ impl Bounds {
         literal.low <= low && high.min(most) <= literal.high
     }
 
-    /// Whether the ranges of all literals have all numbers of their variables where so many faults are left.
+    /// Whether the ranges of all literals have all numbers of their variables if so many faults are left.
     pub(crate) fn span_all(&self, left: u8, literals: &[Literal]) -> bool
         ensures { result ≡ list_all (spans self.now.low self.now.high left) literals.now }
     {
         literals.iter().all(|literal| self.spans(left, literal))
     }
 
-    /// Raises the least numbers to those of a cube, where they are greater.
+    /// Raises the least numbers to those of a cube, if they are greater.
     pub(crate) fn raise(&mut self, literals: &[Literal])
         requires { IsRising literals.now }
         ensures { AreRaised literals.now self.old.low self.new.low }

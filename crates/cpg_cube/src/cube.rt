@@ -21,7 +21,7 @@ use std::marker::Model;
 /// How many literals a cube holds without memory of its own.
 const FEW: usize = 8;
 
-/// Ranges of variables, seen as the list of its literals, the variables rising. It matches a scenario where each
+/// Ranges of variables, seen as the list of its literals, the variables rising. It matches a scenario if each
 /// number is in range; a variable without a literal may be any number.
 #[derive(Drop)]
 pub struct Cube {
@@ -120,7 +120,7 @@ fn narrow(literals: &mut SmallVec<Literal, FEW>, literal: Literal) -> Result<Nar
     Ok(Narrowing { place, was: None })
 }
 
-/// What `narrow` does, at once where the variable is above all others, as it mostly is along a path.
+/// What `narrow` does, at once if the variable is above all others, as it mostly is along a path.
 fn put(literals: &mut SmallVec<Literal, FEW>, literal: Literal) -> Result<Narrowing, OutOfMemory>
     requires { IsRising literals.old.items }
     ensures narrowed { IfOk result (λ _. literals.new.items ≡ narrowed_by literal literals.old.items) }
@@ -136,7 +136,7 @@ fn put(literals: &mut SmallVec<Literal, FEW>, literal: Literal) -> Result<Narrow
     narrow(literals, literal)
 }
 
-/// The same literals. A list of its own takes many at once.
+/// A copy of literals. A list of its own takes many at once.
 fn copied(alloc: Global, literals: &[Literal]) -> Result<SmallVec<Literal, FEW>, OutOfMemory>
     ensures { IfOk result (λ copy. copy.items ≡ literals.now) }
 {
@@ -159,7 +159,7 @@ impl Cube {
         }
     }
 
-    /// The cube of these literals, and `None` exactly where their variables don't rise.
+    /// The cube of these literals, and `None` exactly if their variables don't rise.
     pub fn new(alloc: Global, literals: &[Literal]) -> Result<Option<Cube>, OutOfMemory>
         ensures cube { IfOk result (λ r. IfSome r (λ cube. cube ≡ literals.now)) }
         ensures rising { IfOk result (λ r. IfSome r (λ _. IsRising literals.now)) }
@@ -230,7 +230,7 @@ impl Cube {
         literal
     }
 
-    /// The same, at once where the variable is above all others.
+    /// As `range_left`, at once if the variable is above all others.
     fn range_with(&self, literal: Literal) -> Literal
         ensures { result ≡ range_left literal self.now }
     {
@@ -253,7 +253,7 @@ impl Cube {
         Ok(Cube { literals })
     }
 
-    /// The cube that matches where this one does and the literal holds, and `None` exactly where that leaves the
+    /// The cube that matches where this one does and the literal holds, and `None` exactly if that leaves the
     /// variable an empty range.
     pub fn with(&self, literal: Literal) -> Result<Option<Cube>, OutOfMemory>
         ensures cube { IfOk result (λ r. r ≡ with_literal literal self.now) }
@@ -268,7 +268,7 @@ impl Cube {
         Ok(Some(cube))
     }
 
-    /// Becomes what `with` answers, and `None` exactly where that is none: then it stays as it is.
+    /// Becomes what `with` answers, and `None` exactly if that is none: then it stays as it is.
     pub fn narrow(&mut self, literal: Literal) -> Result<Option<Narrowing>, OutOfMemory>
         ensures narrowed { IfOk result (λ r. IfSome r (λ _. with_literal literal self.old ≡ Some self.new)) }
         ensures undo { IfOk result (λ r. IfSome r (λ n. IsUndo n self.new self.old)) }
@@ -301,7 +301,7 @@ impl Cube {
         }
     }
 
-    /// Becomes what it was before it was narrowed, narrowed by another literal on the variable. False exactly where that
+    /// Becomes what it was before it was narrowed, narrowed by another literal on the variable. False exactly if that
     /// leaves the variable an empty range: then it is what it was before.
     pub fn exchange(&mut self, narrowed: Narrowing, literal: Literal) -> bool
         requires place { narrowed.place < length self.old }
@@ -339,7 +339,7 @@ impl Cube {
     }
 
     /// The least scenario that the cube matches, which is the least in every order of the processes; `None` exactly
-    /// where it matches none.
+    /// if it matches none.
     pub fn least(&self, alloc: Global, problem: &Problem) -> Result<Option<Scenario>, OutOfMemory>
         requires known { IsKnown problem.now self.now }
         ensures exact { IfOk result (λ r. r ≡ (if is_met problem.now.faults self.now then Some (lows problem.now self.now) else None)) }
@@ -352,7 +352,7 @@ impl Cube {
         Ok(Some(least))
     }
 
-    /// The bounds of this cube, the lows raised to those of another; `None` exactly where no scenario matches both.
+    /// The bounds of this cube, the lows raised to those of another; `None` exactly if no scenario matches both.
     fn bounds_of_both(&self, other: &Cube, problem: &Problem) -> Option<Bounds>
         requires first { IsKnown problem.now self.now }
         requires second { IsKnown problem.now other.now }

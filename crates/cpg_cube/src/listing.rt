@@ -20,7 +20,7 @@ pub struct Listing {
 
 impl Listing {
     /// The columns by the least scenario along the order that they match: none has the lows of its cube before those of an
-    /// earlier one. The one error is want of memory.
+    /// earlier one. The one error is `OutOfMemory`.
     pub fn sorted(
         self,
         alloc: Global,

@@ -49,7 +49,7 @@ fn push_variables(
 }
 
 /// The variables along an order: of each process that of its count and then that of its value, if it has a condition. The one
-/// error is want of memory.
+/// error is `OutOfMemory`.
 pub fn variables_along(
     alloc: Global,
     problem: &Problem,
@@ -83,7 +83,7 @@ fn places_of(variables: &[u8]) -> [u16; VARIABLES]
 }
 
 /// How many places are left at each variable along an order, a process's count and then its value: 256 at the first, and 0
-/// at what is no variable of the problem. The one error is want of memory.
+/// at what is no variable of the problem. The one error is `OutOfMemory`.
 pub fn places_along(
     alloc: Global,
     problem: &Problem,
@@ -159,7 +159,7 @@ fn put_lows_of(
     Ok(())
 }
 
-/// The same, at once where all begin at 0.
+/// Puts the lows of literals, at once if all begin at 0.
 fn put_block(
     places: &[u16; VARIABLES],
     literals: &[Literal; BLOCK],
@@ -231,7 +231,7 @@ fn without_keys<T: Drop>(alloc: Global, ranked: Vec<Ranked<T>>) -> Result<Vec<T>
 }
 
 /// The columns by the least scenario along the order that they match: none has the lows of its cube before those of an
-/// earlier one. The one error is want of memory.
+/// earlier one. The one error is `OutOfMemory`.
 pub fn by_least_scenario<T: Cubed + Drop>(
     alloc: Global,
     problem: &Problem,
@@ -257,7 +257,7 @@ struct Placed {
     place: usize,
 }
 
-/// The first of two, or the second one where its key is before that of the first.
+/// The first of two, or the second one if its key is before that of the first.
 fn lesser(first: Placed, second: Placed) -> Placed
     ensures { result ≡ (if is_below second.key.items first.key.items then second else first) }
 {
@@ -293,7 +293,7 @@ fn first_by_key<T: Cubed>(
 }
 
 /// The place of the column with the least scenario along the order: no column has the lows of its cube before those of
-/// this one's. `None` exactly where there is no column. The one error is want of memory.
+/// this one's. `None` exactly if there is no column. The one error is `OutOfMemory`.
 pub fn first_by_least_scenario<T: Cubed>(
     alloc: Global,
     problem: &Problem,

@@ -34,7 +34,7 @@ start-is_not_quiet q = let one : 1 ≡ 0 = ap length q.acts in absurd (omega (ar
 pub start-is_done : acts_of_turn (opening (own_table pair 0 (table_at pair_tables 0))) 0 [] [] ≡ [] → ⊥
 start-is_done e = let one : 1 ≡ 0 = ap length e in absurd (omega (arith, one))
 
--- nor one at which the report of an execution is due
+-- a turn at which the report of an execution is due may not be left out
 abbrev pub reported : Dispatcher
 reported = record (opening (own_table pair 0 (table_at pair_tables 0))) {
   running = Some (record { start = 0; report = Some (record { process = 0; faults = 0; value = false }) }) ∷ [];
@@ -48,7 +48,7 @@ report-is_not_quiet q = let one : 1 ≡ 0 = ap length q.ends in absurd (omega (a
 pub report-is_taken : turn reported 35 [] [] ≡ record reported { last = Some 35 } → ⊥
 report-is_taken e = true≢false (sym (ap (λ (d : Dispatcher). is_some (get_or d.running 0 None)) e))
 
--- where it isn't due a turn is quiet
+-- if it isn't due, a turn is quiet
 pub between-is_quiet : IsQuiet reported 34
 between-is_quiet = record { ends = refl; acts = refl }
 
@@ -115,7 +115,7 @@ told-all = record {
   small = omega arith;
 }
 
--- and does on them what it does there
+-- N2 does on the events that it is told what it does in the play
 pub told-acts : (after second (stream_bytes (closed_at lawful_events 105))).progress.acts ≡ act 90 1 1 ∷ []
 unfolding turns_below
 told-acts = refl

@@ -25,7 +25,7 @@ module _ (g : Graph) (order : List ℕ) (guards : Guards) (admitted : IsAdmitted
   pub start_activity : (x : ℕ) → x < process_count g → p ≡ producer g x → IsActivityOf g x chooser
   start_activity x small e s path law on = (active_tells s law).value path on ∙ ap (active g s.values) (e ∙ ap (producer_of_item g) (item_at-start g x small)) ∙ sym (ap (item_active g s.values) (item_at-start g x small))
 
-  -- what is sent is active where it goes
+  -- what is sent is active if it goes
   pub sent_activity : (x : ℕ) → p ≡ producer g x → (t : TreeState Bool) → IsGoesTree g x chooser t → IsActivityOf g x t
   sent_activity x e t goes s path law on = (goes s (scenario_few g s law) (values_known s (way guard s.values))
       (subst (λ q. Tells s (values_known s (way guard s.values)) (active g s.values q) chooser) e (active_tells s law))).value path on

@@ -92,7 +92,7 @@ module _ (s : Scenario) where
             });
       }
 
-  -- where the chooser is true
+  -- what is told of a tree that is made where a chooser is true, if the chooser is
   pub agrees_where : {T U V : Type 0} (answers : T → U → V → Type 0) (none : V) (chooser : TreeState Bool) (a : TreeState T) (b : TreeState U) (r : TreeState V) (told first second : List Literal) (fact_a : T → Type 0) (fact_b : U → Type 0) (fact : V → Type 0) →
       HasFew chooser.faults s → a.faults ≡ chooser.faults → b.faults ≡ chooser.faults → HasOnePathEach chooser.faults chooser.paths → HasOnePathEach chooser.faults a.paths → HasOnePathEach chooser.faults b.paths → IsJoinWhere answers none chooser a b r →
       ((x : T) (y : U) (z : V) → fact_a x → fact_b y → answers x y z → fact z) → Agrees s told (λ c. c ≡ true) chooser → Agrees s first fact_a a → Agrees s second fact_b b → Agrees s (told ++ (first ++ second)) fact r
@@ -114,7 +114,7 @@ module _ (s : Scenario) where
             });
       }
 
-  -- and elsewhere
+  -- what is told of a tree that is made where a chooser is true, if the chooser is false
   pub agrees_elsewhere : {T U V : Type 0} (answers : T → U → V → Type 0) (none : V) (chooser : TreeState Bool) (a : TreeState T) (b : TreeState U) (r : TreeState V) (told : List Literal) →
       HasFew chooser.faults s → HasOnePathEach chooser.faults chooser.paths → IsJoinWhere answers none chooser a b r → Agrees s told (λ c. c ≡ false) chooser → Agrees s told (λ z. z ≡ none) r
   agrees_elsewhere answers none chooser a b r told few each is of_c =

@@ -90,7 +90,7 @@ module _ (g : Graph) (urgency : List ℕ) (guards : Guards) (a : IsAdmitted g ur
   waits_here : is_frozen g p ≡ false → IsWaitedFor g order (place order p) (node_of g p)
   waits_here thawed = record { other = p; within = l; there = refl; later = omega arith; thawed = thawed }
 
-  -- and so does one behind it
+  -- a node that is waited for behind the process is waited for at its place, too
   waits_before : (node : ℕ) → IsWaitedFor g order (place order p + 1) node → IsWaitedFor g order (place order p) node
   waits_before node w = record { other = w.other; within = w.within; there = w.there; later = omega (arith, w.later); thawed = w.thawed }
 

@@ -36,7 +36,7 @@ module _ (g : Graph) (order : List ℕ) (guards : Guards) (admitted : IsAdmitted
   leads_here p l guard is = subst (λ (k : Graph). LeadsBelow (edge_count k) guard) (sym same)
       (leads_below g order admitted.topological p l guard (subst (IsGuardOf g order p) (sym is) (admitted.guards.trees p l)))
 
--- and of the guards and an order
+-- what is asked of the guards and an order
 pub along_here : (g : Graph) (urgency : List ℕ) (guards : Guards) → IsAdmitted g urgency guards → (h : Graph) → h ≡ g → (found : Guards) → found ≡ guards → (order : List ℕ) → length order ≡ process_count g → AreAlong h found order
 along_here g urgency guards admitted h same found is order long = subst (λ (k : Graph). AreAlong k found order) (sym same) (subst (λ (x : Guards). AreAlong g x order) (sym is) (record {
   few = admitted.well_formed.few_conditions;

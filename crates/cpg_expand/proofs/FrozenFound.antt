@@ -28,11 +28,11 @@ set_here old x None l unset = unset
 set_here old x (Some time) l unset = get_or-set_same old x (Some time) None l
 
 module _ (g : Graph) (order : List ℕ) (old : List (Option ℕ)) (x : ℕ) (latest : Option ℕ) where
-  -- where the item is active there is a latest time, which is no earlier than what it would have
+  -- if the item is active, there is a latest time, which is no earlier than what it would have
   abbrev pub IsAbove : Type 0
   IsAbove = (s : Scenario) → IsScenario g s → (t : Times) → IsRun g order old s t → item_active g s.values (item_at g x) ≡ true → (m : ℕ) × (latest ≡ Some m) × (unfrozen_time g order s t x ≤ m)
 
-  -- and in some scenario it is no later than that
+  -- in some scenario in which the item is active the latest time is no later than what it would have
   abbrev pub IsReachedBy : Type 0
   IsReachedBy = (m : ℕ) → latest ≡ Some m → (s : Scenario) × IsScenario g s × (item_active g s.values (item_at g x) ≡ true) × ((t : Times) → IsRun g order old s t → m ≤ unfrozen_time g order s t x)
 

@@ -87,7 +87,7 @@ module _ (g : Graph) (e : ℕ) where
         (subst (λ (z : Bool). Tells s (first ++ (if b then value_known s c ∷ [] else [])) z t) value (tested s few b first told))
 
 module _ (g : Graph) (x : ℕ) (chooser t : TreeState Bool) where
-  -- a message is sent where its edge is live
+  -- a message is sent if its edge is live
   pub goes_message : (e : ℕ) → item_at g x ≡ Message e → is_sent_item g (item_at g x) ≡ true → IsLiveTree g e chooser t → IsGoesTree g x chooser t
   goes_message e is sent lives s few first told =
       let message = sym (ap (is_sent_item g) is) ∙ sent in

@@ -17,7 +17,7 @@ use Rattle.cpg_expand.specs.Grown.{IsGrown}
 use Rattle.cpg_expand.specs.Large.{HasLargeFree, HasLargeTree, IsLargeBegun, IsLargeLeft, IsLargeThawed, ShowsLarge}
 use Rattle.cpg_expand.specs.Sent.{AreItemsAdded}
 
--- the same fault for another cause
+-- a fault that names an item for one cause names it for another that follows
 pub shown_as : (A B : Type 0) (wide : Option ℕ) (fault : BuildFault) → (A → B) → ShowsLarge wide A fault → ShowsLarge wide B fault
 shown_as A B wide (TooWide x) f h = (h.0, f h.1)
 shown_as A B wide OutOfMemory f h = h
@@ -32,11 +32,11 @@ pub handed_as : {T : Type 0} (A B : Type 0) (wide : Option ℕ) (result : Result
 handed_as A B wide (Ok x) told same f h = absurd same
 handed_as A B wide (Err e) told same f h = subst (ShowsLarge wide B) (sym same) (shown_as A B wide told f h)
 
--- and for the same item by another name
+-- the fault of one name for an item is that of another name for it
 pub named_as : (A : Type 0) (wide other : Option ℕ) (fault : BuildFault) → wide ≡ other → ShowsLarge wide A fault → ShowsLarge other A fault
 named_as A wide other fault e h = subst (λ o. ShowsLarge o A fault) e h
 
--- where no item is to be named no fault names one
+-- if no item is to be named, no fault names one
 pub none_named : (A : Type 0) (is_shown : ℕ → Type 0) (fault : BuildFault) → ShowsLarge None A fault → ShowsBuildFault is_shown fault
 none_named A is_shown (TooWide x) h = absurd (no_name x h.0)
   where
@@ -44,7 +44,7 @@ none_named A is_shown (TooWide x) h = absurd (no_name x h.0)
     no_name x e = cc
 none_named A is_shown OutOfMemory h = tt
 
--- the same tree by the same graph and guard
+-- a tree that is too large by one name of a graph and a guard is so by another
 pub thawed_as : (g h : Graph) → h ≡ g → (p : ℕ) (f : ForestState) (guard found : Guard) → found ≡ guard → IsLargeThawed h p f found → IsLargeThawed g p f guard
 thawed_as g h same p f guard found is large = subst (λ (k : Graph). IsLargeThawed k p f guard) same (subst (IsLargeThawed h p f) is large)
 

@@ -113,7 +113,7 @@ module _ (g : Graph) (f : ForestState) (node c : ℕ) (wanted : TreeState Bool) 
 -- ---- what the processes of a node test
 
 module _ (g : Graph) (order : List ℕ) (guards : Guards) (f : ForestState) (active : TreeState Bool) (of_active : IsTree g active) (node from to : ℕ) where
-  -- the time is a condition's where one of them tests it and the process is active
+  -- the time is a condition's if one of them tests it and the process is active
   pub heard_raised : (c : ℕ) (asked wanted : TreeState Bool) → IsTree g asked → IsTree g wanted → IsAskedTree g order guards node from to c (process_count g) asked → IsBothTree g.faults asked active wanted →
       (old new : ℕ) → IsRaised g (HasLater (heard_tree g f node c) wanted (heard_delay g node c)) old new → IsRaised g (HasHeard g order guards f active node from to c) old new
   heard_raised c asked wanted of_asked of_wanted asks both old new r = raised_as g (HasLater (heard_tree g f node c) wanted (heard_delay g node c)) (HasHeard g order guards f active node from to c) back forth old new r

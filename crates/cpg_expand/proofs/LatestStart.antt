@@ -52,7 +52,7 @@ pub record IsToldStart (g : Graph) (order : List ℕ) (guards : Guards) (f : For
   pub hears : (c : ℕ) → Contains (flat_map (deciding g s.values) (before_on_node g order p ++ p ∷ [])) c → HasEndAt g order f from p s (heard_there g t (node_of g p) c) ⊎ IsHeardAt g order guards f from p s t c
   pub heard : (c time : ℕ) → IsAskedOf g order guards (node_of g p) from (place order p + 1) c (process_count g) s.values → HasValue (heard_tree g f (node_of g p) c).paths (Some time) s →
       time_later (heard_delay g (node_of g p) c) (Some time) ≤ greatest (start_bounds g order s t p)
-  -- the inputs from other nodes have their times exactly where they are live
+  -- the inputs from other nodes have their times exactly if they are live
   pub comes : (e : ℕ) → Contains (inputs g p) e → is_message g e ≡ true → live g s.values e ≡ true → (time : ℕ) × (get_or t.times (message_item g e) None ≡ Some time) × (input_there g t e ≡ time_later (input_delay g e) (Some time))
   pub lives : (e time : ℕ) → Contains (inputs g p) e → is_message g e ≡ true → get_or t.times (message_item g e) None ≡ Some time → live g s.values e ≡ true
   pub tells : (e : ℕ) → Contains (inputs g p) e → is_message g e ≡ true → (x : Path (Option ℕ)) × IsOn (input_tree g f e).paths s x × (x.1 ≡ get_or t.times (message_item g e) None)

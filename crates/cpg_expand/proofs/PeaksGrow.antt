@@ -22,7 +22,7 @@ use Rattle.cpg_expand.proofs.TreesTold.{few_of}
 pub no_peak : (g : Graph) (urgency : List ℕ) (has : ℕ → ℕ → Scenario → Type 0) (peak : Peak) → peak ≡ record { time = 0; scenario = zero_scenario g; process = None } → IsPeak g urgency 0 has peak
 no_peak g urgency has peak is = subst (IsPeak g urgency 0 has) (sym is) (record { time = refl; scenario = refl; none = λ q time s l law h. absurd (omega arith) })
 
--- where all have been gone through
+-- if all have been gone through
 pub all_processes : (g : Graph) (urgency : List ℕ) (has : ℕ → ℕ → Scenario → Type 0) (n : ℕ) (peak : Peak) → n ≡ process_count g → IsPeak g urgency n has peak → IsPeak g urgency (process_count g) has peak
 all_processes g urgency has n peak e a = subst (λ i. IsPeak g urgency i has peak) e a
 

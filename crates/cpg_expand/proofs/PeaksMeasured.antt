@@ -39,7 +39,7 @@ past_from (Some end) due x pos e = cond-true (nat_lt due end) (Some (end - due))
 -- ---- a number of each run that is the greatest of numbers of its processes
 
 module _ (g : Graph) (order : List ℕ) (top : IsTopological g order) (frozen : List (Option ℕ)) where
-  -- the greatest where some process has one, and 0 at least
+  -- the greatest if some process has one, and 0 at least
   record IsMost (value : Times → ℕ → Option ℕ) (most : Times → ℕ) : Type 0 where
     pub above : (s : Scenario) (t : Times) → IsRun g order frozen s t → (q x : ℕ) → q < process_count g → value t q ≡ Some x → x ≤ most t
     pub either : (s : Scenario) (t : Times) → IsRun g order frozen s t → (most t ≡ 0) ⊎ ((q : ℕ) × (q < process_count g) × (value t q ≡ Some (most t)))

@@ -17,7 +17,7 @@ use Rattle.cpg_expand.proofs.TreesTold.{ready_always}
 none_tells : {T : Type 0} (k : ℕ) (s : Scenario) (literals : List Literal) (fact : T → Type 0) → Agrees s literals fact (no_tree k)
 none_tells k s literals fact = record { value = λ x on. absurd (Contains-nil x on.stands); says = λ x on. absurd (Contains-nil x on.stands) }
 
--- where the process is active everywhere nothing is asked of what it waited for
+-- if the process is active everywhere, nothing is asked of what it waited for
 pub ready_everywhere : (g : Graph) (f : ForestState) (node : ℕ) (guard : Guard) (active : TreeState Bool) (end : TreeState (Option ℕ)) → IsConstant true active.faults active → IsReadyOnce g f node guard active end (later_tree end)
 ready_everywhere g f node guard active end always = record {
   wait = no_tree g.faults;

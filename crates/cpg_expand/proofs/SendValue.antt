@@ -1,4 +1,4 @@
--- The time of what a process sends, where it isn't frozen, is the run's.
+-- The time of what a process sends, if it isn't frozen, is the run's.
 use Rattle.std.proofs.Common.{ℕ, ◌^◌, ◌<◌, ◌≡◌, max, Bool, true, false, if◌then◌else◌, List, length, get_or, Option, Some, None, unwrap_or, arith, lt-ltb, refl, sym, ap, ◌∙◌}
 use Rattle.std.proofs.lemmas.Bool.{cond-true, cond-false}
 use Rattle.cpg_base.specs.Graph.{Graph, process_count, item_count, item_at, node_of}

@@ -281,7 +281,7 @@ module _ (g : Graph) (limits : IsWithinLimits g) (order : List ℕ) (topological
     pub next_sent : IsSending g order p (k + 1) after new
     next_sent = record { trees = trees; unsent = unsent_then; settled = settled_then; lines = λ rows hold s law t run. send_lines rows hold s law t run }
 
-  -- and so all of them
+  -- all items that are left are sent
   rest_sent : (xs : List ℕ) (k : ℕ) → k + length xs ≡ length (queue_of g p) → ((i : ℕ) → i < length xs → get_or xs i 0 ≡ get_or (queue_of g p) (k + i) 0) → (old new : ForestState) (before after : List (Option ℕ)) →
       IsSending g order p k before old → AreItemsAdded g order chooser xs old new before after → IsSending g order p (length (queue_of g p)) after new
   rest_sent [] k count is old new before after sending none =

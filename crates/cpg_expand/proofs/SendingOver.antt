@@ -97,7 +97,7 @@ module _ (g : Graph) (order : List ℕ) (topological : IsTopological g order) (p
       least = λ b h. m.least b (λ y c. subst (λ n. n ≤ b) (sym (after_over y c)) (h y c));
     }
 
-    -- so the lines of one are those of the other
+    -- the lines of one run are those of another that agrees before the item
     pub send_lines_over : (rows : List (List Column)) (f : ForestState) → SendLines g order rows s t p k f → SendLines g order rows s u p k f
     send_lines_over rows f lines = record {
       times = λ x h done. subst (λ (o : Option ℕ). Tells s (carried g order rows s x) o (times_of g f x)) (a.items x h (done_sooner x h done)) (lines.times x h done);

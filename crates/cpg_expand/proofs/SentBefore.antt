@@ -76,13 +76,13 @@ module _ (g : Graph) (order : List ℕ) (topological : IsTopological g order) (s
     abbrev told : List ℕ → List Literal
     told = flat_map (queued g order rows s)
 
-    -- so a tree that tells what is carried from all that the node has sent tells no more than what the next item carries on
+    -- a tree that tells what is carried from all that the node has sent tells no more than what the next item carries on
     pub tells_before : (y : ℕ) (tree : TreeState ℕ) → Tells s (flat_map (queued g order rows s) (sent_so_far g order p k)) y tree → Tells s (flat_map (queued g order rows s) (queued_before g order here)) y tree
     tells_before y tree = agrees_weaker s tree (told (sent_so_far g order p k)) (told (queued_before g order here)) (λ z. z ≡ y) (λ z. z ≡ y)
         (λ m j. let r = Contains-flat_map_parts (queued g order rows s) (sent_so_far g order p k) m j in Contains-flat_map (queued g order rows s) (queued_before g order here) r.0 m (so_far_queued r.0 r.1) r.2)
         (λ z e. e)
 
-    -- and with that item, no more than all that the node has sent then
+    -- a tree that tells what the next item carries on, and that item, tells no more than all that the node has sent then
     pub tells_after : (y : ℕ) (tree : TreeState ℕ) → Tells s (flat_map (queued g order rows s) (queued_before g order here) ++ queued g order rows s here) y tree → Tells s (flat_map (queued g order rows s) (sent_so_far g order p (k + 1))) y tree
     tells_after y tree = agrees_weaker s tree (told (queued_before g order here) ++ queued g order rows s here) (told (sent_so_far g order p (k + 1))) (λ z. z ≡ y) (λ z. z ≡ y) within (λ z e. e)
       where

@@ -96,7 +96,7 @@ module _ (g : Graph) (limits : IsWithinLimits g) (order : List ℕ) (topological
       let is = activation_is g order topological s.values p (omega (arith, l)) in
       ap (awaited (inputs g p)) is ∙ awaited_is (process_at g p).join (inputs g p) (live g s.values) (λ e. joins p s.values l e long) (subst (λ (a : Activation). is_active a ≡ true) is on)
 
-  -- the start that the trees tell, where the node would be ready at a time
+  -- the start that the trees tell, if the node would be ready at a time
   pub start_exact : (w : ℕ) → start_at w (process_at g p).release (input_delay g) (input_time g limits t small) (inputs g p) (activation g s.values p)
       ≡ (if active g s.values p then Some (max (max w (process_at g p).release) (greatest (input_bounds g s t p))) else None)
   start_exact w = go (active g s.values p) refl

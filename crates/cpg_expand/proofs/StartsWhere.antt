@@ -50,7 +50,7 @@ module _ (g : Graph) (release delay d : ℕ) (same_delay : delay ≡ d) (times r
   abbrev start_of : ℕ → Option ℕ
   start_of n = Some (max n release)
 
-  -- and of another tree
+  -- what is told of a tree that is read of a forest and of another tree
   pub read_where : (wait : TreeState ℕ) (t : TreeState (Option ℕ)) → IsTree g wait → IsJoinWhere (λ x y z. z ≡ Some (max (max x (time_later delay y)) release)) None chooser wait times t →
       IsReleasedWhere g.faults chooser wait (later_by d read) release t
   read_where wait t of_wait made = record {
@@ -59,7 +59,7 @@ module _ (g : Graph) (release delay d : ℕ) (same_delay : delay ≡ d) (times r
     off = λ s few told off. made_elsewhere g (λ n. n) (time_later delay) start_of None chooser wait times t of_chooser of_wait of_times made s few told off;
   }
 
-  -- and of ends
+  -- what is told of a tree that is read of a forest and of ends
   pub ends_where : (end read_end t : TreeState (Option ℕ)) → end ≡ read_end → IsTree g end → IsJoinWhere (λ x y z. z ≡ Some (max (max (time_later delay x) (time_later 0 y)) release)) None chooser times end t →
       IsReleasedWhere g.faults chooser (later_tree read_end) (later_by d read) release t
   ends_where end read_end t is_end of_end made = record {
@@ -114,7 +114,7 @@ module _ (g : Graph) (f : ForestState) (chooser : TreeState Bool) (wait : TreeSt
 
 -- ---- down a guard
 
--- so is the activation of an outcome
+-- the activation of an outcome waits for all inputs, if each leaf's does
 outcome_waits : (guard : Guard) (o : List Bool) → AreLeaves WaitsForAll guard → WaitsForAll (outcome_at guard o)
 outcome_waits (Leaf a) o all = all
 outcome_waits (Test c off on) o all = by (get_or o c false) (outcome_waits off o all.0) (outcome_waits on o all.1)

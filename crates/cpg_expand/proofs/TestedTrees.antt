@@ -13,7 +13,7 @@ use Rattle.cpg_expand.proofs.AgreeingTrees.{agrees_constant, agrees_weaker}
 pub tested_leaf : (k : ℕ) (a : Activation) (c : ℕ) (t : TreeState Bool) → IsConstant false k t → IsTestedOn k (Leaf a) c t
 tested_leaf k a c t is s few = agrees_constant s false k t (λ y. y ≡ false) refl is
 
--- where the first test is of the condition, everywhere
+-- if the first test is of the condition, everywhere
 pub tested_first : (k c : ℕ) (off on : Guard) (wanted : ℕ) (t : TreeState Bool) → c ≡ wanted → IsConstant true k t → IsTestedOn k (Test c off on) wanted t
 tested_first k c off on wanted t same always s few =
     agrees_weaker s t [] (values_known s (way (Test c off on) s.values)) (λ y. y ≡ is_tested (Test c off on) s.values wanted) (λ y. y ≡ is_tested (Test c off on) s.values wanted) (λ l j. absurd (Contains-nil l j)) (λ y e. e)
@@ -22,7 +22,7 @@ tested_first k c off on wanted t same always s few =
     found : list_any (λ d. d == wanted) (way (Test c off on) s.values) ≡ true
     found = ap (λ (b : Bool). b || list_any (λ d. d == wanted) (if get_or s.values c false then way on s.values else way off s.values)) (eq-eqb c wanted same)
 
--- where it is of another one, as further down
+-- if it is of another one, as further down
 pub tested_further : (k c : ℕ) (off on : Guard) (wanted : ℕ) (f y t : TreeState Bool) → (c ≡ wanted → ⊥) → IsTestedOn k off wanted f → IsTestedOn k on wanted y → PicksByValue k c y f t → IsTestedOn k (Test c off on) wanted t
 tested_further k c off on wanted f y t other of_off of_on picks s few = go (get_or s.values c false) refl
   where

@@ -102,7 +102,7 @@ module _ (g : Graph) (few : process_count g ≤ 128) (urgency : List ℕ) (all :
         | inr none ↦ absurd (Contains-nil c none)
       ]
 
-  -- and a path with a time gives a column
+  -- a path with a time gives a column
   pub column_there : (x : Path (Option ℕ)) (time : ℕ) → Contains t.paths x → x.1 ≡ Some time → Contains columns (record { time = time; cube = x.0 })
   column_there x time j e =
       let column : Column = record { time = time; cube = x.0 } in

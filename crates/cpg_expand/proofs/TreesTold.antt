@@ -138,7 +138,7 @@ module _ {V : Type 0} (g : Graph) (makes : ℕ → V) (delay d : ℕ) (same_dela
   pub as_read : (s : Scenario) (ls : List Literal) (n : ℕ) → Tells s ls n (later_by d read) → Agrees s ls (λ v. time_later delay v ≡ n) times
   as_read s ls n h = from_times delay s times ls n (subst (λ (m : ℕ). Tells s ls n (later_by m times)) (sym same_delay) (subst (λ (u : TreeState (Option ℕ)). Tells s ls n (later_by d u)) (sym is) h))
 
-  -- and of another tree
+  -- what is told of a tree that is read of a forest and of another tree
   pub told_and_read : (other : TreeState ℕ) (t : TreeState V) → IsTree g other → IsJoin (λ x y z. z ≡ makes (max x (time_later delay y))) other times t →
       (s : Scenario) → HasFew g.faults s → (first second : List Literal) (x y : ℕ) → Tells s first x other → Tells s second y (later_by d read) → Tells s (first ++ second) (makes (max x y)) t
   told_and_read other t of_other made s few first second x y tells there =
@@ -149,7 +149,7 @@ module _ {V : Type 0} (g : Graph) (makes : ℕ → V) (delay d : ℕ) (same_dela
   read_and_told other t of_other made s few first second x y there tells =
       made_told g (time_later delay) (λ n. n) makes times other t of_times of_other made s few first second x y (as_read s first x there) tells
 
-  -- and of ends
+  -- what is told of a tree that is read of a forest and of ends
   pub ends_and_read : (end read_end : TreeState (Option ℕ)) (t : TreeState V) → end ≡ read_end → IsTree g end → IsJoin (λ x y z. z ≡ makes (max (time_later delay x) (time_later 0 y))) times end t →
       (s : Scenario) → HasFew g.faults s → (first second : List Literal) (x y : ℕ) → Tells s first x (later_tree read_end) → Tells s second y (later_by d read) → Tells s (first ++ second) (makes (max x y)) t
   ends_and_read end read_end t is_end of_end made s few first second x y tells there =
@@ -411,7 +411,7 @@ ready_always g active end wait always s few b first second x w v of_b ends waits
     let both = ends (always_true active always s b first of_b) in
     agrees_weaker s (later_tree end) second (first ++ second) (λ z. z ≡ time_later 0 x) (λ z. z ≡ v) (λ l j. Contains-append_right first second l j) (λ z e. e ∙ sym both.1) (to_ends s end second x both.0)
 
--- where the node was ready after ends
+-- if the node was ready after ends
 pub ready_after : (k : ℕ) (active : TreeState Bool) (end : TreeState (Option ℕ)) (tree before t : TreeState ℕ) → IsNoMore k tree before → IsReadyTree k active end before t → IsReadyTree k active end tree t
 ready_after k active end tree before t none readies s few b first second x w v of_b ends waits = readies s few b first second x w v of_b ends (λ e. let r = waits e in (none s few second w r.0, r.1))
 
@@ -419,7 +419,7 @@ pub wait_told : (g : Graph) (f : ForestState) (node : ℕ) (guard : Guard) (hear
 wait_told g f node guard heard t hears latest s few base x tells tell time told =
     latest s few base (told_of s tell (way guard s.values)) x (latest_of (heard_delay g node) time (way guard s.values)) tells (hears s few tell time told)
 
--- where nothing is tested
+-- if nothing is tested
 pub wait_leaf : (g : Graph) (f : ForestState) (node : ℕ) (a : Activation) → IsWaitTree g f node (Leaf a) (ready_of g f node)
 wait_leaf g f node a s few base x tells tell time told =
     agrees_weaker s (ready_of g f node) base (base ++ []) (λ y. y ≡ x) (λ y. y ≡ max x 0) (λ l j. Contains-append_left base [] l j) (λ y e. omega (arith, e)) tells

@@ -24,7 +24,7 @@ module _ (g : Graph) (order : List ℕ) (topological : IsTopological g order) (s
   before_in q k less same = Contains-filter (λ (u : ℕ). node_of g u == node_of g p) (before order p) q (eq-eqb _ _ same)
       (Contains-before order q p (Contains-order (process_count g) order topological.all q k) less)
 
-  -- and what is before it on its node stands before it
+  -- a process that is before another on its node stands before it in the order
   pub before_parts : (q : ℕ) → Contains (before_on_node g order p) q → (q < process_count g) × (place order q < place order p) × (node_of g q ≡ node_of g p)
   before_parts q c =
       let o = on_node_before g order p q c in

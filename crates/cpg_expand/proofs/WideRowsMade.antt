@@ -103,7 +103,7 @@ wide_shown (Some item) OutOfMemory g urgency times rows row n load l made new fe
 -- ---- tables of rows
 
 module _ (g : Graph) (urgency order : List ℕ) (frozen : List (Option ℕ)) (rows : List Row) (limits : IsWithinLimits g) (admitted : Admitted g urgency order) (found : AreRowsFound g urgency order frozen rows) where
-  -- where nothing is too wide they fit
+  -- if nothing is too wide, they fit
   pub rows_fit : (wide : Option ℕ) → IsWidth g order wide → IfSome wide (λ item. DoRowsFit g rows) → DoRowsFit g rows
   rows_fit None narrow few = found_rows_fit g urgency order frozen rows limits admitted found (none_too_wide g order narrow)
   rows_fit (Some item) least few = few
@@ -129,7 +129,7 @@ pub named_least : (A : Type 0) (g : Graph) (order : List ℕ) (wide : Option ℕ
 named_least A g order wide (TooWide x) is h = (subst (IsWidth g order) h.0 is, h.1)
 named_least A g order wide OutOfMemory is h = tt
 
--- where none is nothing is named
+-- if none is, nothing is named
 pub narrow_unnamed : (A : Type 0) (g : Graph) (order : List ℕ) (fault : BuildFault) (x : ℕ) → IsNarrow g order → fault ≡ TooWide x → ShowsBuildFault (λ y. IsLeastWide g order y × A) fault → ⊥
 narrow_unnamed A g order fault x narrow is h =
     let shown : IsLeastWide g order x × A = subst (ShowsBuildFault (λ y. IsLeastWide g order y × A)) is h in

@@ -11,7 +11,7 @@ pub record Agrees {T : Type 0} (s : Scenario) (literals : List Literal) (fact : 
   pub value : (x : Path T) → IsOn t.paths s x → fact x.1
   pub says : (x : Path T) → IsOn t.paths s x → ContainsKept t.faults x.0 literals
 
--- their value there is this one
+-- the tree's value in a scenario is this one, and its path says no more than literals
 abbrev pub Tells : {T : Type 0} → Scenario → List Literal → T → TreeState T → Type 0
 Tells s literals x t = Agrees s literals (λ y. y ≡ x) t
 

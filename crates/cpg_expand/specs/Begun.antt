@@ -16,7 +16,7 @@ use Rattle.cpg_expand.specs.Waited.{IsReadyIfWaited}
 use Rattle.cpg_expand.specs.Waiting.{IsWaitTree}
 use Rattle.cpg_expand.specs.declared.forest.Ready.{Ready}
 
--- where it is active, its start and its end, and when its node goes on after it, if a later process waits for that; the start comes
+-- if it is active, its start and its end, and when its node goes on after it, if a later process waits for that; the start comes
 -- about somehow, by where it is active
 pub record IsBegunBy (how : TreeState Bool → TreeState (Option ℕ) → Type 0) (g : Graph) (order : List ℕ) (p : ℕ) (guard : Guard)
     (old new : ForestState) (chooser : TreeState Bool) : Type 0 where

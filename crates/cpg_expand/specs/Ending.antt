@@ -23,7 +23,7 @@ abbrev pub IsEndTree : Graph → ℕ → TreeState (Option ℕ) → TreeState (O
 IsEndTree g p start t = (s : Scenario) → HasFew g.faults s → (literals : List Literal) (x : Option ℕ) → Tells s literals x start →
     Tells s (literals ++ number_known s p ∷ []) (ended (durations_of g p) (number_of s p) x) t
 
--- the end where a process is active, and else the time for which it would have waited
+-- the end if a process is active, and else the time for which it would have waited
 abbrev pub IsReadyTree : ℕ → TreeState Bool → TreeState (Option ℕ) → TreeState ℕ → TreeState ℕ → Type 0
 IsReadyTree k active end wait t = (s : Scenario) → HasFew k s → (b : Bool) (first second : List Literal) (x : Option ℕ) (w v : ℕ) → Tells s first b active →
     (b ≡ true → Tells s second x end × (v ≡ time_later 0 x)) → (b ≡ false → Tells s second w wait × (v ≡ w)) → Tells s (first ++ second) v t

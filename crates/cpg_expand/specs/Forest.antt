@@ -8,8 +8,8 @@ use Rattle.cpg_expand.specs.Agreeing.{IsTree}
 use Rattle.cpg_expand.specs.declared.forest.Ready.{Ready}
 use Rattle.cpg_expand.specs.declared.forest.Ready.TheVariants.{After, At}
 
--- of the times of each item, of the ends of each process, and by node from when on it is ready and its slots are free; and the item to
--- name where one on the way has too many leaves
+-- the trees of the times of each item, of the ends of each process, and by node from when on it is ready and its
+-- slots are free; and the item to name if one on the way has too many leaves
 pub record ForestState : Type 0 where
   pub times : List (TreeState (Option ℕ))
   pub ends : List (TreeState (Option ℕ))
@@ -47,7 +47,7 @@ times_of g f x = get_or f.times x (no_tree g.faults)
 abbrev pub ends_of : Graph → ForestState → ℕ → TreeState (Option ℕ)
 ends_of g f p = get_or f.ends p (no_tree g.faults)
 
--- the times of a tree, 0 where there are none
+-- the times of a tree, 0 if there are none
 abbrev pub later_tree : TreeState (Option ℕ) → TreeState ℕ
 later_tree t = later_by 0 t
 

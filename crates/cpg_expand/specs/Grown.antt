@@ -41,7 +41,7 @@ pub record IsFreeLine (g : Graph) (order : List ℕ) (rows : List (List Column))
   pub tells : Tells s (flat_map (queued g order rows s) (sent_before g order i node)) time tree
 
 -- in one scenario with its run the trees tell the times and ends before the place i, and when nodes are ready there and slots are free,
--- where that is waited for
+-- if that is waited for
 pub record Lines (g : Graph) (order : List ℕ) (rows : List (List Column)) (s : Scenario) (t : Times) (i : ℕ) (f : ForestState) : Type 0 where
   pub times : (x : ℕ) → x < item_count g → place order (producer g x) < i → Tells s (carried g order rows s x) (get_or t.times x None) (times_of g f x)
   pub ends : (q : ℕ) → q < process_count g → place order q < i → Tells s (carried_at_end g order rows s q) (get_or t.ends q None) (ends_of g f q)
@@ -56,7 +56,7 @@ IsEarlier g order i x = place order (producer g x) < i
 abbrev pub IsDone : Graph → List ℕ → ℕ → ℕ → ℕ → Type 0
 IsDone g order p k x = IsEarlier g order (place order p) x ⊎ ((x ≡ p) ⊎ Contains (take k (queue_of g p)) x)
 
--- and they tell the start and the end of a process and the times of the first k items that it sends
+-- the trees tell of all processes before one, of its start and its end, and of the first k items that it sends
 pub record SendLines (g : Graph) (order : List ℕ) (rows : List (List Column)) (s : Scenario) (t : Times) (p k : ℕ) (f : ForestState) : Type 0 where
   pub times : (x : ℕ) → x < item_count g → IsDone g order p k x → Tells s (carried g order rows s x) (get_or t.times x None) (times_of g f x)
   pub ends : (q : ℕ) → q < process_count g → place order q < place order p + 1 →
@@ -86,7 +86,7 @@ pub record IsGrown (g : Graph) (order : List ℕ) (i : ℕ) (frozen : List (Opti
   pub lines : (rows : List (List Column)) → RowsHold g order i f rows → (s : Scenario) → IsScenario g s → (t : Times) →
       IsRun g order frozen s t → Lines g order rows s t i f
 
--- and a process has begun and sent the first k of its items
+-- the trees are grown up to a process that has begun and sent the first k of its items
 pub record IsSending (g : Graph) (order : List ℕ) (p k : ℕ) (frozen : List (Option ℕ)) (f : ForestState) : Type 0 where
   pub trees : HasTrees g f
   pub unsent : LeavesUnsent g f

@@ -59,7 +59,7 @@ IsHeardTree g f node guard t = (s : Scenario) → HasFew g.faults s → (tell : 
 abbrev pub AreThere : Graph → (ℕ → Option ℕ) → ℕ → List ℕ → Type 0
 AreThere g time ready edges = (e : ℕ) → Contains edges e → is_message g e ≡ false → time_later 0 (time e) ≤ ready
 
--- the starts of a scenario after a release and after these inputs are there too, where something is told first
+-- the starts of a scenario after a release and after these inputs are there, too, if something is told first
 abbrev pub StartsAfter : Graph → ForestState → Scenario → List Literal → TreeState ℕ → ℕ → List ℕ → TreeState (Option ℕ) → Type 0
 StartsAfter g f s first wait release edges t = (base : List Literal) (x : ℕ) → Tells s base x wait → (tell : ℕ → List Literal) (time : ℕ → Option ℕ) →
     AreThere g time x edges → ((e : ℕ) → Contains edges e → Tells s (tell e) (time e) (input_tree g f e)) →
@@ -68,7 +68,7 @@ StartsAfter g f s first wait release edges t = (base : List Literal) (x : ℕ) �
 abbrev pub IsStartAfter : Graph → ForestState → TreeState ℕ → ℕ → List ℕ → TreeState (Option ℕ) → Type 0
 IsStartAfter g f wait release edges t = (s : Scenario) → HasFew g.faults s → StartsAfter g f s [] wait release edges t
 
--- the same where a chooser is true, and no starts elsewhere
+-- the starts after a release and after these inputs are there, if a chooser is true, and no starts if it is false
 pub record IsStartWhere (g : Graph) (f : ForestState) (chooser : TreeState Bool) (wait : TreeState ℕ) (release : ℕ) (edges : List ℕ)
     (t : TreeState (Option ℕ)) : Type 0 where
   pub on : (s : Scenario) → HasFew g.faults s → (told : List Literal) → Tells s told true chooser → StartsAfter g f s told wait release edges t
@@ -113,7 +113,7 @@ IsByBelow n Inactive = Unit {0}
 IsByBelow n Plain = Unit {0}
 IsByBelow n (By e) = e < n
 
--- so is each leaf's
+-- each leaf's activation is by an input below a number, if by one
 abbrev pub LeadsBelow : ℕ → Guard → Type 0
 LeadsBelow n (Leaf a) = IsByBelow n a
 LeadsBelow n (Test c off on) = LeadsBelow n off × LeadsBelow n on

@@ -30,33 +30,33 @@ ShowsLarge wide why fault = ShowsBuildFault (λ x. (wide ≡ Some x) × why) fau
 
 -- ---- on the way to a start
 
--- down a guard: for an activation that it leads to, or of a part of it
+-- a tree has too many leaves down a guard: for an activation that it leads to, or of a part of it
 abbrev pub IsLargeDown : {T : Type 0} → (Activation → Type 0) → (Guard → TreeState T → Type 0) → Guard → Type 0
 IsLargeDown large told (Leaf a) = large a
 IsLargeDown {T} large told (Test c off on) =
     IsLargeDown large told off ⊎ (IsLargeDown large told on ⊎ ((t : TreeState T) × told (Test c off on) t × IsLarge t))
 
--- of when a node has heard what a part of a guard tests
+-- a tree has too many leaves that tells when a node has heard what a part of a guard tests
 abbrev pub IsLargeHeard : Graph → ForestState → ℕ → Guard → Type 0
 IsLargeHeard g f node guard = IsLargeDown (λ a. ⊥) (IsHeardTree g f node) guard
 
--- of when a node is ready, or has heard that, or both
+-- a tree has too many leaves that tells when a node is ready, or has heard what a guard tests, or both
 abbrev pub IsLargeWait : Graph → ForestState → ℕ → Guard → Type 0
 IsLargeWait g f node guard =
     IsLarge (ready_of g f node) ⊎ (IsLargeHeard g f node guard ⊎ ((wait : TreeState ℕ) × IsWaitTree g f node guard wait × IsLarge wait))
 
--- of when that is so and the first of these inputs are there, taken one by one
+-- a tree has too many leaves that tells when the wait is over and the first of these inputs are there, taken one by one
 abbrev pub IsLargeWith : Graph → ForestState → TreeState ℕ → List ℕ → Type 0
 IsLargeWith g f wait [] = ⊥
 IsLargeWith g f wait (e ∷ es) = ((is_message g e ≡ false) × IsLargeWith g f wait es)
     ⊎ ((both : TreeState ℕ) × IsLatest g.faults wait (later_by (input_delay g e) (input_tree g f e)) both × (IsLarge both ⊎ IsLargeWith g f both es))
 
--- of the starts with a guard, or with a part of it
+-- a tree has too many leaves that tells the starts with a guard, or with a part of it
 abbrev pub IsLargeStart : Graph → ForestState → TreeState ℕ → ℕ → List ℕ → Guard → Type 0
 IsLargeStart g f wait release inputs guard = (AreLeaves WaitsForAll guard × IsLargeWith g f wait inputs)
     ⊎ IsLargeDown (λ a. IsLargeWith g f wait (awaited inputs a)) (IsStartTree g f wait release inputs) guard
 
--- of the starts of a process, or of their ends
+-- the tree of a process's starts, or that of their ends, has too many leaves
 abbrev pub IsLargeEnd : Graph → ℕ → TreeState (Option ℕ) → Type 0
 IsLargeEnd g p start = IsLarge start ⊎ ((end : TreeState (Option ℕ)) × IsEndTree g p start end × IsLarge end)
 
@@ -64,7 +64,7 @@ abbrev pub IsLargeOf : Graph → ℕ → ForestState → Guard → TreeState ℕ
 IsLargeOf g p f guard wait =
     (start : TreeState (Option ℕ)) × IsStartTree g f wait (process_at g p).release (inputs g p) guard start × IsLargeEnd g p start
 
--- of what a process waits for, of that with its inputs, of its starts or of its ends
+-- a tree has too many leaves after what a process waits for: that with its inputs, or that of its starts or its ends
 pub record IsLargeAfter (g : Graph) (p : ℕ) (f : ForestState) (guard : Guard) : Type 0 where
   pub wait : TreeState ℕ
   pub waits : IsWaitTree g f (node_of g p) guard wait
@@ -73,39 +73,40 @@ pub record IsLargeAfter (g : Graph) (p : ℕ) (f : ForestState) (guard : Guard) 
 abbrev pub IsLargeThawed : Graph → ℕ → ForestState → Guard → Type 0
 IsLargeThawed g p f guard = IsLargeWait g f (node_of g p) guard ⊎ IsLargeAfter g p f guard
 
--- of what a frozen process would wait for, where a later process of its node does
+-- a tree of what a frozen process would wait for has too many leaves, and a later process of its node waits
 abbrev pub IsLargeFrozen : Graph → List ℕ → ℕ → ForestState → Guard → Type 0
 IsLargeFrozen g order p f guard = IsWaitedFor g order (place order p + 1) (node_of g p) × IsLargeWait g f (node_of g p) guard
 
--- of what a process begins with
+-- a tree has too many leaves on the way to the start and the end of a process
 abbrev pub IsLargeBegun : Graph → List ℕ → Guards → ℕ → ForestState → Type 0
 IsLargeBegun g order guards p f =
     ((is_frozen g p ≡ false) × IsLargeThawed g p f (tree_of guards p)) ⊎ ((is_frozen g p ≡ true) × IsLargeFrozen g order p f (tree_of guards p))
 
--- of what it has sent
+-- the tree of an item that a process sends has too many leaves
 pub record HasLargeSend (g : Graph) (p : ℕ) (f : ForestState) : Type 0 where
   pub item : ℕ
   pub sent : Contains (queue_of g p) item
   pub large : IsLarge (times_of g f item)
 
--- of when the slots of a node are free, where an item of a process at the place i or later waits for that
+-- the tree of when the slots of a node are free has too many leaves, and an item of a process at the place i or later
+-- waits for that
 abbrev pub HasLargeFree : Graph → List ℕ → ℕ → ℕ → ForestState → Type 0
 HasLargeFree g order i node f = IsQueuedFor g order i node × IsLarge (free_of g f node)
 
--- of either, once a process has sent
+-- once a process has sent, the tree of an item that it sends, or that of when its node's slots are free, has too many leaves
 abbrev pub IsLargeLeft : Graph → List ℕ → ℕ → ForestState → Type 0
 IsLargeLeft g order p f = HasLargeSend g p f ⊎ HasLargeFree g order (place order p + 1) (node_of g p) f
 
 -- ---- along an order
 
--- where trees are grown up to the place i: of the times of an item of an earlier process, of when the slots of a node are free, or of
--- what the process there begins with
+-- a tree has too many leaves when the trees are grown up to the place i: that of the times of an item of an earlier
+-- process, that of when the slots of a node are free, or one on the way to the start and the end of the process there
 abbrev pub IsLargeAt : Graph → List ℕ → Guards → ℕ → ForestState → Type 0
 IsLargeAt g order guards i f = ((x : ℕ) × (x < item_count g) × IsEarlier g order i x × IsLarge (times_of g f x))
     ⊎ (((node : ℕ) × (node < length g.nodes) × HasLargeFree g order i node f)
     ⊎ ((p : ℕ) × (p < process_count g) × (place order p ≡ i) × IsLargeBegun g order guards p f))
 
--- somewhere along the order
+-- a tree has too many leaves somewhere along the order
 pub record HasLargeTree (g : Graph) (urgency order : List ℕ) : Type 0 where
   pub guards : Guards
   pub are : AreGuardsOf g urgency guards

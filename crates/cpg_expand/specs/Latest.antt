@@ -67,7 +67,7 @@ pub record HasInputOf (g : Graph) (f : ForestState) (active : TreeState Bool) (e
   pub of : Contains edges edge
   pub there : HasInput g f active edge n s
 
--- no less than before, no scenario has a greater one, and some scenario has it where it is greater than before
+-- no less than before, no scenario has a greater one, and some scenario has it if it is greater than before
 pub record IsRaised (g : Graph) (has : ℕ → Scenario → Type 0) (old new : ℕ) : Type 0 where
   pub from : old ≤ new
   pub above : (n : ℕ) (s : Scenario) → IsScenario g s → has n s → n ≤ new
@@ -85,7 +85,7 @@ pub record IsLatestAt (g : Graph) (order : List ℕ) (guards : Guards) (f : Fore
   pub hears : IsRaised g (HasHeardOf g order guards f active node from (i + 1) (condition_count g)) ended heard
   pub raised : IsRaised g (HasInputOf g f active edges) heard latest
 
--- none where the process is never active
+-- the greatest time at which all that a process waits for is there, and none if it is never active
 abbrev pub IsLatestOf : Graph → List ℕ → Guards → ForestState → ℕ → ℕ → ℕ → TreeState (Option ℕ) → List ℕ → TreeState Bool → Option ℕ → Type 0
 IsLatestOf g order guards f node from i ready edges active None = IsTop g (HasWhere ready active) None
 IsLatestOf g order guards f node from i ready edges active (Some latest) = IsLatestAt g order guards f node from i ready edges active latest

@@ -20,7 +20,7 @@ pub record AreMergedOf (g : Graph) (urgency : List ℕ) (t : TreeState (Option �
   pub are : AreListedOf g t columns
   pub merge : IsMergeOf g urgency columns entries
 
--- the row of an item, merged where it is a start
+-- the row of an item, merged if it is a start
 pub record IsRowOf (g : Graph) (urgency : List ℕ) (t : TreeState (Option ℕ)) (x : ℕ) (row : Row) : Type 0 where
   pub item : row.item ≡ x
   pub start : x < process_count g → AreMergedOf g urgency t row.columns
@@ -31,6 +31,6 @@ pub record AreFirstRows (g : Graph) (urgency : List ℕ) (times : List (TreeStat
   pub count : length rows ≡ n
   pub each : (x : ℕ) (row : Row) → x < n → IsRowOf g urgency (get_or times x (no_tree g.faults)) x (get_or rows x row)
 
--- those of all items
+-- by number the rows of all items, each by its tree
 abbrev pub AreRowsOf : Graph → List ℕ → List (TreeState (Option ℕ)) → List Row → Type 0
 AreRowsOf g urgency times rows = AreFirstRows g urgency times (item_count g) rows

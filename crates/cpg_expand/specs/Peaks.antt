@@ -55,7 +55,7 @@ abbrev pub IsPeakBy : Graph → List ℕ → ℕ → (ℕ → ℕ → Scenario �
 IsPeakBy g urgency n has peak None = IsNoPeak g n has peak
 IsPeakBy g urgency n has peak (Some p) = IsPeakOf g urgency n has peak p
 
--- of the first n processes
+-- the peak of the first n processes, if one of them has a time
 abbrev pub IsPeak : Graph → List ℕ → ℕ → (ℕ → ℕ → Scenario → Type 0) → Peak → Type 0
 IsPeak g urgency n has peak = IsPeakBy g urgency n has peak peak.process
 
@@ -77,7 +77,7 @@ pub record IsSamePeak (paths : List (Path (Option ℕ))) (old new : Peak) : Type
   pub none : All (λ p. p.1 ≡ None) paths
   pub same : new ≡ old
 
--- the greatest time, where it goes before the peak
+-- the greatest time, if it goes before the peak
 pub record IsLaterPeak (g : Graph) (urgency : List ℕ) (paths : List (Path (Option ℕ))) (p : ℕ) (old new : Peak) : Type 0 where
   pub time : ℕ
   pub scenario : Scenario

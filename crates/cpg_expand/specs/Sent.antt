@@ -42,7 +42,8 @@ pub record IsFrozenSend (g : Graph) (order : List ℕ) (goes : TreeState Bool) (
   pub top : IsLatestSend g order f (share_of g (home g x)) goes (ends_of g f (producer g x)) x latest
   pub frozen : IsFrozenBy x latest goes before after sent
 
--- or by its producer's end and when its slots are free in each scenario
+-- the times of an item that is sent: those of a frozen one, or those by its producer's end and when the slots are
+-- free in each scenario
 abbrev pub IsSentFor : Graph → List ℕ → TreeState Bool → ℕ → ForestState → List (Option ℕ) → List (Option ℕ) → TreeState (Option ℕ) → Type 0
 IsSentFor g order goes x f before after sent =
     ((is_frozen g x ≡ false) × (after ≡ before) × IsSentTree g.faults (share_of g (home g x)) goes (ends_of g f (producer g x)) (free_of g f (home g x)) sent)

@@ -10,7 +10,7 @@ use Rattle.cpg_run.specs.Carried.{told_by, carried_at_end}
 use Rattle.cpg_expand.specs.Agreeing.{Tells}
 use Rattle.cpg_expand.specs.Forest.{ForestState, times_of, ends_of}
 
--- of the active processes before the place i, and of what they send
+-- the trees tell the ends of the active processes before the place i, and the times of what they send
 pub record HasTold (g : Graph) (order : List ℕ) (rows : List (List Column)) (s : Scenario) (t : Times) (i : ℕ) (f : ForestState) : Type 0 where
   pub ends : (q : ℕ) → q < process_count g → place order q < i → active g s.values q ≡ true →
       Tells s (carried_at_end g order rows s q) (get_or t.ends q None) (ends_of g f q)

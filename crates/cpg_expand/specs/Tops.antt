@@ -10,12 +10,12 @@ use Rattle.cpg_expand.specs.Values.{time_past}
 
 -- ---- of trees
 
--- the greatest number of a tree, where it has one
+-- the greatest number of a tree, if it has one
 abbrev pub IsTopOf : TreeState (Option ℕ) → Option ℕ → Type 0
 IsTopOf t None = All (λ p. p.1 ≡ None) t.paths
 IsTopOf t (Some most) = IsMost t most
 
--- of each of the first n trees
+-- the greatest number of each of the first n trees
 pub record AreTops (trees : List (TreeState (Option ℕ))) (n : ℕ) (tops : List (Option ℕ)) : Type 0 where
   pub count : length tops ≡ n
   pub each : (q : ℕ) (d : TreeState (Option ℕ)) → q < n → IsTopOf (get_or trees q d) (get_or tops q None)
@@ -46,7 +46,7 @@ abbrev pub IsTop : Graph → (ℕ → Scenario → Type 0) → Option ℕ → Ty
 IsTop g has None = (time : ℕ) (s : Scenario) → IsScenario g s → has time s → ⊥
 IsTop g has (Some top) = IsTopAt g has top
 
--- of each of the first n processes
+-- for each of the first n processes the greatest time that it has in any scenario, if it has one
 abbrev pub HasTops : Graph → ℕ → (ℕ → ℕ → Scenario → Type 0) → List (Option ℕ) → Type 0
 HasTops g n has tops = (q : ℕ) → q < n → IsTop g (has q) (get_or tops q None)
 

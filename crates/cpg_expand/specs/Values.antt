@@ -3,7 +3,7 @@ use Rattle.std.specs.Prelude.{ℕ, ◌+◌, ◌-◌, ◌^◌, min, max, nat_lt, 
 use Rattle.cpg_bus.specs.Share.{ShareState, next_of}
 pub use Rattle.cpg_tree.specs.Later.{time_later}
 
--- the time, where it is so
+-- the time, if it is so
 abbrev pub time_if : ℕ → Bool → Option ℕ
 time_if time is = if is then Some time else None
 
@@ -17,17 +17,17 @@ abbrev pub slot_from : ShareState → ℕ → Option ℕ → Option ℕ
 slot_from share free None = None
 slot_from share free (Some time) = if nat_lt time (2 ^ 59) then Some (max (next_of share time) free) else None
 
--- in two steps: the first slot at the time or later, and 0 where none is asked for
+-- in two steps: the first slot at the time or later, and 0 if none is asked for
 abbrev pub slot_at : ShareState → Option ℕ → ℕ
 slot_at share None = 0
 slot_at share (Some time) = if nat_lt time (2 ^ 59) then next_of share time else 0
 
--- and the slot where one is asked for
+-- the slot, if a time is asked for that is less than 2 ^ 59
 abbrev pub slot_if : ℕ → Option ℕ → Option ℕ
 slot_if slot None = None
 slot_if slot (Some time) = if nat_lt time (2 ^ 59) then Some slot else None
 
--- how far a time is past its due, where it is
+-- how far a time is past its due, if it is
 abbrev pub time_past : ℕ → Option ℕ → Option ℕ
 time_past due None = None
 time_past due (Some time) = if nat_lt due time then Some (time - due) else None

@@ -116,7 +116,7 @@ fn begin_thawed(
     Ok(active)
 }
 
-/// When the node of a frozen process goes on after it. Made only where a process waits for that: a tree of all that its guard
+/// When the node of a frozen process goes on after it. Made only if a process waits for that: a tree of all that its guard
 /// tests may be far wider than its row.
 fn ready_after(
     alloc: Global,

@@ -34,7 +34,7 @@ pub(crate) trait Descent<T> {
 
     ghost large: { Self → Activation → Type 0 };
 
-    /// The item to name where a tree has too many leaves.
+    /// The item to name if a tree has too many leaves.
     fn wide(&self) -> Option<u32>
         ensures { result ≡ wide self.now };
 

@@ -46,7 +46,7 @@ pub(crate) fn end(
     Ok(end)
 }
 
-/// The ends of a process, and where it is inactive the times from which on the node would have been ready for it. The contract
+/// The ends of a process and, if it is inactive, the times from which on the node would have been ready for it. The contract
 /// alone names `problem`.
 fn end_or(
     problem: &Problem,
@@ -92,7 +92,7 @@ fn ready_at(
     }
 }
 
-/// When the node of a process goes on: after its end, or where it is inactive once the node would have been ready for it.
+/// When the node of a process goes on: after its end, or, if it is inactive, once the node would have been ready for it.
 pub(crate) fn ready(
     problem: &Problem,
     forest: &Forest,

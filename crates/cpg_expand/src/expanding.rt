@@ -27,7 +27,7 @@ use std::alloc::Global;
 pub struct Grown {
     /// The order.
     pub order: Order,
-    /// The least item that is too wide under it by its views, where there is one.
+    /// The least item that is too wide under it by its views, if there is one.
     pub wide: Option<u32>,
     pub(crate) trees: GrownForest,
     /// The greatest finish of all runs, in time units, with its first scenario by the urgency order.
@@ -64,7 +64,7 @@ fn measured(
     })
 }
 
-/// The trees under an order, and how good it is. Where there is an item that is too wide, `TooWide` names it where a tree on the
+/// The trees under an order, and how good it is. If there is an item that is too wide, `TooWide` names it if a tree on the
 /// way has too many leaves.
 fn grow_with(
     alloc: Global,
@@ -97,8 +97,8 @@ pub fn grow(alloc: Global, admitted: &Admitted, order: Order) -> Result<Grown, B
     Ok(grown)
 }
 
-/// The same, but an item isn't refused for its views. Where one has too many, the leaves of trees are counted on the way, and
-/// `TooWide` shows the least such item where a tree has more than 147,456.
+/// As `grow`, but an item isn't refused for its views. If one has too many, the leaves of trees are counted on the
+/// way, and `TooWide` shows the least such item if a tree has more than 147,456.
 pub fn grow_bounded(alloc: Global, admitted: &Admitted, order: Order) -> Result<Grown, BuildFault>
     requires topological { IsTopological admitted.now.graph order }
     ensures grown { IfOk result (IsGrownFor admitted.now.graph admitted.now.order order) }
@@ -121,8 +121,8 @@ impl Grown {
         self.excess.time < other.excess.time
     }
 
-    /// The exact tables, with the frozen times and the measures. Each tree is given back once its row is made. Where an item has
-    /// too many views, the columns of rows are counted as they are made, and `TooWide` shows the least such item where a row has
+    /// The exact tables, with the frozen times and the measures. Each tree is given back once its row is made. If an item has
+    /// too many views, the columns of rows are counted as they are made, and `TooWide` shows the least such item if a row has
     /// more than 16,384, or all rows of all tables more than 524,288.
     pub fn build_bounded(self, alloc: Global, admitted: &Admitted) -> Result<Built, BuildFault>
         requires topological { IsTopological admitted.now.graph self.order }
@@ -158,7 +158,7 @@ impl Grown {
         })
     }
 
-    /// The same, where no item has too many views.
+    /// As `build_bounded`, if no item has too many views.
     pub fn build(self, alloc: Global, admitted: &Admitted) -> Result<Built, OutOfMemory>
         requires topological { IsTopological admitted.now.graph self.order }
         requires narrow { IsNarrow admitted.now.graph self.order }

@@ -35,7 +35,7 @@ pub(crate) struct Forest {
     pub(crate) ends: Vec<Tree<Option<u64>>>,
     pub(crate) ready: Vec<Ready>,
     pub(crate) free: Vec<Tree<u64>>,
-    /// The item to name where a tree on the way has too many leaves; `None` where they aren't counted.
+    /// The item to name if a tree on the way has too many leaves; `None` if they aren't counted.
     pub(crate) wide: Option<u32>,
 }
 
@@ -47,7 +47,7 @@ impl Model for Forest {
     ghost view = { λ f. record { times = f.times.items; ends = f.ends.items; ready = f.ready.items; free = f.free.items; wide = f.wide } };
 }
 
-/// So many trees without times.
+/// Makes `count` trees that have no time in any scenario.
 fn without_times(
     alloc: Global,
     problem: &Problem,
@@ -65,7 +65,7 @@ fn without_times(
     Ok(trees)
 }
 
-/// So many trees that are 0.
+/// Makes `count` trees that are 0 in every scenario.
 fn zeros(alloc: Global, problem: &Problem, count: usize) -> Result<Vec<Tree<u64>>, OutOfMemory>
     ensures count { IfOk result (λ trees. length trees.items ≡ count) }
     ensures all { IfOk result (λ trees. All (IsTree problem.now) trees.items) }
@@ -79,7 +79,7 @@ fn zeros(alloc: Global, problem: &Problem, count: usize) -> Result<Vec<Tree<u64>
     Ok(trees)
 }
 
-/// So many nodes that are ready from the beginning.
+/// Makes `count` nodes that are ready from the beginning.
 fn ready_first(alloc: Global, problem: &Problem, count: usize) -> Result<Vec<Ready>, OutOfMemory>
     ensures count { IfOk result (λ nodes. length nodes.items ≡ count) }
     ensures all { IfOk result (λ nodes. All (IsWait problem.now) nodes.items) }
@@ -122,7 +122,7 @@ impl Forest {
         self.times
     }
 
-    /// The ends of a process, 0 where it isn't active. The contract alone names `problem`.
+    /// The ends of a process, 0 if it isn't active. The contract alone names `problem`.
     pub(crate) fn end_there(
         &self,
         problem: &Problem,
@@ -288,7 +288,7 @@ impl Forest {
         Ok(start)
     }
 
-    /// Where a process is active, its starts on a node once it is ready and a frame is there, and at a release or later.
+    /// If a process is active, its starts on a node once it is ready and a frame is there, and at a release or later.
     fn started_by_frame_where(
         &self,
         problem: &Problem,
@@ -320,7 +320,7 @@ impl Forest {
         }
     }
 
-    /// Where a process is active, its starts on a node once it is ready and an input from another node is there, and at a
+    /// If a process is active, its starts on a node once it is ready and an input from another node is there, and at a
     /// release or later.
     pub(crate) fn started_by_input_where(
         &self,
@@ -370,7 +370,7 @@ impl Forest {
         }
     }
 
-    /// Where a process is active, its starts on a node once it is ready and at a release or later.
+    /// If a process is active, its starts on a node once it is ready and at a release or later.
     pub(crate) fn started_where(
         &self,
         problem: &Problem,

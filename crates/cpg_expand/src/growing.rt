@@ -24,7 +24,7 @@ pub(crate) struct GrownForest {
     pub(crate) forest: Forest,
 }
 
-/// Refuses the times of what a process sends where a tree of them has too many leaves.
+/// Refuses the times of what a process sends if a tree of them has too many leaves.
 fn few_sent(problem: &Problem, plan: &Plan, forest: &Forest, process: u32) -> Result<(), BuildFault>
     requires plan { plan.now ≡ plan_of problem.now }
     requires process { process < process_count problem.now }
@@ -37,7 +37,7 @@ fn few_sent(problem: &Problem, plan: &Plan, forest: &Forest, process: u32) -> Re
     Ok(())
 }
 
-/// Refuses the tree of when the slots of a node are free where an item of a process at a place or later waits for that and the tree
+/// Refuses the tree of when the slots of a node are free if an item of a process at a place or later waits for that and the tree
 /// has too many leaves.
 fn few_free(
     problem: &Problem,
@@ -60,7 +60,7 @@ fn few_free(
     few(&forest.free[node as usize], forest.wide)
 }
 
-/// Refuses what a process has left where a tree of it has too many leaves.
+/// Refuses what a process has left if a tree of it has too many leaves.
 fn few_left(
     problem: &Problem,
     plan: &Plan,
@@ -80,8 +80,8 @@ fn few_left(
     Ok(())
 }
 
-/// The trees of all processes and of what they send, and the frozen times, under an order. Where there is an item to name, leaves
-/// are counted: `TooWide` names it where a tree on the way has more than 147,456.
+/// The trees of all processes and of what they send, and the frozen times, under an order. If there is an item to name, leaves
+/// are counted: `TooWide` names it if a tree on the way has more than 147,456.
 pub(crate) fn grown(
     alloc: Global,
     admitted: &Admitted,

@@ -217,7 +217,7 @@ fn start_after(
     Ok(start)
 }
 
-/// Where a process is active, its starts when it waits until its node is ready, its release and for these inputs.
+/// If a process is active, its starts when it waits until its node is ready, its release and for these inputs.
 fn start_where(
     problem: &Problem,
     forest: &Forest,
@@ -290,7 +290,7 @@ fn is_by_activity(guard: &GuardTree) -> bool
     ensures { OnTrue result (AreLeaves WaitsForAll guard.now) }
 {
     match guard.top() {
-        // where nothing is tested, the starts may share the nodes of ends
+        // if nothing is tested, the starts may share the nodes of ends
         GuardTop::Leaf(_) => false,
         GuardTop::Test {
             condition: _,

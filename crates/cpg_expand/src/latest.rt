@@ -228,7 +228,7 @@ fn after_inputs(
 }
 
 /// The latest start of a process that waits until those before it on its node have ended and the node has heard what their
-/// guards test and its own, its release and for these inputs; `None` exactly where it is never active.
+/// guards test and its own, its release and for these inputs; `None` exactly if it is never active.
 pub(crate) fn latest_start(
     alloc: Global,
     span: &Span<'_>,

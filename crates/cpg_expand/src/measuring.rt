@@ -58,7 +58,7 @@ impl Peak {
         }
     }
 
-    /// This, or a time that a later process first has in a scenario, where that goes before.
+    /// This, or a time that a later process first has in a scenario, if that goes before.
     fn or_time(
         self,
         problem: &Problem,
@@ -83,7 +83,7 @@ impl Peak {
         }
     }
 
-    /// This, or the greatest time of the tree of a later process, where that goes before.
+    /// This, or the greatest time of the tree of a later process, if that goes before.
     fn or(
         self,
         problem: &Problem,
@@ -102,7 +102,7 @@ impl Peak {
         }
     }
 
-    /// This, or how far the ends of a later process are past its due at most, where that goes before.
+    /// This, or how far the ends of a later process are past its due at most, if that goes before.
     fn or_past(
         self,
         problem: &Problem,

@@ -59,7 +59,7 @@ fn row(
     Ok(Row::new(item, columns))
 }
 
-/// The columns of the rows so far in all tables with those of one more, where there is an item to name: `TooWide` names it where
+/// The columns of the rows so far in all tables with those of one more, if there is an item to name: `TooWide` names it if
 /// that row or all of them have too many.
 fn load_with(
     problem: &Problem,
@@ -89,8 +89,8 @@ fn load_with(
     Ok(sum)
 }
 
-/// A row for each item. Its tree, which is the larger, isn't kept beside it. Where there is an item to name, columns are counted:
-/// `TooWide` names it where a row has more than 16,384, or all rows of all tables more than 524,288.
+/// A row for each item. Its tree, which is the larger, isn't kept beside it. If there is an item to name, columns are counted:
+/// `TooWide` names it if a row has more than 16,384, or all rows of all tables more than 524,288.
 pub(crate) fn rows(
     alloc: Global,
     problem: &Problem,

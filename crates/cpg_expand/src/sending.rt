@@ -138,7 +138,7 @@ fn unfrozen_sent(
     Ok(sent)
 }
 
-/// When the slots are free once an item is sent. Made only where an item waits for that: behind a frozen one the tree of that may
+/// When the slots are free once an item is sent. Made only if an item waits for that: behind a frozen one the tree of that may
 /// be far wider than its row.
 fn freed(
     problem: &Problem,

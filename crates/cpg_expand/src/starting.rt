@@ -32,7 +32,7 @@ fn few_ready(problem: &Problem, forest: &Forest, node: u32) -> Result<(), BuildF
     }
 }
 
-/// From when on a node is ready for a process with a guard and has heard what it tests. `None` where it tests nothing: from
+/// From when on a node is ready for a process with a guard and has heard what it tests. `None` if it tests nothing: from
 /// when on the node is ready.
 pub(crate) fn waiting(
     alloc: Global,
@@ -66,7 +66,7 @@ pub(crate) fn waiting(
     }
 }
 
-/// What a process waits for on its node: what it has heard too, or where there is nothing of that the node itself. The
+/// What a process waits for on its node: what it has heard too, or if there is nothing of that the node itself. The
 /// contract alone names `problem`.
 pub(crate) fn wait_for<'a>(
     problem: &Problem,

@@ -9,7 +9,7 @@ use cpg_paths::most;
 use cpg_tree::Tree;
 use std::alloc::Global;
 
-/// The greatest number of each tree, where it has one.
+/// The greatest number of each tree, if it has one.
 pub(crate) fn tops_of(
     alloc: Global,
     trees: &[Tree<Option<u64>>],
@@ -23,7 +23,7 @@ pub(crate) fn tops_of(
     Ok(tops)
 }
 
-/// How far the greatest number of each process is past its due, where it is.
+/// How far the greatest number of each process is past its due, if it is.
 pub(crate) fn past_tops(
     alloc: Global,
     problem: &Problem,
@@ -39,7 +39,7 @@ pub(crate) fn past_tops(
     Ok(past)
 }
 
-/// The greatest of the numbers, or 0 where there is none.
+/// The greatest of the numbers, or 0 if there is none.
 pub(crate) fn bar_of(tops: &[Option<u64>]) -> u64
     ensures { result ≡ bar_of tops.now }
 {

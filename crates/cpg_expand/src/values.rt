@@ -169,7 +169,7 @@ fn is_same(first: bool, second: bool) -> bool
     first == second
 }
 
-/// The time, where it is so.
+/// The time, if it is so.
 fn time_if(is: bool, time: u64) -> Option<u64>
     ensures { result ≡ time_if time is }
 {
@@ -185,7 +185,7 @@ pub(crate) fn fixed(tree: &Tree<bool>, time: u64) -> Result<Tree<Option<u64>>, O
     tree.map(&|is: bool| time_if(is, time))
 }
 
-/// The end of an execution with so many faults, where there is a start.
+/// The end of an execution with so many faults, if there is a start.
 fn ended(start: Option<u64>, durations: &[u64], faults: u8) -> Option<u64>
     ensures { result ≡ ended durations.now faults start }
 {
@@ -197,7 +197,7 @@ fn ended(start: Option<u64>, durations: &[u64], faults: u8) -> Option<u64>
     Some(start.saturating_add(duration))
 }
 
-/// The ends of executions that start at the times of a tree, where one with so many faults lasts so long.
+/// The ends of executions that start at the times of a tree, if one with so many faults lasts so long.
 pub(crate) fn ends(
     start: &Tree<Option<u64>>,
     faults: &Tree<u8>,
@@ -214,7 +214,7 @@ pub(crate) fn ends(
     )
 }
 
-/// The first slot at the time or later, and 0 where none is asked for.
+/// The first slot at the time or later, and 0 if none is asked for.
 pub(crate) fn slot_at(share: Share, time: Option<u64>) -> u64
     ensures { result ≡ slot_at share time }
 {
@@ -230,7 +230,7 @@ pub(crate) fn slot_at(share: Share, time: Option<u64>) -> u64
     }
 }
 
-/// The slot, where one is asked for.
+/// The slot, if one is asked for.
 fn slot_if(time: Option<u64>, slot: u64) -> Option<u64>
     ensures { result ≡ slot_if slot time }
 {
@@ -238,7 +238,7 @@ fn slot_if(time: Option<u64>, slot: u64) -> Option<u64>
     if time < LATE { Some(slot) } else { None }
 }
 
-/// The first slots at the times of a tree or later, and 0 where none is asked for.
+/// The first slots at the times of a tree or later, and 0 if none is asked for.
 fn next_slots(share: Share, end: &Tree<Option<u64>>) -> Result<Tree<u64>, OutOfMemory>
     ensures is { IfOk result (IsMap (λ x z. z ≡ slot_at share x) end.now) }
     ensures each { IfOk result (λ t. HasOnePathEach t.faults t.paths) }
@@ -247,7 +247,7 @@ fn next_slots(share: Share, end: &Tree<Option<u64>>) -> Result<Tree<u64>, OutOfM
     end.map(&|time: Option<u64>| slot_at(share, time))
 }
 
-/// The slots of a tree, where one is asked for.
+/// The slots of a tree, if one is asked for.
 fn asked(end: &Tree<Option<u64>>, slots: &Tree<u64>) -> Result<Tree<Option<u64>>, OutOfMemory>
     requires { end.now.faults ≡ slots.now.faults }
     ensures is { IfOk result (IsJoin (λ x y z. z ≡ slot_if y x) end.now slots.now) }
@@ -271,13 +271,13 @@ pub(crate) fn slots(
     ensures each { IfOk result (λ t. HasOnePathEach t.faults t.paths) }
     ensures pass { IfOk result (λ t. (test : ℕ → Bool) → DoPathsPass test end.now.paths → DoPathsPass test free.now.paths → DoPathsPass test t.paths) }
 {
-    // where the slots are at least `free` everywhere, `max` tests nothing of it
+    // if the slots are at least `free` everywhere, `max` tests nothing of it
     let next = next_slots(share, end)?;
     let slots = next.max(free)?;
     asked(end, &slots)
 }
 
-/// How far a time is past its due, where it is.
+/// How far a time is past its due, if it is.
 pub(crate) fn time_past(time: Option<u64>, due: u64) -> Option<u64>
     ensures { result ≡ time_past due time }
 {
@@ -285,7 +285,7 @@ pub(crate) fn time_past(time: Option<u64>, due: u64) -> Option<u64>
     if due < time { Some(time - due) } else { None }
 }
 
-/// How far the times of a tree are past their due, where they are.
+/// How far the times of a tree are past their due, if they are.
 pub(crate) fn past(tree: &Tree<Option<u64>>, due: u64) -> Result<Tree<Option<u64>>, OutOfMemory>
     ensures is { IfOk result (IsMap (λ x z. z ≡ time_past due x) tree.now) }
     ensures each { IfOk result (λ t. HasOnePathEach t.faults t.paths) }

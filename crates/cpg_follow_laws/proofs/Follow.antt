@@ -118,7 +118,7 @@ module _ {g : Graph} {tables : List NodeTable} {w : World} (k : Played g tables 
         after_is None moment h = omega arith
         after_is (Some last) moment h = floor_after (Some last) moment h
 
-    -- so the stream comes to the cluster's next state
+    -- if a turn of a play is followed, the stream comes to the cluster's next state
     turn_followed : (p : Progress) → HasCome p (dispatcher_at c a) (get_or c.acts a []) →
         let s = follow (lawful p) (told_at g w c a time) in (s.fault ≡ None) × HasCome s.progress (dispatcher_at (take_turn g w c a time) a) (get_or (take_turn g w c a time).acts a [])
     turn_followed p h =

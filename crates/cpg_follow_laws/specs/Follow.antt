@@ -27,7 +27,7 @@ by_time (e ∷ es) = inserted e (by_time es)
 abbrev pub told_at : Graph → World → Cluster → ℕ → ℕ → List (ℕ × Event)
 told_at g w c a time = turn_events time (by_time (reports_now g w (dispatcher_at c a) time)) (frames_now g w c (reported g w (dispatcher_at c a) time) time)
 
--- the same by the node's answer: a node that waits or is done has no records
+-- the records of a node by its answer: a node that waits or is done has none
 abbrev pub told_by : Graph → World → Cluster → ℕ → Answer → Option ℕ → List (ℕ × Event)
 told_by g w c a Took (Some time) = told_at g w c a time
 told_by g w c a _ _ = []

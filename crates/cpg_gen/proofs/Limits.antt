@@ -180,7 +180,7 @@ module _ (number : ℕ) where
 abbrev pub graph_of : List (List ℕ) → List Slot → List Process → List Edge → Graph
 graph_of nodes slots processes edges = record { faults = 2; deadline = 1000000000; nodes = nodes; slots = slots; processes = processes; edges = edges; order = None }
 
--- so are its parts, put together
+-- the parts of a generated graph, put together, are within the limits
 pub parts_within : (number : ℕ) (nodes : List (List ℕ)) (slots : List Slot) (processes : List Process) (edges : List Edge) →
     nodes ≡ (generated number).nodes → slots ≡ (generated number).slots → processes ≡ (generated number).processes → edges ≡ (generated number).edges →
     IsWithinLimits (graph_of nodes slots processes edges)

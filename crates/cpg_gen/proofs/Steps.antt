@@ -18,7 +18,7 @@ draws_before_push i =
 number_before_next : (number i : ℕ) → number_after (number_before number i) (draws_of i) ≡ number_before number (i + 1)
 number_before_next number i = number_after-add number (draws_before i) (draws_of i) ∙ ap (number_after number) (draws_before_push i)
 
--- after the costs, a draw more where there is a predecessor
+-- after the costs, a draw more if there is a predecessor
 sixth : (b : Bool) (x : ℕ) → cond b (next_number (number_after x 5)) (number_after x 5) ≡ number_after x (cond b 6 5)
 sixth true x = sym (number_after-suc x 5)
 sixth false x = refl

@@ -52,7 +52,7 @@ fn draw_all(alloc: Global, number: u64) -> Result<Drawn, OutOfMemory>
 }
 
 /// The graph that a number generates: 60 processes on four nodes with at most two conditions, two faults, and a deadline of
-/// 10^9 time units. It errs by want of memory alone.
+/// 10^9 time units. The one error is `OutOfMemory`.
 pub fn generate(alloc: Global, number: u64) -> Result<Problem, OutOfMemory>
     ensures { IfOk result (λ problem. problem ≡ generated number) }
 {

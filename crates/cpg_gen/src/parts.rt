@@ -119,7 +119,7 @@ fn drawn_edge(draws: &mut Draws, target: u32) -> Edge
     edge(source, target, when(source, target))
 }
 
-/// Pushes the edges to a process, with a draw where it has a predecessor.
+/// Pushes the edges to a process, with a draw if it has a predecessor.
 pub(crate) fn push_edges(
     edges: &mut Vec<Edge>,
     draws: &mut Draws,

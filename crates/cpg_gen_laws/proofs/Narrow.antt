@@ -193,7 +193,7 @@ module _ (number : ℕ) where
               omega (arith, product, most))
         ]
 
-    -- of the items up to one
+    -- the loads of the items up to one
     pub loads_up_to : (n : ℕ) → n ≤ item_count (generated number) → sum_by (load (generated number) r) (numbers_below n) ≤ 514832
     loads_up_to n l =
         let count = processes_count number in

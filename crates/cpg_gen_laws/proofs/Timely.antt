@@ -276,7 +276,7 @@ module _ (number : ℕ) where
       abbrev AllSmall : ℕ → Type 0
       AllSmall m = (s : Scenario) (t : Times) → IsScenario (generated number) s → IsRun (generated number) order frozen s t → SmallBefore t m
 
-      -- so a frozen time of the moment isn't much greater
+      -- a frozen time of a moment isn't much greater than what is before the moment
       still_le : (m x : ℕ) → AllSmall m → x < item_count (generated number) → moment (generated number) order x ≡ m → (time : ℕ) → get_or frozen x None ≡ Some time → time ≤ bound m + 80
       still_le m x all l is time e = elim (cases_Bool (is_frozen (generated number) x)) [
         | inl f ↦ (let w = (still.each x l f).reached time e in

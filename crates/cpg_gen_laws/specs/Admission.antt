@@ -25,6 +25,6 @@ GeneratedHaveSingleJoins = (number : ℕ) → HasSingleJoins (generated number)
 abbrev pub GeneratedMessagesFit : Type 0
 GeneratedMessagesFit = (number : ℕ) → AllFit (generated number)
 
--- so no fault is shown but want of memory
+-- no fault is shown but that memory runs out
 abbrev pub GeneratedShowNoFault : Type 0
 GeneratedShowNoFault = (number : ℕ) (fault : RuleFault) → ShowsFault (generated number) fault → fault ≡ OutOfMemory

@@ -15,7 +15,7 @@ GeneratedEndEarly = (number : ℕ) (order : List ℕ) → IsTopological (generat
     (s : Scenario) (t : Times) → IsScenario (generated number) s → IsRun (generated number) order frozen s t → (p : ℕ) →
     p < process_count (generated number) → end_in t p ≤ 19720
 
--- so nothing is past its due
+-- no process ends past its due
 abbrev pub GeneratedAreInTime : Type 0
 GeneratedAreInTime = (number : ℕ) (order : List ℕ) → IsTopological (generated number) order → (frozen : List (Option ℕ)) →
     AreFrozenTimes (generated number) order frozen →

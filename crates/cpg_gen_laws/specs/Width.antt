@@ -11,7 +11,7 @@ use Rattle.cpg_gen.specs.Generated.{generated}
 abbrev pub GeneratedHaveFewScenarios : Type 0
 GeneratedHaveFewScenarios = (number : ℕ) → length (scenarios (generated number)) ≤ 7564
 
--- so nothing has more views
+-- no list of variables has more than 7,564 views
 abbrev pub GeneratedHaveFewViews : Type 0
 GeneratedHaveFewViews = (number : ℕ) (reached : List ℕ) → views (generated number) reached ≤ 7564
 
@@ -25,6 +25,6 @@ abbrev pub GeneratedHaveSmallLoads : Type 0
 GeneratedHaveSmallLoads = (number : ℕ) (order : List ℕ) (r : Reach) → IsReach (generated number) order r →
     sum_by (load (generated number) r) (numbers_below (item_count (generated number))) ≤ 514832
 
--- so nothing is too wide
+-- no item is too wide under any order
 abbrev pub GeneratedAreNarrow : Type 0
 GeneratedAreNarrow = (number : ℕ) (order : List ℕ) → IsNarrow (generated number) order

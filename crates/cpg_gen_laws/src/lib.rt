@@ -25,7 +25,7 @@ pub fn generated_messages_fit()
     ensures { GeneratedMessagesFit }
 {}
 
-/// The graph of every number keeps all rules: it shows no fault but want of memory.
+/// The graph of every number keeps all rules: it shows no fault but that memory runs out.
 pub fn generated_show_no_fault()
     ensures { GeneratedShowNoFault }
 {}

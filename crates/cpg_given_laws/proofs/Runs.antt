@@ -19,7 +19,7 @@ use Rattle.cpg_order.specs.Queue.{queued_before}
 use Rattle.cpg_run.specs.Run.{Times, IsRun, time_in, end_in, input_there, heard_there, start_bounds, send_bounds, bounds_of_item, unfrozen_time, time_by}
 
 module _ (g : Graph) (given : Option (List ℕ)) where
-  -- the same graph but for the order that it gives
+  -- a graph as it is, but for the order that it gives
   abbrev pub other : Graph
   other = record g { order = given }
 

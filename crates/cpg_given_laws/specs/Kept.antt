@@ -11,7 +11,7 @@ use Rattle.cpg_core.specs.Compilation.{IsCompilation, ShowsCompileFault}
 use Rattle.cpg_core.specs.CompileLaws.{AskTheSame}
 use Rattle.cpg_core.specs.Compiled.{IsCompileOrder}
 
--- the same graph, except that its file gives this order at the key `order`; items and scenarios are the same
+-- a graph as it is, except that its file gives this order at the key `order`; items and scenarios are the same
 abbrev pub with_order : Graph → List ℕ → Graph
 with_order g order = record g { order = Some order }
 

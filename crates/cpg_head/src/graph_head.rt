@@ -91,7 +91,7 @@ fn extras_of(alloc: Global, processes: &[Process]) -> Result<Vec<Extra>, OutOfMe
     Ok(extras)
 }
 
-/// What version 2 says of the processes, where there is need of it.
+/// What version 2 says of the processes, if there is need of it.
 pub fn head_extras(alloc: Global, problem: &Problem) -> Result<Option<Vec<Extra>>, OutOfMemory>
     ensures { IfOk result (λ o. option_map (λ v. v.items) o ≡ extras_of problem.now) }
 {

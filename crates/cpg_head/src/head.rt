@@ -131,7 +131,7 @@ fn copy_extras(extras: &Option<Vec<Extra>>) -> Result<Option<Vec<Extra>>, OutOfM
 }
 
 impl Head {
-    /// A head of version 1, and `None` exactly where one of the limits is broken.
+    /// A head of version 1, and `None` exactly if one of the limits is broken.
     pub fn new(
         faults: u8,
         nodes: Vec<Name>,
@@ -175,7 +175,7 @@ impl Head {
         })
     }
 
-    /// The head in version 2, with what that says of each process, and `None` exactly where that isn't one `Extra` for
+    /// The head in version 2, with what that says of each process, and `None` exactly if that isn't one `Extra` for
     /// each process, or a number in it is above 10^9.
     pub fn with_extras(self, extras: Vec<Extra>) -> Option<Head>
         ensures head { IfSome result (λ h. h ≡ record self { extras = Some extras.items }) }
@@ -262,7 +262,7 @@ impl Head {
     }
 }
 
-/// The head of tables for a graph. It is of version 1 exactly where no process has a release above 0 or a deadline of
+/// The head of tables for a graph. It is of version 1 exactly if no process has a release above 0 or a deadline of
 /// its own.
 pub fn head_of(alloc: Global, problem: &Problem) -> Result<Head, OutOfMemory>
     ensures { IfOk result (λ head. head ≡ head_of problem.now) }

@@ -33,7 +33,7 @@ nil_of : {X : Type 0} (xs : List X) → length xs ≡ 0 → xs ≡ []
 nil_of [] e = refl
 nil_of (x ∷ xs) e = absurd (omega (arith, e))
 
--- of a part without processes
+-- nothing is added of a part without processes
 pub nothing_added : (out : List Process) (whole p : ℕ) (part : Part) → size_of part ≡ 0 → AddsShort true out out (processes_of whole p part) (HasShortNames whole p part)
 nothing_added out whole p part e =
     let none = nil_of part.problem.processes e in (

@@ -45,7 +45,7 @@ plain_copy : (n : ℕ) (b : Bool) → (if b then Plain else Inactive) ≡ copied
 plain_copy n true = refl
 plain_copy n false = refl
 
--- where the copies of the inputs are live as the inputs are
+-- if the copies of the inputs are live as the inputs are
 copy_by : (n : ℕ) (join : Bool) (es : List ℕ) (f h : ℕ → Bool) → ((e : ℕ) → Contains es e → f (n + e) ≡ h e) → activation_by join (map (λ e. n + e) es) f ≡ copied_activation n (activation_by join es h)
 copy_by n join [] f h s = refl
 copy_by n true (e ∷ es) f h s =

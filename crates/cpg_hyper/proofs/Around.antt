@@ -33,7 +33,7 @@ of_instance first a b i size e d low high h is =
     let to : e.to ≡ first + i * size + d.to = ap (λ (x : Edge). x.to) (sym is) in
     record { from = omega (arith, least, from); from_ends = omega (arith, most, from, h.from); to = omega (arith, least, to); to_ends = omega (arith, most, to, h.to) }
 
--- of k instances of a part, from one on
+-- both ends of each edge of k instances of a part, from one on, lie between two numbers
 pub lies_in : (first a k : ℕ) (part : Part) → IsWithinLimits part.problem → (e : Edge) → Contains (flat_map (edges_in first part) (range_with_len a k)) e → LiesBetween (first + a * size_of part) (first + (a + k) * size_of part) e
 lies_in first a k part h e c =
     let (i, among, here) = Contains-flat_map_parts (edges_in first part) (range_with_len a k) e c in

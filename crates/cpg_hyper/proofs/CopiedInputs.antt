@@ -88,7 +88,7 @@ module _ (g part : Graph) (n first size : ℕ) (around : AreAround n first size 
       ∙ ap (map (λ e. n + e)) (same_filter (λ e. source g (n + e) == (first + q)) (λ e. source part e == q) (numbers_below (edge_count part))
       (λ e c. ap (λ (d : Edge). d.from == (first + q)) (copies e (numbers-Contains (edge_count part) e c)) ∙ moved_test first (source part e) q))
 
-  -- a copy has a condition where its process has one
+  -- a copy has a condition if its process has one
   pub copied_condition : (q : ℕ) → q < size → is_disjunction g (first + q) ≡ is_disjunction part q
   copied_condition q l =
       ap (list_any (λ e. is_some (edge_at g e).when)) (copied_outputs q l)

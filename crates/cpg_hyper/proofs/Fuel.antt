@@ -1,4 +1,4 @@
--- Where edges lead from lower to higher ranks, looking back along as many edges as there are processes is far enough.
+-- If edges lead from lower to higher ranks, looking back along as many edges as there are processes is far enough.
 use Rattle.std.proofs.Common.{◌≡◌, ℕ, zero, suc, ◌+◌, ◌<◌, ◌≤◌, Bool, true, false, cond, ◌&&◌, nat_lt, List, [], ◌∷◌, length, filter, Contains, refl, sym, ap, ◌∙◌, subst, arith, ⊎_elim, lt-ltb, le-ltb}
 use Rattle.std.proofs.lemmas.Bool.{cases_lt, true≢false}
 use Rattle.std.proofs.lemmas.List.FromFn.{length-range_with_len}

@@ -53,13 +53,14 @@ InstancesAreActivatedAlike = (whole : ℕ) (parts : List Part) (p i q : ℕ) (s 
     → activation (unrolled whole parts) s.values (first_of whole parts p i + q)
     ≡ copied_activation (first_edge_of whole parts p i) (activation (part_at parts p).problem (scenario_of whole parts p i s).values q)
 
--- so it is active in the same scenarios
+-- If the graph of all instances has a topological order, a process of an instance is active as in its part, in that
+-- scenario.
 abbrev pub InstancesAreActiveAlike : Type 0
 InstancesAreActiveAlike = (whole : ℕ) (parts : List Part) (p i q : ℕ) (s : Scenario) (order : List ℕ) → AreWithinLimits parts →
     IsInstance whole parts p i → q < size_of (part_at parts p) → IsTopological (unrolled whole parts) order
     → active (unrolled whole parts) s.values (first_of whole parts p i + q) ≡ active (part_at parts p).problem (scenario_of whole parts p i s).values q
 
--- and its edges are live in the same scenarios
+-- If the graph of all instances has a topological order, an edge of an instance is live as in its part, in that scenario.
 abbrev pub InstancesAreLiveAlike : Type 0
 InstancesAreLiveAlike = (whole : ℕ) (parts : List Part) (p i e : ℕ) (s : Scenario) (order : List ℕ) → AreWithinLimits parts →
     IsInstance whole parts p i → e < length (part_at parts p).problem.edges → IsTopological (unrolled whole parts) order

@@ -21,7 +21,7 @@ pub fn instances_last_as_long()
     ensures { InstancesLastAsLong }
 {}
 
-/// A process of an instance has a condition where its part's has one.
+/// A process of an instance has a condition if its part's has one.
 pub fn instances_have_conditions()
     ensures { InstancesHaveConditions }
 {}
@@ -31,12 +31,12 @@ pub fn instances_are_activated_alike()
     ensures { InstancesAreActivatedAlike }
 {}
 
-/// Under a topological order a process of an instance is active where its part's is.
+/// Under a topological order a process of an instance is active if its part's is.
 pub fn instances_are_active_alike()
     ensures { InstancesAreActiveAlike }
 {}
 
-/// Under a topological order an edge of an instance is live where its part's is.
+/// Under a topological order an edge of an instance is live if its part's is.
 pub fn instances_are_live_alike()
     ensures { InstancesAreLiveAlike }
 {}

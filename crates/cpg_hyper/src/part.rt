@@ -27,7 +27,7 @@ pub enum HyperFault {
     LongName(u32),
     /// It gives an order to compile under.
     Order(u32),
-    /// Want of memory.
+    /// Out of memory.
     OutOfMemory,
 }
 

@@ -33,7 +33,7 @@ fn least_common(a: u64, b: u64) -> u64
     a / common * b
 }
 
-/// The least common multiple of the periods, where it isn't above the longest time.
+/// The least common multiple of the periods, if it isn't above the longest time.
 pub fn hyperperiod(parts: &[Part]) -> Option<u64>
     requires { HoldsOfEach (λ p part. IsInRange part) parts.now }
     ensures whole { IfSome result (IsHyperperiod parts.now) }

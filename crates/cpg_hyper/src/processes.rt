@@ -20,7 +20,7 @@ fn made_text(alloc: Global, number: u32, instance: u64, name: &Name) -> Result<S
     Ok(text)
 }
 
-/// The name of a copy, and `None` exactly where it is too long.
+/// The name of a copy, and `None` exactly if it is too long.
 fn copied_name(
     alloc: Global,
     number: u32,
@@ -46,7 +46,7 @@ fn due_of(process: &Process, deadline: u64) -> u64
     }
 }
 
-/// The copy of a process, and `None` exactly where its name is too long.
+/// The copy of a process, and `None` exactly if its name is too long.
 fn copied_process(
     alloc: Global,
     number: u32,
@@ -81,7 +81,7 @@ fn copied_process(
     }))
 }
 
-/// Adds the processes of an instance, where their names are short enough.
+/// Adds the processes of an instance, if their names are short enough.
 fn add_instance(
     alloc: Global,
     out: &mut Vec<Process>,
@@ -102,7 +102,7 @@ fn add_instance(
     Ok(true)
 }
 
-/// Adds the processes of all instances of a part, where their names are short enough.
+/// Adds the processes of all instances of a part, if their names are short enough.
 fn add_part(
     alloc: Global,
     out: &mut Vec<Process>,
@@ -126,7 +126,7 @@ fn add_part(
     Ok(true)
 }
 
-/// The processes of all instances of all parts, where their names are short enough.
+/// The processes of all instances of all parts, if their names are short enough.
 pub fn unrolled_processes(
     alloc: Global,
     whole: u64,

@@ -83,7 +83,7 @@ fn over(alloc: Global, whole: u64, parts: &[Part]) -> Result<Problem, HyperFault
 /// The refusals come in this order: a period out of its range; other faults, nodes or slots than the first part's; a
 /// deadline or a release above its period; a hyperperiod above 10^9; too many processes, edges or conditions; too long a
 /// made name; an order to compile under, for it names no copies. One of a range, a difference, a time, a name or an order
-/// shows the first part that it is true of. Want of memory may come in place of any.
+/// shows the first part that it is true of. Out of memory may come in place of any.
 pub fn unroll(alloc: Global, parts: &[Part]) -> Result<Problem, HyperFault>
     requires some { 1 ≤ length parts.now }
     requires few { length parts.now ≤ 4 }

@@ -1,4 +1,4 @@
--- What the files of a run say is one thing; and where all of them were read, none stops the run, but for want of memory.
+-- What the files of a run say is one thing; and if all of them were read, none stops the run, unless memory runs out.
 use Rattle.std.proofs.Common.{ℕ, ◌≡◌, ◌∙◌, Bool, true, false, List, [], ◌∷◌, ◌++◌, Option, Some, None, length, refl, sym, ap, subst, arith, append-nil, inl, inr}
 use Rattle.std.specs.Prelude.{Result, Ok, Err}
 use Rattle.std.proofs.lemmas.Bool.{both_ways, true≢false}
@@ -71,7 +71,7 @@ AllAlike [] (w ∷ ws) = ⊥
 AllAlike (v ∷ vs) [] = ⊥
 AllAlike (v ∷ vs) (w ∷ ws) = IsAlike v w × AllAlike vs ws
 
--- of two values that are known
+-- two values are alike if the known values that they are, are alike
 as_known : (v w x y : Value) → v ≡ x → w ≡ y → IsAlike x y → IsAlike v w
 as_known v w x y e f k = subst (λ u. IsAlike u w) (sym e) (subst (IsAlike x) (sym f) k)
 
@@ -84,7 +84,7 @@ says_alike (Some g) LogFile bytes v w (l, e, x) (m, f, y) = as_known v w (log_va
 says_alike None ScenarioFile bytes v w x y = absurd x
 says_alike None LogFile bytes v w x y = absurd x
 
--- the same graph comes after them
+-- the same graph comes after two values that the same bytes say
 pub says_after : (g : Option Graph) (k : Kind) (bytes : Text) (v w : Value) → Says g k bytes v → Says g k bytes w → graph_after g w ≡ graph_after g v
 says_after g GraphFile bytes v w (a, e, x) (b, f, y) = ap (graph_after g) f ∙ (ap Some (admitted_alike bytes a b x y).graph ∙ sym (ap (graph_after g) e))
 says_after g PartFile bytes v w (a, e, x) (b, f, y) = ap (graph_after g) f ∙ sym (ap (graph_after g) e)
@@ -169,7 +169,7 @@ reads_alike g (f ∷ fs) past now (v ∷ vs) (w ∷ ws) r s =
     let also = subst (λ (e : Fetch). Says g f.kind e.given w) same s.1.says in
     (says_alike g f.kind r.0.given v w r.1.says also, reads_alike (graph_after g v) fs (r.0 ∷ past) now vs ws r.2 (subst (λ o. Reads o fs (r.0 ∷ past) now ws) (says_after g f.kind r.0.given v w r.1.says also) (subst (λ e. Reads (graph_after g w) fs (e ∷ past) now ws) same s.2)))
 
--- where all files were read, memory alone is left to stop a run
+-- if all files were read, memory alone is left to stop a run
 pub stops_memory : (g : Option Graph) (files : List File) (past now : List Fetch) (vs : List Value) (h : Halt) → Reads g files past now vs → StopsReading g files past now h → h ≡ Memory
 stops_memory g [] past now vs h r s = absurd s
 stops_memory g (f ∷ fs) past now [] h r s = absurd r

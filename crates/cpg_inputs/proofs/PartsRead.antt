@@ -76,7 +76,7 @@ module _ (pairs : List Pair) (i : ℕ) (pair : Pair) (l : i < length pairs) (is 
       let here = stops_after None (part_files (take i pairs)) (file PartFile pair.graph ∷ []) past mid now (part_values parts) h read one in
       subst (λ fs. StopsReading None fs past now h) (sym files_all) (stops_more None (part_files (take i pairs) ++ file PartFile pair.graph ∷ []) (part_files (drop (i + 1) pairs)) past now h here)
 
-  -- that was read, where memory runs out then
+  -- that was read, if memory runs out then
   pub wants_next : (g : Graph) (h : Halt) → ReadsNext None (file PartFile pair.graph) mid now (part_value g) → h ≡ Memory → StopsReading None (part_files pairs) past now h
   wants_next g h r e =
       let w = r.read.whole in

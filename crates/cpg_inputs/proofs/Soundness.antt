@@ -1,4 +1,4 @@
--- No fetch of files that are read failed; and of files that stop a run one did only where the halt says so.
+-- No fetch of files that are read failed; and of files that stop a run one did only if the halt says so.
 use Rattle.std.proofs.Common.{◌≡◌, ◌∙◌, false, List, [], ◌∷◌, ◌++◌, Option, sym, inl, inr}
 use Rattle.std.specs.Prelude.{◌⊎◌}
 use Rattle.std.proofs.lemmas.List.{append_assoc}

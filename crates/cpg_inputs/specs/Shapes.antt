@@ -21,11 +21,11 @@ OnTables values Fact = (t : Tables) × (values ≡ tables_value t ∷ []) × Fac
 abbrev pub OnJudged : List Value → (Admission → Tables → Type 0) → Type 0
 OnJudged values Fact = (a : Admission) × (t : Tables) × (values ≡ graph_value a ∷ tables_value t ∷ []) × Fact a t
 
--- the same with what happens in a play
+-- the files say a graph, tables to be judged for it and what happens in a play, and the fact holds of them
 abbrev pub OnPlayed : List Value → (Admission → Tables → Played → Type 0) → Type 0
 OnPlayed values Fact = (a : Admission) × (t : Tables) × (p : Played) × (values ≡ graph_value a ∷ tables_value t ∷ played_value p ∷ []) × Fact a t p
 
--- the same with what a log says
+-- the files say a graph, tables to be judged for it and a log, and the fact holds of them
 abbrev pub OnLogged : List Value → (Admission → Tables → Log → Type 0) → Type 0
 OnLogged values Fact = (a : Admission) × (t : Tables) × (l : Log) × (values ≡ graph_value a ∷ tables_value t ∷ log_value l ∷ []) × Fact a t l
 

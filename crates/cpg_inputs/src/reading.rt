@@ -210,7 +210,7 @@ fn hyper_inputs<S: Shelf>(alloc: Global, shelf: &mut S, pairs: &[Pair]) -> Resul
     Ok(Inputs::Hyper(Parts::new(parts)))
 }
 
-/// Reads the files of a command and what they say, in the order of the words. Where a file can't be read, is too long or is
+/// Reads the files of a command and what they say, in the order of the words. If a file can't be read, is too long or is
 /// refused, that is the answer, and no later file is fetched. The stream of `live` isn't read here.
 pub fn read_inputs<S: Shelf>(alloc: Global, shelf: &mut S, command: Command) -> Result<Inputs, Halt>
     requires { All (λ w. S.may_fetch shelf.old w) (file_words command) }

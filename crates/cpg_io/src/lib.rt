@@ -1,7 +1,7 @@
 //! Where bytes come from and where they go: a [`Shelf`] gives the bytes that stand under a name, a [`Sink`] takes
 //! bytes, and both count their faults.
 //!
-//! A call answers [`Failed`] only where that count rose in it. What a shelf gave and what a sink took they tell to contracts
+//! A call answers [`Failed`] only if that count rose in it. What a shelf gave and what a sink took they tell to contracts
 //! in any case, over real files and streams too, as ghost data that takes no byte and no instruction: which names were
 //! fetched, which bytes were given of each, whether to their end, and whether a call failed. What stands under a name, and
 //! what is left of it, [`MemoryShelf`] tells, and [`FileShelf`] only what its open file tells of what is left, which one of

@@ -78,7 +78,7 @@ fn store(files: &mut Vec<MemoryFile>, name: &str, bytes: &[u8]) -> Result<(), Ou
 /// A shelf over bytes in memory, whose calls can be made to fail.
 ///
 /// It counts its calls of `fetch` and `read` together from 0 up to 2^64 - 1, where the number stays. A call fails
-/// exactly where its number is listed by `fail_call`, or where it fetches a name that isn't there. Every name may be
+/// exactly if its number is listed by `fail_call`, or if it fetches a name that isn't there. Every name may be
 /// fetched.
 #[derive(Drop)]
 pub struct MemoryShelf {
@@ -224,7 +224,7 @@ impl Shelf for MemoryShelf {
 
     ghost may_fetch = { λ _ _. ⊤ };
 
-    /// `Failed` exactly where the call's number is listed, or the name isn't there.
+    /// `Failed` exactly if the call's number is listed, or the name isn't there.
     fn fetch(&mut self, name: &str) -> Result<(), Failed>
         ensures names { SameNames (shelf_of self.old) (shelf_of self.new) }
         ensures leave { SameLeave (λ _. ⊤) (λ _. ⊤) }
@@ -253,7 +253,7 @@ impl Shelf for MemoryShelf {
         Ok(())
     }
 
-    /// `Failed` exactly where the call's number is listed.
+    /// `Failed` exactly if the call's number is listed.
     fn read(&mut self, buf: &mut [u8]) -> Result<usize, Failed>
         requires { 0 < length buf.old }
         ensures names { SameNames (shelf_of self.old) (shelf_of self.new) }

@@ -52,7 +52,7 @@ impl MemorySink {
 impl Sink for MemorySink {
     ghost state = { sink_of };
 
-    /// Takes what there is room for, and no memory. `Failed` exactly where no room is left.
+    /// Takes what there is room for, and no memory. `Failed` exactly if no room is left.
     fn write(&mut self, piece: &[u8]) -> Result<usize, Failed>
         requires { 0 < length piece.now }
         ensures some { IfOk result (λ n. 0 < n) }

@@ -19,7 +19,7 @@ pub enum ReadAll {
     /// There are more bytes than the limit.
     #[error("there are more bytes than the limit")]
     TooLong,
-    /// Want of memory.
+    /// Out of memory.
     #[error("out of memory")]
     OutOfMemory,
 }
@@ -80,11 +80,11 @@ fn read_piece<S: Shelf>(
     Ok(count)
 }
 
-/// Reads all bytes that stand under a name, where there are at most `limit` of them, in large pieces.
+/// Reads all bytes that stand under a name, if there are at most `limit` of them, in large pieces.
 ///
-/// `Failed` only where the shelf's count of faults rose. `TooLong` exactly where the shelf has then given more than
+/// `Failed` only if the shelf's count of faults rose. `TooLong` exactly if the shelf has then given more than
 /// `limit` bytes since the fetch; it is asked for no more than `limit` plus one. What is read at `Ok` is the whole of what
-/// the shelf gave, to the end of the name; and what it gave is of what stands under the name, where it tells that.
+/// the shelf gave, to the end of the name; and what it gave is of what stands under the name, if it tells that.
 pub fn read_all<S: Shelf>(
     alloc: Global,
     shelf: &mut S,

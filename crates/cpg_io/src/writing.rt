@@ -7,7 +7,7 @@ use crate::{Failed, Sink};
 
 /// Writes all of the bytes, in as many pieces as the sink takes them in.
 ///
-/// `Failed` only where the sink's count of faults rose. The sink has taken a proper prefix of the bytes then.
+/// `Failed` only if the sink's count of faults rose. The sink has taken a proper prefix of the bytes then.
 pub fn write_all<O: Sink>(sink: &mut O, bytes: &[u8]) -> Result<(), Failed>
     ensures whole { OnOk result (Took (O.state sink.old).taken (O.state sink.new).taken bytes.now) }
     ensures part { OnErr result (TookPrefix (O.state sink.old).taken (O.state sink.new).taken bytes.now) }

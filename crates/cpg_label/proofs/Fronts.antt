@@ -13,7 +13,7 @@ front_of_front first second third (rest, is) (more, so) = (rest ++ more, so ∙ 
 pub front_before : (first second third more : List ℕ) → IsFrontOf first second → third ≡ second ++ more → IsFrontOf first third
 front_before first second third more front is = front_of_front first second third front (more, is)
 
--- and so do five pieces
+-- five pieces that are put behind a text leave its front
 pub front_before_five : (first second third a b c d e : List ℕ) → IsFrontOf first second → third ≡ second ++ a ++ b ++ c ++ d ++ e → IsFrontOf first third
 front_before_five first second third a b c d e front is =
     let one = front_before first second (second ++ a) a front refl in

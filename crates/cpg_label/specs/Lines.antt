@@ -36,10 +36,10 @@ pub record AreLine (labels : Labels) (ls : List Literal) (t es : List ℕ) : Typ
   pub count : length es ≡ length ls + 1
   pub ends : (n : ℕ) → n ≤ length ls → get_or es n 0 ≡ length (front_text labels (take n ls))
 
--- those of a line
+-- a line has the text of its literals, and how long the text of the first ones is
 abbrev pub IsLine : Labels → Line → Type 0
 IsLine labels line = AreLine labels line.literals.items (string_bytes line.text) line.ends.items
 
--- that of these literals
+-- a line is that of these literals
 abbrev pub IsLineOf : Labels → List Literal → Line → Type 0
 IsLineOf labels ls line = IsLine labels line × (line.literals.items ≡ ls)

@@ -75,7 +75,7 @@ pub fn write_heard(out: &mut String, labels: &Labels<'_>, item: Item) -> Result<
     }
 }
 
-/// What a process is called, and nothing where there is no such process.
+/// What a process is called, and nothing if there is no such process.
 pub fn name_of(problem: &Problem, process: u32) -> &str
     ensures name { result.now ≡ name_of problem.now process }
     ensures label { result.now ≡ process_name (labels_of problem.now) process }
@@ -86,7 +86,7 @@ pub fn name_of(problem: &Problem, process: u32) -> &str
     }
 }
 
-/// What a node is called, and nothing where there is no such node.
+/// What a node is called, and nothing if there is no such node.
 pub fn node_name(problem: &Problem, node: u32) -> &str
     ensures { result.now ≡ node_name problem.now node }
 {

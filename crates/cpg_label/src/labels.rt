@@ -13,7 +13,7 @@ use cpg_head::{Head, HeadProcess};
 use std::alloc::Global;
 use std::marker::Model;
 
-/// The names of the processes, the name of the process of each condition, and the ends of the edges, by number. Where
+/// The names of the processes, the name of the process of each condition, and the ends of the edges, by number. If
 /// many lines are written with them, the texts of literals are at hand too.
 #[derive(Drop)]
 pub struct Labels<'a> {
@@ -146,7 +146,7 @@ impl<'a> Labels<'a> {
         }
     }
 
-    /// The same labels, with the texts of literals of at most so many faults at hand.
+    /// These labels, with the texts of literals of at most `faults` faults at hand.
     fn with_phrases(mut self, alloc: Global, faults: u8) -> Result<Labels<'a>, OutOfMemory>
         ensures { IfOk result (λ labels. labels ≡ self.entry) }
     {
@@ -166,7 +166,7 @@ impl<'a> Labels<'a> {
         Ok(labels)
     }
 
-    /// The same of a head.
+    /// What a head calls its parts, with the texts of its literals at hand.
     pub fn ready_of_head(alloc: Global, head: &'a Head) -> Result<Labels<'a>, OutOfMemory>
         ensures { IfOk result (λ labels. labels ≡ head_labels head.entry.now) }
     {
@@ -175,7 +175,7 @@ impl<'a> Labels<'a> {
         Ok(labels)
     }
 
-    /// The text of a literal, where it is at hand.
+    /// The text of a literal, if it is at hand.
     pub(crate) fn phrase(&self, literal: Literal) -> Option<&Phrase>
         ensures { IfSome result (λ p. IsPhraseOf self.now literal p.now) }
     {
@@ -185,7 +185,7 @@ impl<'a> Labels<'a> {
         }
     }
 
-    /// What a process is called, and nothing where there is no such process.
+    /// What a process is called, and nothing if there is no such process.
     pub fn process(&self, process: u32) -> &str
         ensures { result.now ≡ process_name self.now process }
     {
@@ -195,7 +195,7 @@ impl<'a> Labels<'a> {
         }
     }
 
-    /// What the process of a condition is called, and nothing where there is no such condition.
+    /// What the process of a condition is called, and nothing if there is no such condition.
     pub fn condition(&self, condition: u32) -> &str
         ensures { result.now ≡ condition_name self.now condition }
     {
@@ -205,7 +205,7 @@ impl<'a> Labels<'a> {
         }
     }
 
-    /// The numbers of the processes that an edge runs between, 0 where there is no such edge.
+    /// The numbers of the processes that an edge runs between, 0 if there is no such edge.
     pub fn ends(&self, edge: u32) -> (u32, u32)
         ensures { result ≡ edge_ends self.now edge }
     {

@@ -1,4 +1,4 @@
-//! The text of a column's literals, made of that of the column before where both begin alike.
+//! The text of a column's literals, made of that of the column before if both begin alike.
 ghost use Rattle.std.specs.Prelude.{◌≡◌, ◌+◌, ◌<◌, ◌≤◌, ◌++◌, ◌∷◌, [], IfOk, IfSome, OnOk, get_or, length, string_bytes, take};
 ghost use Rattle.cpg_label.specs.CubeText.{literal_text};
 ghost use Rattle.cpg_label.specs.Labels.{Labels};
@@ -17,7 +17,7 @@ pub struct Line {
     ends: Vec<usize>,
 }
 
-/// The first literal, by its text where that is at hand.
+/// The first literal, by its text if that is at hand.
 fn write_first(out: &mut String, labels: &Labels<'_>, literal: Literal) -> Result<(), AllocError>
     ensures { OnOk result (string_bytes out.new ≡ string_bytes out.old ++ literal_text labels.now literal) }
 {
@@ -27,7 +27,7 @@ fn write_first(out: &mut String, labels: &Labels<'_>, literal: Literal) -> Resul
     }
 }
 
-/// A literal after the first one, by its text where that is at hand.
+/// A literal after the first one, by its text if that is at hand.
 fn write_next(out: &mut String, labels: &Labels<'_>, literal: Literal) -> Result<(), AllocError>
     ensures { OnOk result (string_bytes out.new ≡ string_bytes out.old ++ piece_text labels.now literal) }
 {
@@ -139,7 +139,7 @@ impl Line {
     }
 }
 
-/// A line turned into that of other literals, and `None` where there was none, or there is no memory for it.
+/// A line turned into that of other literals, and `None` if there was none, or there is no memory for it.
 pub fn turned(line: Option<Line>, labels: &Labels<'_>, literals: &[Literal]) -> Option<Line>
     requires { IfSome line (IsLine labels.now) }
     ensures { IfSome result (IsLineOf labels.now literals.now) }

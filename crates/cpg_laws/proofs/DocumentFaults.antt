@@ -23,7 +23,7 @@ use Rattle.cpg_laws.proofs.NameFaults.{IsTwice, doubles_stand, double_there, IsN
 -- ---- one document
 
 module _ (ms : Members) where
-  -- where its fields are good it is read as the graph of its values
+  -- if its fields are good, it is read as the graph of its values
   read_is : HasGoodFields ms → raw_graph_at ms ≡ Ok (graph_in ms)
   read_is good =
       let (g, e) = subst (λ faults. IsFirst faults (raw_graph_at ms)) (good_fields ms good) (fields_first ms) in

@@ -1,4 +1,4 @@
--- What a document says where its fields are good, by what stands at its keys.
+-- What a document says if its fields are good, by what stands at its keys.
 use Rattle.std.proofs.Common.{◌≡◌, ℕ, ◌+◌, ℤ, pos, Bool, false, List, [], ◌∷◌, Option, Some, None, Ok, Err, unwrap_or, option_and_then, map, refl, subst}
 use Rattle.toml.specs.Data.{Data, Members, get_member, as_integer, as_bool}
 use Rattle.cpg_reader.specs.declared.place.Table.{Table}
@@ -72,7 +72,7 @@ module _ {T : Type 0} (as_type : Data → Option T) (row : Row) (key : Key) wher
 abbrev pub node_in : Members → List ℕ
 node_in ms = name_in ms Name
 
--- a number that is needed counts, where it is missing, as one in its range
+-- a number that is needed counts, if it is missing, as one in its range
 abbrev pub slot_in : Members → RawSlot
 slot_in ms = record { node = name_in ms Node; length = integer_in ms Length (pos 1); bytes = integer_in ms Bytes (pos 1) }
 

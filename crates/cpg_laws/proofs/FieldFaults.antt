@@ -151,7 +151,7 @@ bad_field_there ms place (members, at, inr (unknown, other)) = row_there ms (Bad
     (subst (λ key. Contains (bad_in (fields_of place.table) (row_of place.table place.index members)) (BadField (record { table = place.table; index = place.index; key = key }))) (sym unknown)
     (key_there (row_of place.table place.index members) (keys_of (fields_of place.table)) (fields_of place.table) (other_key (fields_of place.table) members other)))
 
--- ---- a document has no fault of a field where its fields are good
+-- ---- a document has no fault of a field if its fields are good
 
 pub good_fields : (ms : Members) → HasGoodFields ms → field_faults ms ≡ []
 good_fields ms good = by (field_faults ms) (fields_are_bad ms)

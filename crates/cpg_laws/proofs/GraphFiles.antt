@@ -1,4 +1,4 @@
--- Step by step: where each step is refused by the first of its faults, so is a document.
+-- Step by step: if each step is refused by the first of its faults, so is a document.
 use Rattle.std.proofs.Common.{◌≡◌, ℕ, ◌+◌, ◌&&◌, Bool, true, false, not, List, [], ◌∷◌, ◌++◌, Option, Some, None, is_some, unwrap_or, option_and_then, Ok, Err, length, position, pos, refl, sym, ap, subst, if◌then◌else◌}
 use Rattle.std.specs.Prelude.{bytes_eq, nat_le}
 use Rattle.std.specs.List.{list_any, list_all}
@@ -101,7 +101,7 @@ module _ {T : Type 0} (row : Row) (key : Key) (as_type : Data → Option T) wher
   default_first : (value : T) → IsFirst (of_field row key false as_type (value_at row key)) (with_default value as_type row key)
   default_first value = bind_last (of_field row key false as_type (value_at row key)) (optional as_type row key) (λ found. unwrap_or found value) optional_first
 
-  -- and what is found where it is good
+  -- what is found at a key, or its default, if what stands there is good
   default_by : (value : T) (o : Option Data) (x : T) → (optional_in row key as_type o >>= (λ found. pure (unwrap_or found value))) ≡ Ok x → x ≡ unwrap_or (option_and_then as_type o) value
   default_by value None x e = cc
   default_by value (Some d) x e = by (as_type d) e

@@ -40,7 +40,7 @@ found_parts (Some row) text d e = (row, refl, e)
 
 -- ---- numbers
 
--- where it is missing, a number counts as the least that it may be
+-- if it is missing, a number counts as the least that it may be
 abbrev numbers_in : Members → List Range → List Bounded
 numbers_in row [] = []
 numbers_in row (r ∷ rs) = record { key = r.key; value = integer_in row r.key (pos r.low); low = r.low; high = r.high } ∷ numbers_in row rs

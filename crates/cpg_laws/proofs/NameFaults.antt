@@ -83,7 +83,7 @@ module _ (ms : Members) (good : HasGoodFields ms) where
     names_stand : Stand (λ i name. found_at ms t i key ≡ Some (string name)) 0 names
     names_stand = stand_all (λ i name. found_at ms t i key ≡ Some (string name)) names name_found
 
-    -- a name is none of these exactly where none of the tables has it
+    -- a name is none of these exactly if none of the tables has it
     no_name : (name : List ℕ) → is_some (position (bytes_eq name) names) ≡ false → (j : ℕ) → found_at ms t j key ≢ Some (string name)
     no_name name e j found = true≢false (sym (some_position (bytes_eq name) names ∙ list_any_true (bytes_eq name) names name (Contains-slice_get names j name (found_name j name found)) ((bytes_eq-Decides name name).1 refl)) ∙ e)
 

@@ -95,7 +95,7 @@ fields_rise row keys low p (f ∷ fields) next order =
 row_rises : (row : Row) (fields : List Field) → are_in_order row.table 0 (map (λ f. f.key) fields) ≡ true → Rise (1 ∷ table_number row.table ∷ row.index ∷ []) (bad_in fields row) (1 ∷ table_number row.table ∷ (row.index + 1) ∷ [])
 row_rises row fields order = fields_rise row (map (λ f. f.key) fields) (1 ∷ table_number row.table ∷ row.index ∷ []) 0 fields (λ q l. inr (refl, inr (refl, inr (refl, tt)))) order
 
--- the same of the numbers of a row
+-- the faults of the numbers of a row rise, from a bound before its keys from position p on
 numbers_rise : (table : Table) (i : ℕ) (low : List ℕ) (p : ℕ) (numbers : List Bounded) → ((q : ℕ) → p ≤ q → IsEarlier low (2 ∷ 4 ∷ table_number table ∷ i ∷ q ∷ [])) → are_in_order table p (map (λ n. n.key) numbers) ≡ true →
     Rise low (out_of_range table i numbers) (2 ∷ 4 ∷ table_number table ∷ (i + 1) ∷ [])
 numbers_rise table i low p [] next order = earlier_than_both low (2 ∷ 4 ∷ table_number table ∷ i ∷ p ∷ []) (2 ∷ 4 ∷ table_number table ∷ (i + 1) ∷ []) (next p (omega arith)) (inr (refl, inr (refl, inr (refl, inl (omega arith)))))

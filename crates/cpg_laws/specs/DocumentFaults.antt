@@ -123,7 +123,7 @@ IsDoubleName ms place = (is_own_name place.table place.key ≡ true) × (name : 
     (found_at ms place.table place.index place.key ≡ Some (string name)) × (j : ℕ) × (j < place.index) ×
     (found_at ms place.table j place.key ≡ Some (string name))
 
--- or one stands twice in the order
+-- the name stands earlier in its kind, or some name stands twice in the order
 abbrev pub IsDouble : Members → Place → Type 0
 IsDouble ms place = IsDoubleName ms place ⊎ ((place ≡ order_place) × HasTwice (order_names ms))
 
@@ -135,7 +135,7 @@ named_in tables.Edge From = Some tables.Process
 named_in tables.Edge To = Some tables.Process
 named_in table key = None
 
--- none there has the name
+-- no element of the table that has what the name names has the name
 abbrev pub IsUnknownName : Members → Place → Type 0
 IsUnknownName ms place = (others : Table) × (named_in place.table place.key ≡ Some others) × (name : List ℕ) ×
     (found_at ms place.table place.index place.key ≡ Some (string name)) × ((j : ℕ) → found_at ms others j Name ≢ Some (string name))
@@ -149,7 +149,7 @@ IsUnknown ms place = IsUnknownName ms place ⊎ ((place ≡ order_place) × HasU
 
 -- ---- all
 
--- limits and names are asked of a document whose fields are good
+-- a fault of a document: its limits and names are looked at only if its fields are good
 abbrev pub IsFaultOf : Members → ReadFault → Type 0
 IsFaultOf ms NotToml = ⊥
 IsFaultOf ms (BadField place) = IsBadField ms place
@@ -158,7 +158,7 @@ IsFaultOf ms (DoubleName place) = HasGoodFields ms × IsDouble ms place
 IsFaultOf ms (UnknownName place) = HasGoodFields ms × IsUnknown ms place
 IsFaultOf ms OutOfMemory = ⊥
 
--- and fields of bytes that are a document
+-- a fault of bytes: they are no document, or a document that has the fault
 abbrev pub IsFaultIn : Option Members → ReadFault → Type 0
 IsFaultIn None fault = fault ≡ NotToml
 IsFaultIn (Some ms) fault = IsFaultOf ms fault
@@ -166,8 +166,8 @@ IsFaultIn (Some ms) fault = IsFaultOf ms fault
 abbrev pub IsFaulty : List ℕ → ReadFault → Type 0
 IsFaulty bytes fault = IsFaultIn (document bytes) fault
 
--- The faults of a graph file are those of its document. It is refused with a fault exactly where that is the first of them, of which
--- there is one at most, and read as a graph exactly where nothing is faulty.
+-- The faults of a graph file are those of its document. It is refused with a fault exactly if that is the first of them, of which
+-- there is one at most, and read as a graph exactly if nothing is faulty.
 pub record IsRefusedByDocument (bytes : List ℕ) : Type 0 where
   pub faults : (fault : ReadFault) → Contains (faults_of bytes) fault ↔ IsFaulty bytes fault
   pub first : (fault : ReadFault) → (problem_of bytes ≡ Err fault) ↔ IsFirstOf (IsFaulty bytes) fault

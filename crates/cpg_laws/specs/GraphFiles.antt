@@ -21,7 +21,7 @@ use Rattle.cpg_reader.specs.Ranges.{top_numbers, slot_numbers, process_numbers, 
 use Rattle.cpg_reader.specs.Names.{place, slot_names, process_names}
 use Rattle.cpg_reader.specs.Document.{document_of, problem_of}
 
--- a fault, where something isn't so
+-- a fault, if something isn't so
 abbrev pub unless : Bool → ReadFault → List ReadFault
 unless b fault = if b then [] else fault ∷ []
 
@@ -109,7 +109,7 @@ elements ms key = unwrap_or (option_and_then as_tables (value_at (top_of ms) key
 abbrev pub bad_elements : Table → List Field → List Members → List ReadFault
 bad_elements table fields members = of_each (λ i ms. bad_in fields (record { table = table; index = i; members = ms })) 0 members
 
--- of the whole document: first the keys of the top, then each element of each list
+-- the bad fields of the whole document: first those of the top, then those of each element of each list
 abbrev pub field_faults : Members → List ReadFault
 field_faults ms = bad_in top_fields (top_of ms)
     ++ (bad_elements tables.Node node_fields (elements ms Node)
@@ -154,14 +154,14 @@ abbrev pub differ_from : List (List ℕ) → List (List ℕ) → Bool
 differ_from earlier [] = true
 differ_from earlier (name ∷ names) = not (list_any (bytes_eq name) earlier) && differ_from (earlier ++ name ∷ []) names
 
--- the names of the order have one place
+-- the place of all names of the order
 abbrev pub order_place : Place
 order_place = place tables.Top 0 Order
 
 abbrev pub order_doubles : List (List ℕ) → List ReadFault
 order_doubles order = unless (differ_from [] order) (DoubleName order_place)
 
--- those of nodes, slots and processes, and then that of the order
+-- the names that stand twice: those of nodes, slots and processes, and then that of the order
 abbrev pub double_faults : RawGraph → List ReadFault
 double_faults g = doubles_from tables.Node Name 0 [] g.nodes
     ++ (doubles_from tables.Slot Node 0 [] (slot_names g.slots)
@@ -190,12 +190,12 @@ unknown_faults g = of_each (λ i s. unknown g.nodes s.node tables.Slot i Node) 0
 
 -- ---- all
 
--- what a document says is judged further where its fields are good
+-- what a document says is judged further if its fields are good
 abbrev pub graph_faults : Reading RawGraph → List ReadFault
 graph_faults (Err fault) = []
 graph_faults (Ok g) = limit_faults g ++ (double_faults g ++ unknown_faults g)
 
--- a document is judged where the bytes are one
+-- a document is judged if the bytes are one
 abbrev pub document_faults : Reading Members → List ReadFault
 document_faults (Err fault) = fault ∷ []
 document_faults (Ok ms) = field_faults ms ++ graph_faults (raw_graph_at ms)
@@ -203,7 +203,7 @@ document_faults (Ok ms) = field_faults ms ++ graph_faults (raw_graph_at ms)
 abbrev pub faults_of : List ℕ → List ReadFault
 faults_of bytes = document_faults (document_of bytes)
 
--- a reading is refused by the first of these faults, and where there are none it gives something
+-- a reading is refused by the first of these faults, and if there are none it gives something
 abbrev pub IsFirst : {T : Type 0} → List ReadFault → Reading T → Type 0
 IsFirst {T} [] reading = (x : T) × (reading ≡ Ok x)
 IsFirst (fault ∷ faults) reading = reading ≡ Err fault

@@ -23,12 +23,13 @@ MayAnswer g (Err fault) = ShowsFault g fault
 abbrev pub IsForCycle : Result Admission RuleFault → Type 0
 IsForCycle answer = (walk : List ℕ) × (answer ≡ Err (Cycle walk))
 
--- a graph is refused for a cycle exactly where it has one, and then it is shown one: different processes, the least of them first
+-- a graph is refused for a cycle exactly if it has one, and then it is shown one: different processes, the least of
+-- them first
 pub record RefusesCycles (g : Graph) (answer : Result Admission RuleFault) : Type 0 where
   pub exact : IsForCycle answer ↔ HasCycle g
   pub shown : (walk : List ℕ) → answer ≡ Err (Cycle walk) → IsCycle g walk
 
--- so is each graph, unless memory is wanting
+-- each graph is refused for a cycle exactly if it has one, unless memory runs out
 abbrev pub CyclesAreRefusedFirst : Type 0
 CyclesAreRefusedFirst = (g : Graph) (answer : Result Admission RuleFault) → MayAnswer g answer → answer ≢ Err OutOfMemory → RefusesCycles g answer
 
@@ -66,6 +67,6 @@ pub record AreFirstCauses (g : Graph) : Type 0 where
   pub same : (fault other : RuleFault) → fault ≢ OutOfMemory → other ≢ OutOfMemory → 0 < place_of fault → IsFirstCause g fault →
       IsFirstCause g other → fault ≡ other
 
--- so does the refusal of each graph
+-- the refusal of each graph tells the first cause
 abbrev pub GraphsShowFirstCauses : Type 0
 GraphsShowFirstCauses = (g : Graph) → AreFirstCauses g

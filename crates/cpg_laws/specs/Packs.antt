@@ -9,7 +9,7 @@ pub record ArePackOrRefused (bytes : List ℕ) : Type 0 where
   pub some : ((t : Tables) × AreLawful t × (bytes ≡ spelling t)) ⊎ ((n : ℕ) × IsBadPack bytes n)
   pub one : (n m : ℕ) → IsBadPack bytes n → IsBadPack bytes m → n ≡ m
 
--- so are any bytes
+-- any bytes are a pack, or no pack, and then so from one place on
 abbrev pub PacksAreRefusedAtOnePlace : Type 0
 PacksAreRefusedAtOnePlace = (bytes : List ℕ) → ArePackOrRefused bytes
 

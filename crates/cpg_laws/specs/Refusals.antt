@@ -100,11 +100,12 @@ IsEarlier ns [] = ⊥
 IsEarlier [] (m ∷ ms) = ⊤
 IsEarlier (n ∷ ns) (m ∷ ms) = (n < m) ⊎ ((n ≡ m) × IsEarlier ns ms)
 
--- of an earlier kind, or at an earlier place in its kind
+-- a fault is of an earlier kind than another, or at an earlier place in its kind
 abbrev pub ComesBefore : ReadFault → ReadFault → Type 0
 ComesBefore fault other = (kind_of fault < kind_of other) ⊎ ((kind_of fault ≡ kind_of other) × IsEarlier (place_of fault) (place_of other))
 
--- of the faults that stand it is the first: none of an earlier kind stands anywhere, and none of its kind at an earlier place
+-- a fault is the first of those that stand: none of an earlier kind stands anywhere, and none of its kind at an
+-- earlier place
 pub record IsFirstOf (Stands : ReadFault → Type 0) (fault : ReadFault) : Type 0 where
   pub stands : Stands fault
   pub kinds : (other : ReadFault) → Stands other → kind_of fault ≤ kind_of other
@@ -113,7 +114,7 @@ pub record IsFirstOf (Stands : ReadFault → Type 0) (fault : ReadFault) : Type 
 abbrev pub IsFirstRefusal : List ℕ → ReadFault → Type 0
 IsFirstRefusal bytes fault = IsFirstOf (Contains (faults_of bytes)) fault
 
--- a graph file is refused with a fault exactly where that is its first one, and no two of its faults stand at one place
+-- a graph file is refused with a fault exactly if that is its first one, and no two of its faults stand at one place
 pub record RefusesFirst (bytes : List ℕ) : Type 0 where
   pub first : (fault : ReadFault) → (problem_of bytes ≡ Err fault) ↔ IsFirstRefusal bytes fault
   pub rise : AllPairs ComesBefore (faults_of bytes)

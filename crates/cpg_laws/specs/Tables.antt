@@ -16,7 +16,7 @@ abbrev pub HeardLiteralsAreTrue : Type 0
 HeardLiteralsAreTrue = (g : Graph) (tables : List NodeTable) (node time : ℕ) (s : Scenario) (l : Literal) → IsScenario g s →
     is_heard g.faults (facts g tables node s time) l ≡ true → holds s l ≡ true
 
--- where the literals of columns are on active processes and no two columns of a row match, a formed row has at most as many
+-- if the literals of columns are on active processes and no two columns of a row match, a formed row has at most as many
 -- columns as there are views of its variables
 abbrev pub FormedRowsHaveFewColumns : Type 0
 FormedRowsHaveFewColumns = (g : Graph) (tables : List NodeTable) (urgency reached : List ℕ) (x : ℕ) → process_count g ≤ 128 →

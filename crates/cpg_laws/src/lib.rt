@@ -12,24 +12,24 @@ mod limits;
 
 pub use limits::limits_are_these;
 
-/// A graph file is refused by the first of its faults, and read as a graph where it has none.
+/// A graph file is refused by the first of its faults, and read as a graph if it has none.
 pub fn graph_files_show_first_faults()
     ensures { GraphFilesShowFirstFaults }
 {}
 
-/// A graph file is refused with a fault exactly where it has that fault, none of an earlier kind anywhere, and none of its
+/// A graph file is refused with a fault exactly if it has that fault, none of an earlier kind anywhere, and none of its
 /// kind at an earlier place; no two of its faults stand at one place.
 pub fn refusals_are_first()
     ensures { RefusalsAreFirst }
 {}
 
 /// The faults of a graph file are those that its document has, each kind by what stands at the places of the document; the
-/// file is refused by the first of them, and read as a graph exactly where it has none.
+/// file is refused by the first of them, and read as a graph exactly if it has none.
 pub fn files_are_refused_by_document()
     ensures { FilesAreRefusedByDocument }
 {}
 
-/// A graph is refused for a cycle exactly where it has one, and is shown a cycle then.
+/// A graph is refused for a cycle exactly if it has one, and is shown a cycle then.
 pub fn cycles_are_refused_first()
     ensures { CyclesAreRefusedFirst }
 {}

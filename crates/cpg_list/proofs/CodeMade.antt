@@ -105,7 +105,7 @@ module _ (g : Graph) (urgency order : List ℕ) (frozen : List (Option ℕ)) (ti
         none = λ y other. row_other rows next x is.columns inside is.set y (λ same. other (inr same)) ∙ are.none y (λ old. other (inl old));
       }
 
--- the same under another word for what is made
+-- rows that are made are so under another word for what is made
 pub made_same : (g : Graph) (urgency order : List ℕ) (frozen : List (Option ℕ)) (made also : ℕ → Type 0) (rows : List Row) → AreMade g urgency order frozen made rows → ((x : ℕ) → also x → made x) → ((x : ℕ) → made x → also x)
     → AreMade g urgency order frozen also rows
 made_same g urgency order frozen made also rows are to from = record {

@@ -120,7 +120,7 @@ module _ (g : Graph) (order : List ℕ) (topological : IsTopological g order) (p
           (Contains-numbers (item_count g) y q.within)
     ]
 
-    -- and with it those before the next
+    -- an item before the m-th, or the m-th itself, is before the next
     pub next_to : (y : ℕ) → Contains (queued_before g order nth ++ nth ∷ []) y → Contains (sent_before g order (node_of g p) (place order p) ++ take (m + 1) (queue_of g p)) y
     next_to y j = subst (λ ys. Contains (sent_before g order (node_of g p) (place order p) ++ ys) y) (sym (take_more (queue_of g p) m 0 inside))
         (subst (λ ys. Contains ys y) (append_assoc (sent_before g order (node_of g p) (place order p)) (take m (queue_of g p)) (nth ∷ []))

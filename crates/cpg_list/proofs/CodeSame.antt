@@ -15,7 +15,7 @@ use Rattle.cpg_run.proofs.CarriedBefore.{passed_same, queued_same, end_same}
 
 module _ (g : Graph) (order : List ℕ) (topological : IsTopological g order) (rows others : List (List Column)) (bound : ℕ) (same : SameRowsBefore g order bound rows others) where
   module _ (k : ℕ) (scenarios : List Scenario) (cubes : List (List Literal)) where
-    -- so cubes of it stay cubes of it
+    -- cubes of what earlier processes pass on stay cubes of it
     pub passed_cubes : (processes : List ℕ) → ((q : ℕ) → Contains processes q → place order q ≤ bound) → AreCubesOf k scenarios (passed_by g rows processes) cubes → AreCubesOf k scenarios (passed_by g others processes) cubes
     passed_cubes processes early are = record {
       count = are.count;

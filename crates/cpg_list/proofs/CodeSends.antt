@@ -69,7 +69,7 @@ module _ (g : Graph) (s : Scenario) (p x : ℕ) (by : producer g x ≡ p) (ends 
   pub sends_plain : (queue : List Literal) → is_frozen g x ≡ false → send_after g s x queue ends ≡ queue ++ ends ++ sent_by_value g s x
   sends_plain queue f = ap (λ ls. ls ++ sent_by_value g s x) (cond-false (is_frozen g x) (decided g s (producer g x)) (queue ++ ends) f)
 
--- where what decides the producer is carried at its end already
+-- if what decides the producer is carried at its end already
 pub end_with_value : (k : ℕ) (ds vs es a b : List Literal) → Within ds es → IsNarrowed k (es ++ vs) a b → IsNarrowed k (ds ++ vs ++ es) a b
 end_with_value k ds vs es a b in_ends is = narrowed_same k (es ++ vs) (ds ++ vs ++ es) a b
     (λ l j. elim (Contains-append_cases es vs l j) [

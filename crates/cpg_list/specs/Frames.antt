@@ -19,11 +19,11 @@ rows_in frames = columns_of_rows frames.rows.now
 abbrev pub Tells : Graph → Frames → ℕ → Type 0
 Tells g frames x = RowTells g (rows_in frames) frames.scenario.now frames.times.now x
 
--- that of each broadcast of a condition that decides a process
+-- the row of each broadcast of a condition that decides a process has the times of the run
 abbrev pub TellsDeciding : Graph → Frames → ℕ → Type 0
 TellsDeciding g frames p = (c : ℕ) → Contains (deciding g frames.scenario.now.values p) c → Tells g frames (broadcast_item g c)
 
--- that of each message to a process
+-- the row of each message to a process has the times of the run
 abbrev pub TellsInputs : Graph → Frames → ℕ → Type 0
 TellsInputs g frames p = (e : ℕ) → Contains (inputs g p) e → Tells g frames (message_item g e)
 
@@ -43,7 +43,7 @@ received_in frames e = received_by frames.problem.now (rows_in frames) frames.sc
 abbrev pub received_at : Frames → ℕ → List Literal
 received_at frames p = received frames.problem.now (rows_in frames) frames.scenario.now p
 
--- but for a frozen process
+-- what the messages to a process tell at its start: nothing if it is frozen
 abbrev pub received_at_start : Frames → ℕ → List Literal
 received_at_start frames p = received_unless_frozen frames.problem.now (rows_in frames) frames.scenario.now p
 

@@ -20,7 +20,7 @@ pub record RowTells (g : Graph) (rows : List (List Column)) (s : Scenario) (t : 
   pub times : times_in (row_at rows x) s ≡ option_to_list (get_or t.times x None)
   pub within : AreWithin g.faults (row_at rows x)
 
--- those of each item from an earlier process than this
+-- each item from an earlier process than this has such a row
 abbrev pub EarlierTell : Graph → List ℕ → List (List Column) → Scenario → Times → ℕ → Type 0
 EarlierTell g order rows s t p = (x : ℕ) → x < item_count g → place order (producer g x) < place order p → RowTells g rows s t x
 
@@ -37,15 +37,15 @@ heard_of g rows s node c = if node_of g (process_of g c) == node then [] else to
 abbrev pub received_by : Graph → List (List Column) → Scenario → ℕ → List Literal
 received_by g rows s e = if is_message g e then told_by rows s (message_item g e) else []
 
--- what is carried beside a start, where these literals were carried before
+-- what is carried beside a start, if these literals were carried before
 abbrev pub start_after : Graph → List (List Column) → Scenario → ℕ → List Literal → List Literal
 start_after g rows s p earlier = if (process_at g p).frozen then decided g s p else earlier ++ decided g s p ++ heard g rows s p ++ received g rows s p
 
--- what is carried beside a send, where these literals are left by the queue and carried at the end of the producer
+-- what is carried beside a send, if these literals are left by the queue and carried at the end of the producer
 abbrev pub send_after : Graph → Scenario → ℕ → List Literal → List Literal → List Literal
 send_after g s x queue ends = (if is_frozen g x then decided g s (producer g x) else queue ++ ends) ++ sent_by_value g s x
 
--- what an item leaves to those behind it in the queue, where these literals are carried at the end of the producer
+-- what an item leaves to those behind it in the queue, if these literals are carried at the end of the producer
 abbrev pub queued_after : Graph → Scenario → ℕ → List Literal → List Literal
 queued_after g s y ends = decided g s (producer g y)
     ++ (if active g s.values (producer g y) then sent_by_value g s y else [])
@@ -55,7 +55,7 @@ queued_after g s y ends = decided g s (producer g y)
 abbrev pub received_unless_frozen : Graph → List (List Column) → Scenario → ℕ → List Literal
 received_unless_frozen g rows s p = if (process_at g p).frozen then [] else received g rows s p
 
--- an item has a time exactly where it is active
+-- an item has a time exactly if it is active
 abbrev pub IsTimedIfActive : Graph → Scenario → Times → ℕ → Type 0
 IsTimedIfActive g s t x = is_some (get_or t.times x None) ≡ item_active g s.values (item_at g x)
 

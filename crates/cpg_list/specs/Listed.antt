@@ -35,11 +35,11 @@ pub record IsListed (listed : Listed) : Type 0 where
 abbrev pub HasMade : Listed → (ℕ → Type 0) → List Row → Type 0
 HasMade listed made rows = AreMade (graph_of listed) listed.admitted.now.order listed.order.now listed.frozen.now made rows
 
--- those of the items from processes before the place i
+-- the rows of the items from processes before the place i are made
 abbrev pub HasMadeBefore : Listed → ℕ → List Row → Type 0
 HasMadeBefore listed i rows = HasMade listed (IsBefore (graph_of listed) listed.order.now i) rows
 
--- and of the start of a process
+-- the rows of the items from earlier processes than this and of its start are made
 abbrev pub HasMadeStart : Listed → ℕ → List Row → Type 0
 HasMadeStart listed p rows = HasMade listed (IsStarted (graph_of listed) listed.order.now p) rows
 
@@ -58,7 +58,7 @@ HasPassed listed rows p cubes =
     AreCubesOf (graph_of listed).faults listed.scenarios.now
     (passed_by (graph_of listed) (columns_of_rows rows) (before_on_node (graph_of listed) listed.order.now p)) cubes
 
--- and from the process itself
+-- what the node of a process carries on from the processes before it and from the process itself
 abbrev pub HasPassedBy : Listed → List Row → ℕ → List (List Literal) → Type 0
 HasPassedBy listed rows p cubes =
     AreCubesOf (graph_of listed).faults listed.scenarios.now
@@ -76,7 +76,7 @@ HasQueuedBefore listed rows x cubes =
     AreCubesOf (graph_of listed).faults listed.scenarios.now
     (queued_by (graph_of listed) listed.order.now (columns_of_rows rows) (queued_before (graph_of listed) listed.order.now x)) cubes
 
--- and with the item
+-- what stands in the queue before an item, and the item
 abbrev pub HasQueuedBy : Listed → List Row → ℕ → List (List Literal) → Type 0
 HasQueuedBy listed rows x cubes =
     AreCubesOf (graph_of listed).faults listed.scenarios.now

@@ -22,7 +22,7 @@ pub record AreCubesOf (k : ℕ) (scenarios : List Scenario) (literals : Scenario
   pub count : length cubes ≡ length scenarios
   pub each : (i : ℕ) (s : Scenario) → i < length scenarios → IsCubeOf k (literals (get_or scenarios i s)) (get_or cubes i [])
 
--- the same where only the first n scenarios have all of them, and the others as before
+-- for each of the first n scenarios the cube of its literals, and for each other one the cube of its literals before
 pub record AreCubesUpTo (k : ℕ) (scenarios : List Scenario) (before literals : Scenario → List Literal) (n : ℕ) (cubes : List (List Literal)) : Type 0 where
   pub count : length cubes ≡ length scenarios
   pub done : (i : ℕ) (s : Scenario) → i < n → i < length scenarios → IsCubeOf k (literals (get_or scenarios i s)) (get_or cubes i [])
@@ -56,11 +56,11 @@ pub record AreCarried (g : Graph) (order : List ℕ) (rows : List (List Column))
 abbrev pub IsBefore : Graph → List ℕ → ℕ → ℕ → Type 0
 IsBefore g order i x = place order (producer g x) < i
 
--- or the start of a process
+-- an item from an earlier process than this, or the start of this one
 abbrev pub IsStarted : Graph → List ℕ → ℕ → ℕ → Type 0
 IsStarted g order p x = IsBefore g order (place order p) x ⊎ (x ≡ p)
 
--- or one of the first n items that it sends
+-- an item from an earlier process than this, the start of this one, or one of the first n items that it sends
 abbrev pub IsSent : Graph → List ℕ → ℕ → ℕ → ℕ → Type 0
 IsSent g order p n x = IsStarted g order p x ⊎ Contains (take n (queue_of g p)) x
 

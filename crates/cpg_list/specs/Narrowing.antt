@@ -37,17 +37,17 @@ front_low v (l ∷ ls) = if l.variable == v then l.low else 0
 abbrev pub as_number : ℕ → ℕ → ℕ
 as_number v low = if nat_lt v 128 then low else min low 1
 
--- the entry of a time and a cube, where the scenario is the least of the cube
+-- the entry of a time and a cube, if the scenario is the least of the cube
 abbrev pub IsLeastEntry : Graph → Scenario → ℕ → List Literal → Option Column → Type 0
 IsLeastEntry g s time cube None = lows g cube ≢ s
 IsLeastEntry g s time cube (Some e) = (e.time ≡ time) × (e.cube ≡ cube) × (lows g cube ≡ s)
 
--- the same of whatever cube the literals have
+-- the entry of a time and the literals' cube, if the scenario is the least of this cube
 abbrev pub IsKeptOf : Graph → Scenario → ℕ → List Literal → Option Column → Type 0
 IsKeptOf g s time literals None = (cube : List Literal) → IsCubeOf g.faults literals cube → lows g cube ≢ s
 IsKeptOf g s time literals (Some e) = (e.time ≡ time) × IsCubeOf g.faults literals e.cube × (lows g e.cube ≡ s)
 
--- and at an item's time in a run, if it has one
+-- the entry of an item's time and the literals' cube, if the item has a time and the scenario is the least of the cube
 abbrev pub IsKeptAt : Graph → Scenario → Option ℕ → List Literal → Option Column → Type 0
 IsKeptAt g s None literals r = r ≡ None
 IsKeptAt g s (Some time) literals r = IsKeptOf g s time literals r

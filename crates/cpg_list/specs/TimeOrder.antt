@@ -23,7 +23,7 @@ pub record StartsAt (by_time : List Timed) (time at : ℕ) : Type 0 where
 abbrev pub IsHit : List Column → ℕ → Scenario → ℕ → Type 0
 IsHit columns time s k = (c : Column) → k < length columns → ((get_or columns k c).time ≡ time) × (matches (get_or columns k c).cube s ≡ true)
 
--- the place of such a column, or None where there is none
+-- the place of such a column, or None if there is none
 abbrev pub FindsHit : List Column → ℕ → Scenario → Option ℕ → Type 0
 FindsHit columns time s None = (k : ℕ) (c : Column) → k < length columns → (get_or columns k c).time ≡ time → matches (get_or columns k c).cube s ≡ false
 FindsHit columns time s (Some k) = (k < length columns) × IsHit columns time s k

@@ -70,7 +70,7 @@ fn is_least(problem: &Problem, cube: &Cube, scenario: &Scenario) -> bool
     has_lows(scenario, literals, FIRST_VALUE, end)
 }
 
-/// The entry of a time and a cube, where a scenario is the least of the cube.
+/// The entry of a time and a cube, if a scenario is the least of the cube.
 pub(crate) fn kept(
     problem: &Problem,
     scenario: &Scenario,

@@ -147,7 +147,7 @@ fn make(
 
 /// The rows of all items of a graph, given all scenarios, each once, and their runs: one entry for each group of scenarios
 /// in which the item's node has learnt the same, merged. An item that doesn't go over the bus, and is no start, has no
-/// column. Times are in time units of the graph file; the one error is want of memory.
+/// column. Times are in time units of the graph file; the one error is `OutOfMemory`.
 pub fn rows(
     alloc: Global,
     admitted: &Admitted,

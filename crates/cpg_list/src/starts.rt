@@ -22,7 +22,7 @@ use cpg_cube::{Cube, Entry};
 use cpg_rules::Admitted;
 use std::alloc::Global;
 
-/// The entry of the start of a frozen process, where the scenario is the least of what decides the process.
+/// The entry of the start of a frozen process, if the scenario is the least of what decides the process.
 fn frozen_start(
     alloc: Global,
     problem: &Problem,
@@ -41,7 +41,7 @@ fn frozen_start(
     Ok(entry)
 }
 
-/// The entry of the start of an active process, where the scenario is the least of what is carried there. What the node has
+/// The entry of the start of an active process, if the scenario is the least of what is carried there. What the node has
 /// carried before, and learnt of what decides the process, is narrowed by what the messages to it told, but for a frozen
 /// process.
 fn started(

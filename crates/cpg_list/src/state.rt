@@ -22,7 +22,7 @@ impl Model for Cubes {
 }
 
 impl Cubes {
-    /// So many cubes that match all.
+    /// Makes `count` cubes that match every scenario.
     fn whole(alloc: Global, count: usize) -> Result<Cubes, OutOfMemory>
         ensures { IfOk result (λ cubes. cubes ≡ replicate count []) }
     {
@@ -35,7 +35,7 @@ impl Cubes {
     }
 }
 
-/// For each node as many cubes that match all.
+/// Makes for each node `count` cubes that match every scenario.
 pub(crate) fn whole_by_node(
     alloc: Global,
     problem: &Problem,

@@ -37,7 +37,7 @@ impl Model for TimedRow {
     ghost invariant = { λ r. IsTimeOrder r.columns.items r.by_time.items };
 }
 
-/// The first place whose time is no less than this, where the times rise.
+/// The first place whose time is no less than this, if the times rise.
 fn first_at(by_time: &[Timed], time: u64) -> usize
     requires { (i j : ℕ) (d : Timed) → i ≤ j → j < length by_time.now → (get_or by_time.now i d).time ≤ (get_or by_time.now j d).time }
     ensures { StartsAt by_time.now time result }

@@ -105,7 +105,7 @@ pub on_ok : {T E : Type 0} {P : Type 0} (r : Result T E) → is_err r ≡ false 
 on_ok (Ok x) e p = p
 on_ok (Err x) e p = absurd (true≢false e)
 
--- of the acts, those that aren't told
+-- the acts that aren't told are no more than the acts
 pub rest_few : (told : ℕ) (acts : List Act) → length (take (length acts - told) (drop told acts)) ≤ length acts
 rest_few told acts = omega (arith, length-take (length acts - told) (drop told acts), length-drop told acts)
 
@@ -116,7 +116,7 @@ pub told_lines : (h k : Head) (acts done : List Act) (told : ℕ) (clear items :
 told_lines h k acts done told clear items e none same a =
     e ∙ ap (λ (front : List ℕ). front ++ act_lines k (take (length acts - told) (drop told acts))) none ∙ ap (act_lines k) (rest_is told acts) ∙ ap₂ (λ (h : Head) (acts : List Act). act_lines h (drop told acts)) same a
 
--- of the same node
+-- the lines of the acts that aren't told are the same by the follower before a piece and after it
 pub lines_told : (shelf rest : ShelfState) (f n : Follower) (count : ℕ) → TakesPiece shelf rest f n count → act_lines n.head (drop n.told n.live.progress.acts) ≡ act_lines f.head (drop f.told n.live.progress.acts)
 lines_told shelf rest f n count t = ap (λ (f : Follower). act_lines f.head (drop f.told n.live.progress.acts)) t.state
 
@@ -139,7 +139,7 @@ pub opened : (h k : Head) (table made : NodeTable) (live : LiveState) → k ≡ 
 opened h k table made live same is e =
     ap₂ (λ (h : Head) (s : LiveState). record { head = h; table = s.progress.dispatcher.table; live = s; told = 0; read = 0 }) same (e ∙ ap open_stream is)
 
--- ---- where the shelf met a fault
+-- ---- if the shelf met a fault
 
 -- a fetch that failed
 abbrev pub broken_off : Fetch → Fetch
@@ -230,7 +230,7 @@ breaks_later h table s before Shelf l b = b
 breaks_later h table s before Sink l b = (omega (arith, l, b.0), b.1)
 breaks_later h table s before (Refused fault) l b = b
 
--- the same of an equal pack and table, from an earlier state of the sink on
+-- a fault of an equal pack and table is one of a run, from an earlier state of the sink on
 pub breaks_on : (f n : Follower) (name : List ℕ) (past history : List Fetch) (start : List ℕ) (first old new : SinkState) (broken : Broken) → IsOfSame f n → first.faults ≤ old.faults →
     IsStreamed (λ s. Breaks n.head n.table s broken) name past history start old new → IsStreamed (λ s. Breaks f.head f.table s broken) name past history start first new
 breaks_on f n name past history start first old new broken same l b =

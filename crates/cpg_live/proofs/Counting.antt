@@ -13,7 +13,7 @@ use Rattle.cpg_live.specs.Stream.{LiveState, after, open_stream, refused, settle
 
 -- ---- bytes that are cut into records
 
--- so many bytes, of which less than a record is left
+-- bytes of this count are cut, and less than a record is left
 pub record IsCounted (c : Cut) (count : ℕ) : Type 0 where
   pub part : length c.rest < 14
   pub all : count ≡ 14 * length c.whole + length c.rest

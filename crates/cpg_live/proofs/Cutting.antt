@@ -59,7 +59,7 @@ no_rest s e = go (is_some s.bad) s.closed
 abbrev more : LiveState → List ℕ → LiveState
 more s rest = cond (length rest == 14) (with_rest (take_record s rest) []) (with_rest s rest)
 
--- where a record was lawless
+-- if a record was lawless
 bad_byte : (s : LiveState) (bad : Bad) (rest bytes : List ℕ) (byte : ℕ) → s.bad ≡ Some bad → take_byte (with_rest s rest) byte ≡ more s bytes
 bad_byte s bad rest bytes byte e =
     let t : is_some s.bad ≡ true = ap is_some e in
@@ -102,7 +102,7 @@ closed_byte s rest byte e n c =
         ∙ ap (λ b. cond b (refused s Length) (take_open s (s.rest ++ byte ∷ []))) c
     first (x ∷ xs) = ap (λ z. take_byte z byte) (with_some (x ∷ xs) (omega arith))
 
--- of an open stream
+-- a byte is taken of an open stream
 open_byte : (s : LiveState) (rest : List ℕ) (byte : ℕ) → IsEmpty s → s.bad ≡ None → s.closed ≡ false → take_byte (with_rest s rest) byte ≡ more s (rest ++ byte ∷ [])
 open_byte s rest byte e n c =
     ap (λ z. take_byte z byte) (held rest) ∙ ap (λ b. cond b (record s { rest = rest }) (cond s.closed (refused (record s { rest = rest }) Length) (take_open (record s { rest = rest }) (rest ++ byte ∷ [])))) (ap is_some n)
@@ -128,7 +128,7 @@ next_byte s rest byte e = go s.bad refl
     go (Some bad) n = bad_byte s bad rest (rest ++ byte ∷ []) byte n
     go None n = elim (cases_Bool s.closed) [ inl c ↦ closed_byte s rest byte e n c | inr c ↦ open_byte s rest byte e n c ]
 
--- the same of what the bytes are cut into
+-- a byte is taken of what the bytes are cut into
 cut_next : (table : NodeTable) (c : Cut) (byte : ℕ) → take_byte (after_cut table c) byte ≡ after_cut table (cut_byte c byte)
 cut_next table c byte =
     let s : LiveState = fold take_record (open_stream table) c.whole in

@@ -14,7 +14,7 @@ one_long n l = ap (λ (ds : List ℕ). length ds) (decimal_digit n l)
 pub one_written : (n v : ℕ) (old new : List ℕ) → n < 10 → new ≡ old ++ v ∷ [] → v ≡ 48 + n → new ≡ old ++ decimal n
 one_written n v old new l e d = e ∙ ap (λ x. old ++ x ∷ []) d ∙ ap (λ (ds : List ℕ). old ++ ds) (one_digit n l)
 
--- and of more: the last one behind the others
+-- a number of more digits: the last one stands behind the others
 pub more_long : (n : ℕ) → 10 ≤ n → n < 2 ^ 64 → length (decimal n) ≡ length (decimal (n / 10)) + 1
 more_long n l small = ap (λ (ds : List ℕ). length ds) (decimal_step n l small) ∙ length-append (decimal (n / 10)) ((48 + n % 10) ∷ [])
 

@@ -169,7 +169,7 @@ module _ (t : NodeTable) (made : IsTable t) where
       (y : ℕ) × (next (node h r l) ≡ Some y) × (y ≤ x)
   awaited_next h r l m a x c z = candidate_next (node h r l) x (awaited_candidates (node h r l) made a.few x c) (a.reached x c ∙ z)
 
-  -- where the node of all turns has no instant below a limit, the other has none
+  -- if the node of all turns has no instant below a limit, the other has none
   none_fewer : (h : List Range) (r : List (Option Running)) (l m : Option ℕ) (limit : ℕ) → Alike r l m → NotBelow limit (next (node h r l)) → instant_below limit (next_awaited (node h r m)) ≡ None
   none_fewer h r l m limit a n = elim (below_or_not limit (next_awaited (node h r m))) [
     | inr z ↦ z.none
@@ -181,7 +181,7 @@ module _ (t : NodeTable) (made : IsTable t) where
         absurd (omega (arith, past, y.2, b.less))
   ]
 
-  -- where its next instant is awaited, it is the other's
+  -- if its next instant is awaited, it is the other's
   next_same : (h : List Range) (r : List (Option Running)) (l m : Option ℕ) (time : ℕ) → Alike r l m → next (node h r l) ≡ Some time → Contains (awaited (node h r m)) time →
       next_awaited (node h r m) ≡ Some time
   next_same h r l m time a e c = go (next_awaited (node h r m)) refl
@@ -232,7 +232,7 @@ module _ (t : NodeTable) (made : IsTable t) where
       let q = quiet_turns (node h r l) time k.count (turns_left_out (node h r l) time out h) in
       λ i. record { dispatcher = q.0 i; acts = (ap (λ (more : List Act). a ++ more) q.1 ∙ append-nil a) i }
 
-  -- so many turns of the one, and enough of the other
+  -- this many turns of the one and enough turns of the other leave both alike
   abbrev TurnsAlike : ℕ → ℕ → Type 0
   TurnsAlike n limit =
       (k : ℕ) (h : List Range) (r : List (Option Running)) (l m : Option ℕ)

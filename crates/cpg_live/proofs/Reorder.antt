@@ -32,7 +32,7 @@ module _ (time : ℕ) where
   ready : (p : Progress) → IsReady (turned time p).dispatcher
   ready p = left (next (turned time p).dispatcher) (turned_end time p)
 
-  -- so an event does to a node what it does after these turns
+  -- an event does to a node what it does after the turns before its time
   settled : (p : Progress) (e : Event) → is_close e ≡ false → follow_one (lawful p) (time, e) ≡ follow_one (lawful (turned time p)) (time, e)
   settled p (Arrival f) open' = ap (arrived time f) (sym (turned_last time (turned time p) (ready p)))
   settled p (Ending process faults value) open' = ap (ended time (record { process = process; faults = faults; value = value })) (sym (turned_last time (turned time p) (ready p)))
@@ -74,7 +74,7 @@ module _ (time : ℕ) where
   may_still : (d : Dispatcher) (x y : Ended) → x.process ≢ y.process → may_end (finished d x) time y ≡ may_end d time y
   may_still d x y ne = ap (λ o. may_tell d y && may_end_now d time y o) (other_running x y.process ne d.table.own d.running)
 
-  -- and once alone
+  -- an end may be told only once
   not_again : (d : Dispatcher) (x y : Ended) → x.process ≡ y.process → may_end (finished d x) time y ≡ true → ⊥
   not_again d x y same h =
       let parts = and_parts (may_tell (finished d x) y) (may_end_now (finished d x) time y (running_of (finished d x) y.process)) h in
@@ -199,7 +199,7 @@ at_time f (b ∷ before) after from to h k =
     let below = (take_out (λ (e : ℕ × Event). b.0 ≤ e.0) f before after (not_before b.0 to (before ++ f ∷ after) h.2)).0 in
     ((omega (arith, below, k.0), h.1), at_time f before after b.0 to h.2 k.1)
 
--- and the others rise from it on
+-- events that rise in time do so without any one of them, too
 without : (f : ℕ × Event) (before after : List (ℕ × Event)) (from to : ℕ) → RiseWithin from to (before ++ f ∷ after) → RiseWithin from to (before ++ after)
 without f [] [] from to h = omega (arith, h.0, h.2)
 without f [] (a ∷ after) from to h = (omega (arith, h.0, h.2.0), h.2.1, h.2.2)

@@ -41,7 +41,7 @@ number_fits table (Arrival f) h = h.1
 number_fits table (Ending process faults value) h = h.1
 number_fits table Close h = omega arith
 
--- and tell the event
+-- the numbers of a record tell the event
 told_back : (table : NodeTable) (time : ℕ) (e : Event) → HasRoom table e → event_of table (record_with time e) ≡ Some e
 told_back table time (Arrival f) h = go f.value (nat_lt f.item table.first_broadcast) (λ b. h.2 (ltb-true f.item table.first_broadcast b))
   where

@@ -32,7 +32,7 @@ turn_taken p before after time items more all view comes d a m l =
     (l ∙ ap (λ l. items ++ l) (m ∙ at_some (next before.dispatcher) time (λ t. after.acts ≡ acts_of_turn before.dispatcher t [] []) here a))
     ∙ ap (take_turn time) view
 
--- and there is room for them and for those that are left
+-- there is room for the acts that are added and for those that are left
 pub room_taken : (before after : NodeState) (time n room : ℕ) (more : List Act) → next before.dispatcher ≡ Some time →
     IfSome (next before.dispatcher) (λ t. after.dispatcher ≡ turn before.dispatcher t [] []) → IfSome (next before.dispatcher) (λ t. after.acts ≡ acts_of_turn before.dispatcher t [] []) →
     more ≡ after.acts → n + length (entries_left before.dispatcher) ≤ room → n + length more + length (entries_left after.dispatcher) ≤ room

@@ -30,7 +30,7 @@ took_more a b p q took =
     let n = took.0 in
     (n, omega (arith, took.1, length-append p q), subst (Took a b) (sym (take-append-le n p q (omega (arith, took.1)))) took.2)
 
--- so it is behind bytes that were taken whole
+-- a proper front of some bytes, taken behind bytes that were taken whole, is one of both
 pub took_after : (a b c : List ℕ) (p q : List ℕ) → Took a b p → TookPrefix b c q → TookPrefix a c (p ++ q)
 took_after a b c p q whole took =
     let n = took.0 in
@@ -41,7 +41,7 @@ took_after a b c p q whole took =
 pub after_more : (table : NodeTable) (fed more : List ℕ) → after table (fed ++ more) ≡ take_bytes (after table fed) more
 after_more table fed more = sym (feeds (after table fed) (take_bytes (after table fed) more) more refl table fed refl)
 
--- and add acts alone
+-- more bytes of a stream add acts alone
 pub acts_more : (table : NodeTable) (fed more : List ℕ) → Grows (after table fed).progress.acts (after table (fed ++ more)).progress.acts
 acts_more table fed more =
     let g = bytes_grow (after table fed) more in
@@ -69,7 +69,7 @@ not_long bad e = true≢false (ap is_lawless e)
     is_lawless (Lawless bad) = true
     is_lawless Long = false
 
--- all lines, where the state is known
+-- all lines, if the state is known
 lines_of : (h : Head) (table : NodeTable) (bytes : List ℕ) (s : LiveState) (ends : Result ℕ StreamFault) → after table (read_part bytes) ≡ s → stream_end table bytes ≡ ends → stream_lines h table bytes ≡ act_lines h s.progress.acts ++ close_of ends
 lines_of h table bytes s ends same e = ap₂ (λ (t : LiveState) r. act_lines h t.progress.acts ++ close_of r) same e
 

@@ -104,7 +104,7 @@ module _ (time : ℕ) (acts : List Act) where
       subst (λ z. Told z (hear_all (told_ends d reports) frames)) (sym joined)
       (subst (λ s. Told (follow s (map (frame_event time) frames)) (hear_all (told_ends d reports) frames)) (whole s one.fault) two)
 
-  -- and then the turn
+  -- after a step without a fault the turn comes
   turn_comes : (s : Step) (d : Dispatcher) → Told s d → turned (time + 1) s.progress ≡ take_turn time (at d acts)
   unfolding Holds
   turn_comes s d k =

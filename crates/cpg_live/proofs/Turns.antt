@@ -48,13 +48,13 @@ found_is limit o t e = elim (below_or_not limit o) [
   | inr n ↦ absurd (none-some t (sym n.none ∙ e))
 ]
 
--- where no instant is below the limit, more turns change nothing
+-- if no instant is below the limit, more turns change nothing
 pub still : (n limit : ℕ) (p : Progress) → instant_below limit (next p.dispatcher) ≡ None → turns_below n limit p ≡ p
 unfolding turns_below
 still zero limit p e = refl
 still (suc n) limit p e = ap (λ o. turns_below n limit (turn_if p o)) e ∙ still n limit p e
 
--- nor where so many turns are allowed
+-- more turns change nothing if enough turns for the limit are allowed
 no_more : (n limit : ℕ) (p : Progress) → limit ≤ n + after_last p.dispatcher.last → turns_below n limit p ≡ turns_below (suc n) limit p
 unfolding turns_below
 no_more zero limit p h = elim (below_or_not limit (next p.dispatcher)) [
@@ -73,7 +73,7 @@ unfolding turns_below
 turned_next zero p t e = absurd (omega (arith, (found_is zero (next p.dispatcher) t e).1))
 turned_next (suc m) p t e = sym (no_more m (suc m) (take_turn t p) (omega arith)) ∙ sym (ap (λ o. turns_below m (suc m) (turn_if p o)) e)
 
--- and its end
+-- a loop of turns ends when no instant is below the limit
 pub turned_last : (limit : ℕ) (p : Progress) → instant_below limit (next p.dispatcher) ≡ None → turned limit p ≡ p
 turned_last limit p e = still limit limit p e
 
@@ -92,7 +92,7 @@ turns_end (suc n) limit p h = elim (below_or_not limit (next p.dispatcher)) [
 pub turned_end : (limit : ℕ) (p : Progress) → IsTurned (turned limit p).dispatcher limit
 turned_end limit p = turns_end limit limit p (omega arith)
 
--- the last turn is before the limit, where it was
+-- the last turn is before the limit, if it was
 turns_after : (n limit : ℕ) (p : Progress) → is_after p.dispatcher.last limit ≡ true → is_after (turns_below n limit p).dispatcher.last limit ≡ true
 unfolding turns_below
 turns_after zero limit p h = h

@@ -56,7 +56,7 @@ pub record IsAlong (name : List ℕ) (past history : List Fetch) (start now : Li
   pub all_told : f.told ≡ length f.live.progress.acts
   pub wrote : Took start now (act_lines f.head f.live.progress.acts)
 
--- the same after a piece of this many bytes; a piece of no bytes is the end of the stream
+-- a follower along a stream, after a piece of this many bytes; a piece of no bytes is the end of the stream
 pub record IsAlongAt (count : ℕ) (name : List ℕ) (past history : List Fetch) (start now : List ℕ) (f : Follower) : Type 0 where
   pub along : IsAlong name past history start now f
   pub end : count ≡ 0 → along.fetch.ended ≡ true

@@ -52,7 +52,7 @@ fn append_number(out: &mut Vec<u8>, number: u64)
     append_decimal(out, number);
 }
 
-/// What a process is called, and nothing where there is no such process.
+/// What a process is called, and nothing if there is no such process.
 fn process_name(head: &Head, process: u32) -> &str
     ensures text { result.now ≡ process_name (head_labels head.now) process }
     ensures few { length result.now ≤ 32 }
@@ -63,7 +63,7 @@ fn process_name(head: &Head, process: u32) -> &str
     }
 }
 
-/// What the process of a condition is called, and nothing where there is no such condition.
+/// What the process of a condition is called, and nothing if there is no such condition.
 fn condition_name(head: &Head, condition: u32) -> &str
     ensures text { result.now ≡ condition_name (head_labels head.now) condition }
     ensures few { length result.now ≤ 32 }

@@ -6,7 +6,7 @@ ghost use Rattle.cpg_live.specs.Stream.{may_tell, may_end, may_end_now};
 
 use cpg_node::{Ended, Node, own_of};
 
-/// A fault count of a record, where it isn't above what there may be.
+/// A fault count of a record, if it isn't above what there may be.
 pub fn count_within(number: u16, most: u8) -> Option<u8>
     ensures count { IfSome result (λ faults. faults ≡ number) }
     ensures few { is_some result ≡ nat_le number most }

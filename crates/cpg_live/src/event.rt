@@ -61,7 +61,7 @@ fn told(read: &Record) -> Event
     Event::Close
 }
 
-/// What a record tells. `None` exactly where its kind isn't lawful.
+/// What a record tells. `None` exactly if its kind isn't lawful.
 pub fn event_of(table: &NodeTable, read: &Record) -> Option<Event>
     ensures { result ≡ event_of table.now read.now }
 {

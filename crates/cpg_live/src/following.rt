@@ -33,7 +33,7 @@ pub fn stream_limit_is_this()
 /// Why a stream is refused.
 #[derive(Clone, Copy, Debug, PartialEq, Eq)]
 pub enum StreamFault {
-    /// Its first lawless record, which is the awaited one where it ends without a close.
+    /// Its first lawless record, which is the awaited one if it ends without a close.
     Lawless(Bad),
     /// It has more than 16,777,216 records, of which so many are lawful and none is a close.
     Long,

@@ -33,7 +33,7 @@ impl Model for Progress {
     ghost invariant = { HasRoom };
 }
 
-/// How many acts the node of a table can do: one for each column of what it sends and starts. `None` exactly where a machine
+/// How many acts the node of a table can do: one for each column of what it sends and starts. `None` exactly if a machine
 /// word can't hold so many.
 pub fn count_entries(table: &NodeTable) -> Option<usize>
     ensures count { IfSome result (λ count. count ≡ column_count table.now.sends + column_count table.now.starts) }
@@ -72,7 +72,7 @@ impl Progress {
         self.acts.as_slice()
     }
 
-    /// The next instant, where it isn't later than this.
+    /// The next instant, if it isn't later than this.
     fn instant_to(&self, last: u64) -> Option<u64>
         ensures { result ≡ instant_below (last + 1) (next self.now.dispatcher) }
     {

@@ -40,7 +40,7 @@ lines_cut (b ∷ bs) rest h = let p = or_parts (b == 10) (list_any (λ b. b == 1
 pub lines_parted : (bytes line rest : List ℕ) → IsParted 10 bytes line rest → lines bytes ≡ line ∷ lines rest
 lines_parted bytes line rest p = ap lines p.whole ∙ lines_cut line rest p.first
 
--- or at the end
+-- bytes without a line feed are one line
 pub lines_whole : (bytes : List ℕ) → 0 < length bytes → list_any (λ b. b == 10) bytes ≡ false → lines bytes ≡ bytes ∷ []
 lines_whole [] l h = absurd (omega arith)
 lines_whole (b ∷ []) l h = cond-false (b == 10) ([] ∷ []) ((b ∷ []) ∷ []) (or_parts (b == 10) false h).0

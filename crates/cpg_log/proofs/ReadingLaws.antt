@@ -19,7 +19,7 @@ use Rattle.cpg_log.proofs.TextLaws.{spaced, same_line}
 pub act_parts : (g : Graph) (line digits text : List ℕ) (act : Logged) → IsParted 32 line digits text → act.time < 2 ^ 60 → line ≡ act_line g act → (digits ≡ decimal act.time) × (text ≡ act_text g act.item)
 act_parts g line digits text act p early e = same_parts 32 digits (decimal act.time) text (act_text g act.item) p.first (decimal_spaceless act.time early) (sym p.whole ∙ e ∙ spaced (decimal act.time) (act_text g act.item))
 
--- and the first line after its word
+-- the first line is parted after its word
 pub until_parts : (line word digits : List ℕ) (until : ℕ) → IsParted 32 line word digits → line ≡ until_line until → (word ≡ codes "until") × (digits ≡ decimal until)
 until_parts line word digits until p e = same_parts 32 word (codes "until") digits (decimal until) p.first refl (sym p.whole ∙ e)
 

@@ -99,7 +99,7 @@ module _ (g : Graph) (limits : IsWithinLimits g) where
       (same_parts 32 (get_or g.nodes (home g x) []) (get_or g.nodes (home g y) []) (text (item_at g x)) (text (item_at g y)) (name_spaceless _ (named x l)) (name_spaceless _ (named y h))
       (sym (spaced (get_or g.nodes (home g x) []) (text (item_at g x))) ∙ e ∙ spaced (get_or g.nodes (home g y) []) (text (item_at g y)))).1
 
-  -- so an act has one line
+  -- acts with the same line are the same
   pub same_line : HaveNames g (item_count g) → (until later : ℕ) → until < 2 ^ 60 → later < 2 ^ 60 → (a b : Logged) → IsActBy g until a → IsActBy g later b → act_line g a ≡ act_line g b → a ≡ b
   same_line named until later early soon a b is by e =
       let r = same_parts 32 (decimal a.time) (decimal b.time) (act_text g a.item) (act_text g b.item) (decimal_spaceless a.time (omega (arith, is.time, early))) (decimal_spaceless b.time (omega (arith, by.time, soon)))

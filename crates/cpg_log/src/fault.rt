@@ -7,7 +7,7 @@ use cpg_base::OutOfMemory;
 pub enum LogFault {
     /// The first line that makes it none, counted from 0.
     Bad(u64),
-    /// Want of memory.
+    /// Out of memory.
     OutOfMemory,
 }
 

@@ -12,7 +12,7 @@ fn place_of(bytes: &[u8], byte: u8) -> Option<usize>
     bytes.iter().position(|other| *other == byte)
 }
 
-/// The bytes before the first such byte and those after it, and `None` exactly where there is none.
+/// The bytes before the first such byte and those after it, and `None` exactly if there is none.
 pub fn parted(bytes: &[u8], byte: u8) -> Option<(&[u8], &[u8])>
     ensures some { IfSome result (λ r. IsParted byte bytes.now r.0.now r.1.now) }
     ensures none { IfNone result (list_any (λ b. b == byte) bytes.now ≡ false) }

@@ -43,7 +43,7 @@ impl Log {
         self.acts.as_slice()
     }
 
-    /// When an item is logged, and `None` exactly where it isn't.
+    /// When an item is logged, and `None` exactly if it isn't.
     pub fn time_of(&self, item: u32) -> Option<u64>
         ensures { result ≡ logged_time self.now.acts item }
     {

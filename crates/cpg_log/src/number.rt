@@ -9,7 +9,7 @@ use std::alloc::Global;
 /// No time of a log is this late.
 const TOO_LATE: u64 = 1 << 60;
 
-/// The number below 2^60 that some digits write, where they are those of a time.
+/// The number below 2^60 that some digits write, if they are those of a time.
 fn number(digits: &[u8]) -> Option<u64>
     ensures early { IfSome result (λ n. n < 2 ^ 60) }
     ensures is { (n : ℕ) → n < 2 ^ 60 → digits.now ≡ decimal n → result ≡ Some n }
@@ -36,7 +36,7 @@ fn written(alloc: Global, number: u64) -> Result<String, OutOfMemory>
     Ok(text)
 }
 
-/// The time below 2^60 that decimal digits without leading zeros write, and `None` exactly where there is none.
+/// The time below 2^60 that decimal digits without leading zeros write, and `None` exactly if there is none.
 pub fn time(alloc: Global, digits: &[u8]) -> Result<Option<u64>, OutOfMemory>
     ensures some { IfOk result (λ r. IfSome r (λ n. (digits.now ≡ decimal n) × (n < 2 ^ 60))) }
     ensures none { IfOk result (λ r. IfNone r ((n : ℕ) → n < 2 ^ 60 → digits.now ≢ decimal n)) }

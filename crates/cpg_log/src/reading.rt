@@ -19,7 +19,7 @@ use std::alloc::Global;
 /// What the first line begins with.
 const UNTIL: &[u8] = b"until";
 
-/// The time until which a line says that a log goes, and `None` exactly where it says none.
+/// The time until which a line says that a log goes, and `None` exactly if it says none.
 fn until_of(alloc: Global, line: &[u8]) -> Result<Option<u64>, OutOfMemory>
     ensures some { IfOk result (λ r. IfSome r (λ until. (line.now ≡ until_line until) × (until < 2 ^ 60))) }
     ensures none { IfOk result (λ r. IfNone r ((until : ℕ) → until < 2 ^ 60 → line.now ≢ until_line until)) }
@@ -34,7 +34,7 @@ fn until_of(alloc: Global, line: &[u8]) -> Result<Option<u64>, OutOfMemory>
     Ok(until)
 }
 
-/// The act of a line that a log may go on with, and `None` exactly where there is none.
+/// The act of a line that a log may go on with, and `None` exactly if there is none.
 fn act_of(
     alloc: Global,
     problem: &Problem,
@@ -62,7 +62,7 @@ fn act_of(
     Ok(Some(Logged { time, item }))
 }
 
-/// Adds the act of a line to a log, and answers false exactly where the line is of none that the log may go on with.
+/// Adds the act of a line to a log, and answers false exactly if the line is of none that the log may go on with.
 fn go_on(
     alloc: Global,
     problem: &Problem,
@@ -120,7 +120,7 @@ fn opened(alloc: Global, bytes: &[u8]) -> Result<(Log, &[u8]), LogFault>
     Ok((Log { until, acts }, rest))
 }
 
-/// The log that a file spells. `Bad` comes exactly where some line isn't of its form, names no item, names another node
+/// The log that a file spells. `Bad` comes exactly if some line isn't of its form, names no item, names another node
 /// than the one that starts or sends it, names an item of an earlier line or has a time past that of the first line, and
 /// tells the first such line, counted from 0; a file without a line lacks line 0.
 pub fn read_log(alloc: Global, problem: &Problem, bytes: &[u8]) -> Result<Log, LogFault>

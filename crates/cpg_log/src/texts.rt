@@ -83,7 +83,7 @@ fn is_named(problem: &Problem, texts: &[String], log: &Log, item: u32, text: &[u
     log.time_of(item).is_none()
 }
 
-/// The item that a text names, of those that a node starts or sends and a log doesn't name yet; `None` exactly where there
+/// The item that a text names, of those that a node starts or sends and a log doesn't name yet; `None` exactly if there
 /// is none.
 pub fn item_named(problem: &Problem, texts: &[String], log: &Log, text: &[u8]) -> Option<u32>
     requires { map string_bytes texts.now ≡ map (act_text problem.now) (numbers_below (item_count problem.now)) }

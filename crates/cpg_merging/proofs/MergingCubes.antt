@@ -18,7 +18,7 @@ use Rattle.cpg_merging.specs.Merged.{HaveNoWhole}
 use Rattle.cpg_merging.specs.Merging.{shorn, all_shorn, without, raised}
 use Rattle.cpg_cube.proofs.Ranges.{same_literal}
 
--- where one literal leads two lists with the same ranges, the lists have the same ranges
+-- if one literal leads two lists with the same ranges, the lists have the same ranges
 same_low : (l : Literal) (xs ys : List Literal) (v : ℕ) → low_in xs v ≡ low_in ys v → low_in (l ∷ xs) v ≡ low_in (l ∷ ys) v
 same_low l xs ys v e = ap (λ n. cond (l.variable == v) l.low n) e
 
@@ -41,7 +41,7 @@ rest-high : (k : ℕ) (l : Literal) (ls : List Literal) → IsRising (l ∷ ls) 
 rest-high k l ls r = high_in-none k ls l.variable (λ m c e. let h = rising_first l m ls r c in omega arith)
 
 module _ (k : ℕ) where
-  -- where no literal has the whole range, none is left out
+  -- if no literal has the whole range, none is left out
   cube_kept : (cube : List Literal) → list_any (is_whole k) cube ≡ false → shorn k cube ≡ cube
   cube_kept [] e = refl
   cube_kept (l ∷ ls) e =
@@ -149,7 +149,7 @@ module _ (v : ℕ) where
             high_in-later k (with_high l) (raised v high ls) u other ∙ ih ∙ sym (high_in-later k l ls u other)
         go false e ih = same_high k l (raised v high ls) ls u ih
 
-    -- where it ended before the top, so that the cube speaks of it
+    -- if it ended before the top, so that the cube speaks of it
     pub raised-high_here : (k : ℕ) (cube : List Literal) → high_in k cube v < top k v → high_in k (raised v high cube) v ≡ high
     raised-high_here k [] h = absurd (omega arith)
     raised-high_here k (l ∷ ls) h = go (l.variable == v) refl (raised-high_here k ls)

@@ -1,4 +1,4 @@
--- Columns don't touch where those of one time ask equally much.
+-- Columns don't touch if those of one time ask equally much.
 use Rattle.std.proofs.Common.{ℕ, zero, suc, ◌+◌, ◌-◌, ◌*◌, ◌/◌, ◌%◌, ◌^◌, ◌<◌, ◌≤◌, ◌≡◌, Bool, true, false, cond, nat_lt, List, length, get_or, map, sum_by, Contains, IsPermutation, arith, refl, sym, ap, ◌∙◌, subst, inl, inr}
 use Rattle.std.specs.Bool.{OnFalse}
 use Rattle.std.proofs.lemmas.Bool.{cases_lt}
@@ -20,7 +20,7 @@ use Rattle.cpg_merging.proofs.MergingTotals.{of_range, spoken, sum_parts}
 
 -- ---- sorted numbers of which no two neighbours differ within a time
 
--- neighbours before a place are equal where their times are
+-- neighbours before a place are equal if their times are
 abbrev pub NeighboursAgree : List ℕ → ℕ → Type 0
 NeighboursAgree ns n = (i : ℕ) → i + 1 < n → get_or ns i 0 / 256 ≡ get_or ns (i + 1) 0 / 256 → get_or ns i 0 ≡ get_or ns (i + 1) 0
 
@@ -97,7 +97,7 @@ module _ (g : Graph) (few : process_count g ≤ 128) (faults : g.faults ≤ 8) (
 pub agree_sorted : (ns sorted : List ℕ) → IsPermutation ns sorted → AgreeByTime sorted → AgreeByTime ns
 agree_sorted ns sorted p h m n c d same = h m n (Contains-permutation ns sorted m p c) (Contains-permutation ns sorted n p d) same
 
--- what a test tells where it fails tells what follows from it
+-- what a test tells if it fails tells what follows from it
 pub off_weaker : {P Q : Type 0} (b : Bool) → (P → Q) → OnFalse b P → OnFalse b Q
 off_weaker true f h = h
 off_weaker false f h = f h

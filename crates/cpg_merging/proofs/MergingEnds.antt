@@ -68,7 +68,7 @@ one_column columns s c d h m n x y = one_element (filter (λ (z : Column). match
 time_there : (columns : List Column) (s : Scenario) (c : Column) → Contains columns c → matches c.cube s ≡ true → Contains (times_in columns s) c.time
 time_there columns s c m x = Contains-map (λ (z : Column). z.time) (filter (λ (z : Column). matches z.cube s) columns) c (Contains-filter (λ (z : Column). matches z.cube s) columns c x m)
 
--- and a time is one of a column that matches
+-- a time is one of a column that matches
 column_there : (columns : List Column) (s : Scenario) (t : ℕ) → Contains (times_in columns s) t → (c : Column) × Contains columns c × (matches c.cube s ≡ true)
 column_there columns s t m =
     let r = Contains-map_parts (λ (z : Column). z.time) (filter (λ (z : Column). matches z.cube s) columns) t m in

@@ -19,7 +19,7 @@ use Rattle.cpg_merging.proofs.MergingTotals.{of_range, spoken, sum_parts, touch_
 
 -- ---- which columns are chosen
 
--- of two columns of one kind that ask differently either is, since a place tells but one
+-- if two columns of one kind ask differently, both are chosen, since a place tells but one
 pub both_chosen : (told : List ℕ) (differing : List Bool) (columns : List Column) → length differing ≡ length told → AreTold told differing (map kind_of columns) → HoldCandidates columns (filter (is_candidate differing) columns)
 both_chosen told differing columns long tell c d there other same apart = (
   Contains-filter (is_candidate differing) columns c (chosen c d there other same apart) there,
@@ -67,7 +67,7 @@ module _ (g : Graph) (few : process_count g ≤ 128) (faults : g.faults ≤ 8) (
       apart : (a b w low high : ℕ) → a ≡ w + low → b ≡ w + high → low < high → high ≤ 8 → a % 256 ≢ b % 256
       apart a b w low high e f less small same = omega (arith, e, f, less, small, same)
 
-  -- so they are candidates
+  -- columns that touch are candidates
   module _ (xs : List Column) (good : AreGood g xs) (c d : Column) (m : Contains xs c) (n : Contains xs d) (same : c.time ≡ d.time) (touch : TouchAt g.faults v c.cube d.cube) where
     good_in : (x : Column) → Contains xs x → IsGood g x.cube
     good_in x h = All-contains (λ (y : Column). IsGood g y.cube) xs x good h
@@ -80,7 +80,7 @@ module _ (g : Graph) (few : process_count g ≤ 128) (faults : g.faults ≤ 8) (
         let both = both_held ys hold in
         touch_partner g few v known c d (good_in c m) (good_in d n) same touch (map total_of ys) (Contains-map total_of ys c both.0) (λ l j i. all d l both.1 j (λ on. off (subst (IsMarked marks) i on)))
 
-  -- and none touch where there are no candidates
+  -- no columns touch if there are no candidates
   pub settled_none : (xs : List Column) → AreGood g xs → {X : Type 0} (f : X → Column) (ys : List X) → HoldCandidates xs (map f ys) → length ys ≡ 0 → IsSettledOn g.faults v xs
   settled_none xs good f ys hold none c d m n e t = Contains-nil c (subst (λ zs. Contains (map f zs) c) (nil_from_length ys none) (both_held xs good c d m n e t (map f ys) hold).0)
 

@@ -74,7 +74,7 @@ touch_of k v c d h =
 pub time_of : (k v : ℕ) (c d : Column) → is_followed k v c d ≡ true → c.time ≡ d.time
 time_of k v c d h = (beside_equal v c d (followed_parts k v c d h).0).0
 
--- of two that never match together one stands for what matches either
+-- one column stands for what matches either of two that never match together
 times_of_one : (t : ℕ) (rest : List ℕ) (a b m : Bool) → (a ≡ true → b ≡ true → ⊥) → (m ≡ true → (a ≡ true) ⊎ (b ≡ true)) → (a ≡ true → m ≡ true) → (b ≡ true → m ≡ true) →
     cond m (t ∷ rest) rest ≡ cond a (t ∷ cond b (t ∷ rest) rest) (cond b (t ∷ rest) rest)
 times_of_one t rest true true m n e x y = absurd (n refl refl)

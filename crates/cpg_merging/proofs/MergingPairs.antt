@@ -65,7 +65,7 @@ shorn_narrow k cube w = All-from_each {P = λ l. (is_whole k l ≡ false) × (l.
     (not-true (is_whole k l) r.1, All-contains (λ (m : Literal). m.high ≤ top k m.variable) cube l w r.0))
 
 module _ (g : Graph) (few : process_count g ≤ 128) where
-  -- where all numbers are in range
+  -- if all numbers are in range
   pub matches_in_ranges : (cube : List Literal) (s : Scenario) → IsRising cube
       → ((l : Literal) → Contains cube l → (low_in cube l.variable ≤ number_of s l.variable) × (number_of s l.variable ≤ high_in g.faults cube l.variable)) → matches cube s ≡ true
   matches_in_ranges cube s r h = all_from (holds s) cube (λ l c.

@@ -42,14 +42,14 @@ apart_pairs {X} p (x ∷ xs) h = AllPairs-cons_by (λ x y. p x ≡ true → p y 
     both y px c true e l = omega (arith, c.1)
     both y px c false e l = cc
 
--- of columns that no scenario matches two of, no pair matches one
+-- if no scenario matches two of the columns, no pair matches one
 pub pairs_apart : (g : Graph) (columns : List Column) → ((s : Scenario) → IsScenario g s → length (times_in columns s) ≤ 1) →
     AllPairs (λ c d. (s : Scenario) → IsScenario g s → matches c.cube s ≡ true → matches d.cube s ≡ true → ⊥) columns
 pairs_apart g columns h = λ i j d l k s is. apart_pairs (λ (c : Column). matches c.cube s) columns
     (let e = length-map (filter (λ (c : Column). matches c.cube s) columns) (λ (c : Column). c.time) in let m = h s is in omega arith) i j d l k
 
 module _ (g : Graph) (few : process_count g ≤ 128) where
-  -- where the other ranges are equal, and the second's low is within the first's range, both match some scenario
+  -- if the other ranges are equal, and the second's low is within the first's range, both match some scenario
   pub share : (v : ℕ) (a b : List Literal) → IsGood g a → IsGood g b → ((u : ℕ) → u ≢ v → (low_in a u ≡ low_in b u) × (high_in g.faults a u ≡ high_in g.faults b u)) →
       low_in a v ≤ low_in b v → low_in b v ≤ high_in g.faults a v → (s : Scenario) × IsScenario g s × (matches a s ≡ true) × (matches b s ≡ true)
   share v a b good_a good_b others l h =
@@ -67,7 +67,7 @@ module _ (g : Graph) (few : process_count g ≤ 128) where
       )
 
   module _ (v : ℕ) (known : IsVariable g v) where
-    -- the second doesn't come before the first, and where they differ in the variable alone its range lies above
+    -- the second doesn't come before the first, and if they differ in the variable alone its range lies above
     pub record Before (c d : Column) : Type 0 where
       pub group : is_lt (beside_cmp v d c) ≡ false
       pub later : beside_cmp v c d ≡ Equal → high_in g.faults c.cube v < low_in d.cube v
@@ -266,6 +266,6 @@ module _ (g : Graph) (few : process_count g ≤ 128) where
         s)
         (cases_order m.0 n.0)
 
-    -- so sorted columns are settled when they have been walked over
+    -- sorted columns are settled when they have been walked over
     pub settled : (c : Column) (ds : List Column) → AreGood g (c ∷ ds) → ((s : Scenario) → IsScenario g s → length (times_in (c ∷ ds) s) ≤ 1) → IsSortedBy (λ x y. is_lt (column_cmp v x y)) (c ∷ ds) → IsSettledOn g.faults v (walked g.faults v c ds)
     settled c ds good single up = settled_from (walked g.faults v c ds) (walk g few v known c ds good).good (walked_untouched c ds good (before_pairs (c ∷ ds) good single up))

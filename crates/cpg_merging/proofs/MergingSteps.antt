@@ -219,14 +219,14 @@ module _ (g : Graph) where
       (λ (l : IsPermutation xs ys × ((v : ℕ) → P v → IsSettledOn g.faults v ys)). l.1)
       k.fewer
 
-  -- and the same in some order
+  -- columns that are as many as before are the same in some order
   pub permuted_same : (P : ℕ → Type 0) (xs ys : List Column) → IsPassed g P xs ys → length ys ≡ length xs → IsPermutation xs ys
   permuted_same P xs ys k e = ⊎_elim
       (λ (l : length ys < length xs). absurd (omega arith))
       (λ (l : IsPermutation xs ys × ((v : ℕ) → P v → IsSettledOn g.faults v ys)). l.0)
       k.fewer
 
-  -- and else they are fewer
+  -- columns that are not as many as before are fewer
   pub fewer_else : (P : ℕ → Type 0) (xs ys : List Column) → IsPassed g P xs ys → length ys ≢ length xs → length ys < length xs
   fewer_else P xs ys k n = ⊎_elim
       (λ (l : length ys < length xs). l)
@@ -241,7 +241,7 @@ sorted_through before middle after h k t =
     let earlier = h later.0 in
     (earlier.0, later.1 ∙ earlier.1)
 
--- so columns stand by lows where they're known to, if those of before did
+-- columns that are known to stand by lows do so, if those of before did when they were known to
 pub sorted_still : (g : Graph) (order : List ℕ) (before after : Listing) → (before.is_sorted ≡ true → AreByLows (λ (c : Column). c.cube) g order before.columns.items) → IsSortedAs before after →
     after.is_sorted ≡ true → AreByLows (λ (c : Column). c.cube) g order after.columns.items
 sorted_still g order before after stood same t = let is = same t in subst (AreByLows (λ (c : Column). c.cube) g order) (sym is.1) (stood is.0)

@@ -113,7 +113,7 @@ module _ (g : Graph) (few : process_count g ≤ 128) (v : ℕ) (known : IsVariab
 pub marked_sorted : (columns : List Column) (marks : List Bool) (sorted : List ℕ) → IsPermutation (map total_of columns) sorted → AreMarkedBy sorted marks columns → AreMarkedBy (map total_of columns) marks columns
 marked_sorted columns marks sorted p h = λ d l m n off low rest less is there. h d l m n off low rest less is (Contains-permutation (map total_of columns) sorted _ p there)
 
--- and columns have the marks that they have in another order
+-- columns have the marks that they have in another order
 pub marked_permuted : (g : Graph) (xs ys : List Column) (marks : List Bool) → IsPermutation xs ys → AreMarked g marks xs → AreMarked g marks ys
 marked_permuted g xs ys marks p h = λ v known off c d m n. let back = IsPermutation-sym xs ys p in
     h v known off c d (Contains-permutation ys xs c back m) (Contains-permutation ys xs d back n)
@@ -131,7 +131,7 @@ all_more P xs i d within before here m c = elim (Contains-push_cases (take i xs)
   | inr e ↦ subst P e here
 ]
 
--- and of those before the end of all
+-- what holds of the elements before the end of all holds of all
 pub all_of : {X : Type 0} (P : X → Type 0) (xs : List X) (i : ℕ) → length xs ≤ i → ((m : X) → Contains (take i xs) m → P m) → (m : X) → Contains xs m → P m
 all_of P xs i long before m c = before m (subst (λ ys. Contains ys m) (sym (take_all i xs long)) c)
 
@@ -163,14 +163,14 @@ not_there xs x (Err i) h up = λ there.
 
 -- ---- marks of variables
 
--- where none is found none is marked
+-- if none is found, none is marked
 pub none_on : (p : Bool → Bool) → p true ≡ true → (marks : List Bool) → list_any p marks ≡ false → (v : ℕ) → ¬ IsMarked marks v
 none_on p is marks none v on = elim (cases_lt v (length marks)) [
   | inl l ↦ true≢false (sym is ∙ from_any_false p marks true none (subst (Contains marks) on (Contains-get_or marks v false l)))
   | inr l ↦ true≢false (sym on ∙ get_or_past marks v false l)
 ]
 
--- a mark set where there was none leaves the others
+-- a mark set if there was none leaves the others
 pub mark_kept : (marks : List Bool) (place : ℕ) (b : Bool) → get_or marks place false ≡ false → (v : ℕ) → IsMarked marks v → IsMarked (slice_set marks place b) v
 mark_kept marks place b off v on = elim (cases_eq v place) [
   | inl e ↦ absurd (true≢false (sym on ∙ ap (λ (p : ℕ). get_or marks p false) e ∙ off))

@@ -18,11 +18,11 @@ kind_by time literals = record { number = mixed (mixed 0 time) (sum_by square_of
 abbrev pub kind_of : Column → Kind
 kind_of c = kind_by c.time c.cube
 
--- a column of this kind asks what its place tells, where no difference is noted
+-- a column of this kind asks what its place tells, if no difference is noted
 abbrev pub IsTold : List ℕ → List Bool → Kind → Type 0
 IsTold told differing kind = ¬ IsMarked differing (place_in (length told) kind.number) → get_or told (place_in (length told) kind.number) 0 ≡ kind.asked
 
--- so do those of these kinds
+-- columns of these kinds ask what their places tell, if no difference is noted
 abbrev pub AreTold : List ℕ → List Bool → List Kind → Type 0
 AreTold told differing kinds = (kind : Kind) → Contains kinds kind → IsTold told differing kind
 

@@ -20,7 +20,7 @@ IsColumn columns i c = slice_get columns i ≡ Some c
 abbrev pub AreMet : Graph → List ℕ → List Column → Type 0
 AreMet g order columns = All (λ c. (s : Scenario) × IsLeastMatch g order c s) columns
 
--- they stand by the least scenario that they match
+-- columns stand by the least scenario that they match
 abbrev pub AreOrdered : Graph → List ℕ → List Column → Type 0
 AreOrdered g order columns = (i j : ℕ) (c d : Column) (s t : Scenario) → i < j → IsColumn columns i c → IsColumn columns j d →
     IsLeastMatch g order c s → IsLeastMatch g order d t → IsTrue (is_before g order s t)

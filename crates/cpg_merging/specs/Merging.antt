@@ -32,7 +32,7 @@ literal_cmp l m = ordering_then (nat_cmp l.variable m.variable) (ordering_then (
 abbrev pub beside_cmp : ℕ → Column → Column → Ordering
 beside_cmp v c d = ordering_then (nat_cmp c.time d.time) (slice_cmp literal_cmp (without v c.cube) (without v d.cube))
 
--- and then by the low of the variable
+-- columns by time, by their literals on other variables, and then by the low of the variable
 abbrev pub column_cmp : ℕ → Column → Column → Ordering
 column_cmp v c d = ordering_then (beside_cmp v c d) (nat_cmp (low_in c.cube v) (low_in d.cube v))
 
@@ -49,7 +49,7 @@ abbrev pub walked : ℕ → ℕ → Column → List Column → List Column
 walked k v c [] = c ∷ []
 walked k v c (d ∷ ds) = if is_followed k v c d then walked k v (joined k v c d) ds else c ∷ walked k v d ds
 
--- the same of all columns
+-- sorted columns, of which there may be none, where neighbours that touch are made one
 abbrev pub walked_over : ℕ → ℕ → List Column → List Column
 walked_over k v [] = []
 walked_over k v (c ∷ cs) = walked k v c cs

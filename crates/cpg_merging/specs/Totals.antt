@@ -1,4 +1,4 @@
--- Numbers of columns, each a sum over its literals, by which it is found whether any two of a row touch: where two do, the later
+-- Numbers of columns, each a sum over its literals, by which it is found whether any two of a row touch: if two do, the later
 -- one's sum with one literal changed is the sum of the other.
 use Rattle.std.specs.Prelude.{ℕ, ◌+◌, ◌-◌, ◌*◌, ◌/◌, ◌^◌, ◌%◌, ◌<◌, ◌≤◌, ◌≡◌, Bool, true, false, List, length, get_or, sum_by, Contains}
 use Rattle.cpg_base.specs.Graph.{Graph, IsVariable}
@@ -18,7 +18,7 @@ number_of l = l.variable * 65536 + l.low * 256 + l.high
 abbrev pub spread : ℕ → ℕ
 spread n = mixed 1 n * (mixed 1 n / 4294967296) % 2 ^ 64
 
--- and so for a literal
+-- the spread number of a literal
 abbrev pub hash_of : Literal → ℕ
 hash_of l = spread (number_of l)
 
@@ -43,7 +43,7 @@ HasNoPartner totals total l = (low rest : ℕ) → low < l.low → (rest + hash_
 abbrev pub IsMarked : List Bool → ℕ → Type 0
 IsMarked marks v = get_or marks v false ≡ true
 
--- nor of any column with a literal changed that is on a variable which isn't marked
+-- none of the sums is that of any column with a literal changed so, if the literal's variable isn't marked
 abbrev pub AreMarkedBy : List ℕ → List Bool → List Column → Type 0
 AreMarkedBy totals marks columns = (d : Column) (l : Literal) → Contains columns d → Contains d.cube l → ¬ IsMarked marks l.variable →
     HasNoPartner totals (total_of d) l

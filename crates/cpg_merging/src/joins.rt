@@ -124,7 +124,7 @@ fn raised_cube(alloc: Global, variable: u8, high: u8, cube: &Cube) -> Result<Cub
     Ok(raised)
 }
 
-/// The two columns made one, where the second follows the first.
+/// The two columns made one, if the second follows the first.
 fn join(alloc: Global, faults: u8, variable: u8, a: &Entry, b: &Entry) -> Result<Entry, OutOfMemory>
     ensures { IfOk result (λ entry. entry ≡ joined faults variable a.now b.now) }
 {
@@ -167,7 +167,7 @@ fn shorn_copies(alloc: Global, faults: u8, columns: &[Entry]) -> Result<Vec<Entr
     Ok(shorn)
 }
 
-/// Columns without the literals of the whole range. They are as they were where none has one.
+/// Columns without the literals of the whole range. They are as they were if none has one.
 pub(crate) fn shorn_columns(
     alloc: Global,
     faults: u8,
@@ -198,7 +198,7 @@ fn is_any_followed(faults: u8, variable: u8, columns: &[Entry]) -> bool
     false
 }
 
-/// Makes neighbours one where the second follows the first.
+/// Makes neighbours one if the second follows the first.
 fn join_neighbours(
     alloc: Global,
     faults: u8,
@@ -225,7 +225,7 @@ fn join_neighbours(
     Ok(joined)
 }
 
-/// Makes neighbours one where the second follows the first, and leaves the columns as they are where none does.
+/// Joins neighbours if the second follows the first, and leaves the columns as they are if none does.
 pub(crate) fn joined_columns(
     alloc: Global,
     faults: u8,

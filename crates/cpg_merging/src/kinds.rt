@@ -63,7 +63,7 @@ fn last_asked(alloc: Global, count: usize, kinds: &[Kind]) -> Result<Vec<u8>, Ou
     Ok(told)
 }
 
-/// Notes it where a column asks otherwise than its place tells.
+/// Notes it if a column asks otherwise than its place tells.
 fn note(told: &[u8], kind: Kind, differing: &mut [bool])
     requires some { 0 < length told.now }
     requires long { length differing.old ≡ length told.now }

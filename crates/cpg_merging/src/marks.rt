@@ -39,7 +39,7 @@ fn mark_each(sums: Sums<'_>, total: u64, literals: &[Literal], marks: &mut [bool
     }
 }
 
-/// The same, at once where all begin at 0.
+/// Marks as `mark_each` does, at once if all literals begin at 0.
 fn mark_block(
     sums: Sums<'_>,
     total: u64,
@@ -56,7 +56,7 @@ fn mark_block(
     mark_each(sums, total, literals, marks);
 }
 
-/// The same, of any number of literals.
+/// Marks as `mark_each` does, for any number of literals.
 fn mark(sums: Sums<'_>, total: u64, literals: &[Literal], marks: &mut [bool; VARIABLES])
     requires { AreSums sums.sorted.now sums.sieve.now }
     ensures kept { (v : ℕ) → IsMarked marks.old v → IsMarked marks.new v }

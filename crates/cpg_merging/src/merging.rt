@@ -14,7 +14,7 @@ use cpg_base::{FIRST_VALUE, Order, OutOfMemory, Problem};
 use cpg_cube::{Entry, Listing};
 use std::alloc::Global;
 
-/// Joins columns where they touch at a variable.
+/// Joins columns that touch at a variable.
 fn joined_on(
     alloc: Global,
     problem: &Problem,
@@ -42,7 +42,7 @@ fn unsorted(columns: Vec<Entry>) -> Listing
     }
 }
 
-/// Joins columns where they touch at a variable, if it is marked.
+/// Joins columns that touch at a variable, if it is marked.
 fn joined_at(
     alloc: Global,
     problem: &Problem,
@@ -73,7 +73,7 @@ fn joined_at(
     Marked::of(alloc, problem, unsorted(columns))
 }
 
-/// Joins columns where they touch at one of the variables from `first` up to `end`, which it leaves out.
+/// Joins columns that touch at one of the variables from `first` up to `end`, which it leaves out.
 fn joined_over(
     alloc: Global,
     problem: &Problem,
@@ -95,7 +95,7 @@ fn joined_over(
     Ok(marked)
 }
 
-/// Joins columns where they touch at any variable.
+/// Joins columns that touch at any variable.
 fn joined_once(alloc: Global, problem: &Problem, marked: Marked) -> Result<Marked, OutOfMemory>
     requires shorn { IsShorn problem.now marked.listing.columns.items }
     requires marked { AreMarked problem.now marked.marks marked.listing.columns.items }
@@ -113,7 +113,7 @@ fn joined_once(alloc: Global, problem: &Problem, marked: Marked) -> Result<Marke
     joined_over(alloc, problem, FIRST_VALUE, end, marked)
 }
 
-/// Joins columns until no two of one time touch at any variable. They stand by their least scenarios only where they did and
+/// Joins columns until no two of one time touch at any variable. They stand by their least scenarios only if they did and
 /// none was joined or moved.
 fn settled(alloc: Global, problem: &Problem, listing: Listing) -> Result<Listing, OutOfMemory>
     requires { IsShorn problem.now listing.columns.items }
@@ -136,7 +136,7 @@ fn settled(alloc: Global, problem: &Problem, listing: Listing) -> Result<Listing
 /// whole range of its variable, and the columns stand by the least scenario that they match along the order.
 ///
 /// Each entry must match some scenario, and no scenario two of them; their literals must be on variables of the problem
-/// and within their ranges. The one error is want of memory.
+/// and within their ranges. The one error is `OutOfMemory`.
 pub fn merged(
     alloc: Global,
     problem: &Problem,
@@ -152,7 +152,7 @@ pub fn merged(
     listing.sorted(alloc, problem, order)
 }
 
-/// What `merged` answers, of entries of which no literal has the whole range of its variable. Where they are known to stand by
+/// What `merged` answers, of entries of which no literal has the whole range of its variable. If they are known to stand by
 /// the least scenario that they match, and no two may touch at any variable, they aren't sorted.
 pub fn merged_tidy(
     alloc: Global,

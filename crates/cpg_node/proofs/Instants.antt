@@ -33,7 +33,7 @@ one_kept true false x xs ys h l = absurd (true≢false (sym (h refl)))
 one_kept false true x xs ys h l = omega arith
 one_kept false false x xs ys h l = l
 
--- fewer, where the later moment is one of them
+-- fewer, if the later moment is one of them
 pub one_less : (last : Option ℕ) (time : ℕ) (xs : List ℕ) → is_after last time ≡ true → Contains xs time → left_of (Some time) xs < left_of last xs
 one_less last time [] a c = absurd (Contains-nil time c)
 one_less last time (x ∷ xs) a c = elim (Contains-cases x xs time c) [
@@ -114,7 +114,7 @@ started_few (a ∷ acts) os h = omega (
 kept_parts : (p : ℕ → Bool) (xs ys : List ℕ) → length (filter p (xs ++ ys)) ≡ length (filter p xs) + length (filter p ys)
 kept_parts p xs ys = ap (λ (l : List ℕ). length l) (filter-append p xs ys) ∙ length-append (filter p xs) (filter p ys)
 
--- so a turn adds few possible ends
+-- a turn adds few possible ends
 grown_ends : (p : ℕ → Bool) (ended : List Ended) (acts : List Act) (time : ℕ) (os : List Own) (runs : List (Option Running)) → HaveFewEnds os →
     length (filter p (flat_map (λ ends. ends) (zip_with possible_ends os (zip_with (running_after ended acts time) os runs))))
     ≤ length (filter p (flat_map (λ ends. ends) (zip_with possible_ends os runs))) + length (started acts os) * 9
@@ -177,7 +177,7 @@ module _ (d : Dispatcher) (time : ℕ) (frames : List Frame) (comes : next d ≡
         | inr c ↦ omega (arith, fewer_left d.last time (planned_times d) after, one_less d.last time (end_times d) after c, grown, few, room, fixed)
       ]
 
--- so does one of a lawful table
+-- a turn of a lawful table leaves fewer instants
 pub table_less : (d : Dispatcher) (time : ℕ) (frames : List Frame) → next d ≡ Some time → IsTable d.table → instants_left (turn d time [] frames) < instants_left d
 table_less d time frames comes made = turn_less d time frames comes (own_rise d.table made) (own_few_ends d.table made)
 

@@ -8,7 +8,7 @@ use Rattle.cpg_node.specs.Dispatcher.{is_after, least_of}
 use Rattle.cpg_node.specs.Plan.{IsLine}
 use Rattle.cpg_node.proofs.Least.{least_is}
 
--- where the test of the last turn fails, the time has been reached
+-- if the test of the last turn fails, the time has been reached
 pub reached_time : (last time : ℕ) → is_after (Some last) time ≡ false → time ≤ last
 reached_time last time e = ltb-false last time e
 
@@ -27,7 +27,7 @@ moves_on {X = X} time last xs place next now line after l w before here = record
     early None a t e = absurd (true≢false e)
     early (Some s) a t e = omega (arith, ltb-true s now a, reached_time s t e)
 
--- the same where a call sees the list
+-- the place moves on to the first that is after the new turn, if a call sees the list
 pub moves_on_seen : {X : Type 0} (time : X → ℕ) (last : Option ℕ) (xs seen : List X) (place next now : ℕ) → IsLine time last xs place → is_after last now ≡ true → seen ≡ xs →
     (place ≤ next) × (next ≤ length seen) → ((i : ℕ) (d : X) → place ≤ i → i < next → time (get_or seen i d) ≤ now) → ((d : X) → next < length seen → now < time (get_or seen next d)) →
     IsLine time (Some now) xs next

@@ -44,7 +44,7 @@ zip_front-next f n os rs ls a d r l e is at s =
     let there : get_or ls n d ≡ get_or rs n d = ap (λ l. get_or l n d) is ∙ zip_front-at f n os rs d in
     (λ i. set (is i) n ((s ∙ ap (f a) there ∙ ap (λ o. f o (get_or rs n d)) at) i)) ∙ zip_front-more f n os rs a d l e ∙ ap (λ m. zip_front f m os rs) (sym (add-one n))
 
--- and its end
+-- the end of a loop that changes place after place
 pub zip_front-done : {A B : Type 0} (f : A → B → B) (n : ℕ) (os : List A) (rs ls : List B) → n ≡ length os → length os ≡ length rs → ls ≡ zip_front f n os rs → ls ≡ zip_with f os rs
 zip_front-done f n os rs ls all e is = is ∙ ap (λ n. zip_front f n os rs) all ∙ zip_front-whole f os rs e
 

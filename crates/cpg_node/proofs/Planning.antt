@@ -82,7 +82,7 @@ filter_both p q (x ∷ xs) = go (p x) (filter_both p q xs)
     go true e = ap (λ l. cond (q x) (x ∷ l) l) e
     go false e = e
 
--- so they are those of the same entries in another order
+-- the acts at a time are those of the same entries in another order
 pub acts_same : (t : OwnTable) (heard : List Range) (time : ℕ) (plan : List Planned) → SameAtEachTime plan (plan_of t) →
     acts_at t heard time ≡ map act_of (filter (takes (t.sends ++ t.starts) heard) (filter (λ (p : Planned). p.time == time) plan))
 acts_same t heard time plan same = acts_planned t heard time ∙ ap (map act_of) (filter_both (λ (p : Planned). p.time == time) (takes (t.sends ++ t.starts) heard) (plan_of t)

@@ -110,7 +110,7 @@ plan_early t h plan same = All-weaker (Contains plan) (λ (p : Planned). p.time 
 in_hears : (t : NodeTable) (row : Row) → Contains t.hears row → Contains (rows_of t) row
 in_hears t row c = Contains-append_right t.starts (t.sends ++ t.hears) row (Contains-append_right t.sends t.hears row c)
 
--- so are all times of the table
+-- all times of the table are before 2 to the 60
 pub fixed_early : (t : NodeTable) → IsTable t → (x : ℕ) → Contains (fixed_times t) x → x < 2 ^ 60
 fixed_early t h x c = elim (Contains-append_cases (times_in t.starts ++ times_in t.sends) (times_in t.hears) x c) [
   | inr k ↦ time_early t h t.hears (in_hears t) x k

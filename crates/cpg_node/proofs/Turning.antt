@@ -29,7 +29,7 @@ fold_zero : (xs : List ℕ) → fold min 0 xs ≡ 0
 fold_zero [] = refl
 fold_zero (x ∷ xs) = let e : min 0 x ≡ 0 = omega arith in ap (λ n. fold min n xs) e ∙ fold_zero xs
 
--- and the next instant is 0
+-- before the first turn the next instant is 0
 pub next_open : (d : Dispatcher) → d.last ≡ None → Some 0 ≡ next d
 next_open d e = sym (ap (λ last. least_of (filter (is_after last) (cond (is_some last) (candidates d) (0 ∷ candidates d)))) e ∙ ap Some (fold_zero (filter (is_after None) (candidates d))))
 

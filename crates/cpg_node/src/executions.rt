@@ -8,7 +8,7 @@ ghost use Rattle.cpg_node.specs.State.{earlier, running_in, IsTimed, AreTimed};
 use crate::{Act, Ended, Running};
 use cpg_table::Own;
 
-/// The execution of a process, where it runs here.
+/// The execution of a process, if it runs here.
 pub fn running_in(own: &[Own], running: &[Option<Running>], process: u32) -> Option<Running>
     requires { length own.now ≡ length running.now }
     ensures { result ≡ running_in own.now running.now process }
@@ -34,7 +34,7 @@ pub fn earlier(time: Option<u64>, other: Option<u64>) -> Option<u64>
     Some(first.min(second))
 }
 
-/// A possible end, where it is after the last turn.
+/// A possible end, if it is after the last turn.
 fn end_after(start: u64, duration: u64, last: u64) -> Option<u64>
     requires { start + duration < 2 ^ 64 }
     ensures { result ≡ least_of (filter (is_after (Some last)) ((start + duration) ∷ [])) }
@@ -106,7 +106,7 @@ pub fn note_report(own: &[Own], running: &mut [Option<Running>], ended: Ended)
     }
 }
 
-/// The report of an execution, where its planned end is at the time.
+/// The report of an execution, if its planned end is at the time.
 fn due_report(own: &Own, running: Option<Running>, time: u64) -> Option<Ended>
     requires times { All (λ d. d < 2 ^ 60) own.now.times }
     requires start { IsTimed running }
@@ -127,7 +127,7 @@ fn due_report(own: &Own, running: Option<Running>, time: u64) -> Option<Ended>
     }
 }
 
-/// Adds the report of an execution, where its planned end is at the time.
+/// Adds the report of an execution, if its planned end is at the time.
 fn add_due(own: &Own, running: Option<Running>, time: u64, due: &mut Vec<Ended>)
     requires times { All (λ d. d < 2 ^ 60) own.now.times }
     requires start { IsTimed running }

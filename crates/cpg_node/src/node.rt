@@ -87,7 +87,7 @@ impl Node {
         &self.table
     }
 
-    /// When the execution of a process started, in time units of the graph file. `None` exactly where that process
+    /// When the execution of a process started, in time units of the graph file. `None` exactly if that process
     /// isn't running on this node.
     pub fn running(&self, process: u32) -> Option<u64>
         ensures { result ≡ start_of self.now.dispatcher process }
@@ -104,7 +104,7 @@ impl Node {
         self.report(process).is_some()
     }
 
-    /// What a process that runs on this node has told of its end. `None` exactly where it hasn't `reported`.
+    /// What a process that runs on this node has told of its end. `None` exactly if it hasn't `reported`.
     pub fn report(&self, process: u32) -> Option<Ended>
         ensures { result ≡ report_of self.now.dispatcher process }
     {
@@ -120,7 +120,7 @@ impl Node {
         self.running.as_slice()
     }
 
-    /// The next instant at which something may happen, in time units of the graph file. `None` exactly where there is none.
+    /// The next instant at which something may happen, in time units of the graph file. `None` exactly if there is none.
     pub fn next(&self) -> Option<u64>
         ensures next { result ≡ next self.now.dispatcher }
         ensures early { IfSome result (λ time. time < 2 ^ 61) }
@@ -135,7 +135,7 @@ impl Node {
         self.acts.as_slice()
     }
 
-    /// Takes a frame that arrives at a time. It is strange exactly where the node doesn't hear its item, its column isn't
+    /// Takes a frame that arrives at a time. It is strange exactly if the node doesn't hear its item, its column isn't
     /// there or doesn't arrive then, or what it tells contradicts what has been heard; then nothing changes.
     pub fn hear(&mut self, arrival: u64, frame: Frame) -> Result<(), StrangeFrame>
         ensures strange { IsErr result ↔ (is_strange self.old.dispatcher arrival frame ≡ true) }

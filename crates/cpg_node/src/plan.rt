@@ -151,7 +151,7 @@ pub fn past_entries(plan: &[Planned], from: usize, time: u64) -> usize
     place
 }
 
-/// The columns of the row of a place, none where there is no row.
+/// The columns of the row of a place, none if there is no row.
 fn columns_at(rows: &[Row], place: usize) -> &[Entry]
     ensures { result.now ≡ (get_or rows.now place no_row).columns }
 {
@@ -172,7 +172,7 @@ fn columns_of(table: &NodeTable, place: usize) -> &[Entry]
     columns_at(table.starts(), place - sends.len())
 }
 
-/// The literals of the column of a place, none where there is no column.
+/// The literals of the column of a place, none if there is no column.
 fn literals_at(columns: &[Entry], place: usize) -> &[Literal]
     ensures { result.now ≡ (get_or columns.now place no_column).cube }
 {
@@ -190,7 +190,7 @@ fn takes(table: &NodeTable, heard: &[Range], planned: &Planned) -> bool
     have_heard(heard, literals_at(columns, planned.column as usize))
 }
 
-/// Adds the act of an entry, where all of its literals have been heard.
+/// Adds the act of an entry, if all of its literals have been heard.
 fn add_act(table: &NodeTable, heard: &[Range], planned: &Planned, acts: &mut Vec<Act>)
     requires { vec_len acts.old < vec_capacity acts.old }
     ensures added { acts.new.items ≡ acts.old.items ++ map act_of (filter (takes (table.now.sends ++ table.now.starts) heard.now) (planned.now ∷ [])) }

@@ -7,7 +7,7 @@ pub struct Ended {
     pub process: u32,
     /// How often it failed.
     pub faults: u8,
-    /// The value of its condition, and false where it has none.
+    /// The value of its condition, and false if it has none.
     pub value: bool,
 }
 
@@ -18,6 +18,6 @@ pub struct Frame {
     pub item: u32,
     /// The place in the item's row of the column by which it was sent.
     pub column: u32,
-    /// The value that a broadcast carries. It isn't looked at where the item is a message.
+    /// The value that a broadcast carries. It isn't looked at if the item is a message.
     pub value: bool,
 }

@@ -108,7 +108,7 @@ module _ (g : Graph) where
           (let e : length walk + 1 - 1 ≡ length walk = omega arith in ap (λ i. has_edge g next (get_or (walk ++ process ∷ []) i 0)) e ∙ ap (has_edge g next) end_is ∙ edge);
     }
 
-    -- where it meets itself there is a cycle
+    -- if it meets itself, there is a cycle
     pub walk_meets : (from : ℕ) → from < length walk → get_or walk from 0 ≡ process → IsCycleBack g (drop from walk)
     walk_meets from l at =
         let long = length-drop from walk in

@@ -31,7 +31,7 @@ module _ (key : ℕ → ℕ) where
       let long : length (set lists (key n) (with_key n (key n) ++ n ∷ [])) ≡ k = length-set lists (key n) (with_key n (key n) ++ n ∷ []) ∙ ap length is ∙ length-map-range_with_len (with_key n) 0 k in
       filed_at n k i lists h (omega arith) is ∙ sym (get_or-map-below (with_key (n + 1)) k i [] (omega arith)))
 
-  -- the same as code says it
+  -- the next number goes to the end of the list of its key, as code says it
   pub file_next : (n k at : ℕ) (lists : List (List ℕ)) (old new : List ℕ) → at ≡ key n → at < k → lists ≡ map (with_key n) (numbers_below k) → old ≡ get_or lists at old → new ≡ old ++ n ∷ []
       → set lists at new ≡ map (with_key (n + 1)) (numbers_below k)
   file_next n k at lists old new e h is was then =

@@ -84,7 +84,7 @@ module _ (g : Graph) (within : IsWithinLimits g) (order : List ℕ) (topological
   all_found tails are = ext_get_or 0 tails (map (tail g) (numbers_below (process_count g))) (are.long ∙ sym (length-map-range_with_len (tail g) 0 (process_count g)))
       (λ p l. let h : p < process_count g = omega (arith, are.long) in are.found p h (omega arith) ∙ sym (get_or-map-below (tail g) (process_count g) p 0 h))
 
--- the same as code finds it
+-- the next tail, as code finds it
 pub way_is : (g : Graph) (turn p : ℕ) (outs found tails : List ℕ) → turn ≡ round g → found ≡ tails → outs ≡ outputs g p
     → greatest (map (λ e. (if is_message g e then turn else 0) + get_or found (target g e) 0) outs) ≡ longest_from g tails p
 way_is g turn p outs found tails a b c =

@@ -290,7 +290,7 @@ module _ (g : Graph) (waiting ready : List ℕ) (are : AreSettled g (length read
     | inr n ↦ omega arith
   ]
 
-  -- where some are left, each of them waits for another
+  -- if some are left, each of them waits for another
   pub settled_stuck : ((e : ℕ) → e < edge_count g → source g e < process_count g) → length ready < process_count g → AreStuck g waiting
   settled_stuck ends short = record {
     long = are.long;

@@ -27,7 +27,7 @@ module _ (g : Graph) where
   earlier_parts c d k = let r = Contains-filter_parts (λ d. is_more_urgent g (process_of g d) (process_of g c)) (numbers_below (condition_count g)) d k in
       (numbers-Contains (condition_count g) d r.0, r.1)
 
-  -- of two conditions exactly one is the earlier
+  -- two conditions are of different processes
   pub conditions_apart : (c d : ℕ) → c < condition_count g → d < condition_count g → c ≢ d → process_of g c ≢ process_of g d
   conditions_apart c d l m ne e = ne (same_condition g c d l m e)
 
@@ -191,7 +191,7 @@ tracks_exist g = let all : List (List Bool) = filter (is_track g) (outcomes (con
   },
 )
 
--- ---- where no condition rests on another, each outcome is a track
+-- ---- if no condition rests on another, each outcome is a track
 
 filter_all : {X : Type 0} (p : X → Bool) (xs : List X) → ((x : X) → p x ≡ true) → filter p xs ≡ xs
 filter_all p [] h = refl

@@ -26,7 +26,7 @@ module _ (g : Graph) where
       (λ (e : is_value_free g reached o c ≡ true). or_right (not (get_or o c false)) (active g o (process_of g c)) (and_parts (is_in reached (value_variable c)) (active g o (process_of g c)) e).1)
       (or_cases (not (get_or o c false)) (is_value_free g reached o c) (from_all (λ (c : ℕ). not (get_or o c false) || is_value_free g reached o c) (numbers_below (condition_count g)) c t d)))
 
-  -- the views of an outcome where it is quiet
+  -- the views of an outcome if it is quiet
   abbrev if_quiet : List ℕ → List Bool → ℕ
   if_quiet reached o = cond (is_quiet g reached o) (views_of_outcome g reached o) 0
 
@@ -40,7 +40,7 @@ module _ (g : Graph) where
       stays true n = refl
       stays false n = refl
 
-  -- where the tracks are listed, those of them that are quiet give all views
+  -- if the tracks are listed, those of them that are quiet give all views
   pub views_of_tracks : (reached : List ℕ) (tracks : List (List Bool)) → process_count g ≤ 128 → AreTracks g tracks → views g reached ≡ sum_by (views_of_outcome g reached) (filter (is_quiet g reached) tracks)
   views_of_tracks reached tracks few are =
       views-sum g reached few
@@ -68,6 +68,6 @@ module _ (g : Graph) where
       let m = mul-le (length (filter (is_quiet g reached) tracks)) (2 ^ 42) 16384 (2 ^ 42) (omega arith) (omega arith) in
       omega arith
 
-  -- so a number of 64 bits holds them
+  -- a number of 64 bits holds the views with 16,384 tracks at most
   pub views_fit : process_count g ≤ 128 → g.faults ≤ 8 → (reached : List ℕ) (tracks : List (List Bool)) → AreTracks g tracks → length tracks ≤ 16384 → views g reached < 2 ^ 64
   views_fit few faults reached tracks are short = let v = views_small few faults reached tracks are short in omega arith

@@ -49,7 +49,7 @@ module _ (g : Graph) where
     abbrev at : ℕ → ℕ
     at c = place order (process_of g c)
 
-    -- false at c comes before true at c, where they agree on what is earlier
+    -- false at c comes before true at c, if they agree on what is earlier
     false_first : (c : ℕ) (q r : List Bool) → c < condition_count g → get_or q c false ≡ false → get_or r c false ≡ true → ((e : ℕ) → at e < at c → get_or q e false ≡ get_or r e false) → Before q r
     false_first c q r h x y agree = list_any_true (λ c. not (get_or q c false) && get_or r c false && agree_on (earlier_conditions g c) q r) (numbers_below (condition_count g)) c (Contains-numbers (condition_count g) c h)
         (and_from _ _ (and_from _ _ (not_from_false (get_or q c false) x) y)

@@ -14,11 +14,11 @@ use Rattle.cpg_order.specs.Deciding.{decides, deciding, agree_on}
 abbrev pub HasOneUrgencyOrder : Type 0
 HasOneUrgencyOrder = (g : Graph) → ((order : List ℕ) × IsUrgencyOrder g order) × ((a b : List ℕ) → IsUrgencyOrder g a → IsUrgencyOrder g b → a ≡ b)
 
--- where a graph has a topological order, its urgency order is one
+-- if a graph has a topological order, its urgency order is one
 abbrev pub UrgencyOrderIsTopological : Type 0
 UrgencyOrderIsTopological = (g : Graph) (some order : List ℕ) → IsWithinLimits g → IsTopological g some → IsUrgencyOrder g order → IsTopological g order
 
--- and then it has no cycle
+-- a graph that has a topological order has no cycle
 abbrev pub OrderLeavesNoCycle : Type 0
 OrderLeavesNoCycle = (g : Graph) (order : List ℕ) → IsTopological g order → HasCycle g → ⊥
 

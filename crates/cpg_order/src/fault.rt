@@ -39,7 +39,7 @@ impl Walk {
 pub enum OrderFault {
     /// The edges lead around in a cycle: this one, the least process first.
     Cycle(Walk),
-    /// Want of memory.
+    /// Out of memory.
     OutOfMemory,
 }
 

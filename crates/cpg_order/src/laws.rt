@@ -6,7 +6,7 @@ pub fn has_one_urgency_order()
     ensures { HasOneUrgencyOrder }
 {}
 
-/// Where a graph has a topological order, its urgency order is one.
+/// If a graph has a topological order, its urgency order is one.
 pub fn urgency_order_is_topological()
     ensures { UrgencyOrderIsTopological }
 {}

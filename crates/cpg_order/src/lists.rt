@@ -48,7 +48,7 @@ fn copied(alloc: Global, list: &[u32]) -> Result<Vec<u32>, OutOfMemory>
     Ok(copy)
 }
 
-/// The order of a list of process numbers, and `None` exactly where it isn't a topological order of all processes.
+/// The order of a list of process numbers, and `None` exactly if it isn't a topological order of all processes.
 pub fn ordered(alloc: Global, problem: &Problem, list: &[u32]) -> Result<Option<Order>, OutOfMemory>
     ensures order { IfOk result (λ found. IfSome found (λ order. order ≡ list.now)) }
     ensures topological { IfOk result (λ found. IfSome found (IsTopological problem.now)) }

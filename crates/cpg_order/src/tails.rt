@@ -11,7 +11,7 @@ use crate::Links;
 use cpg_base::{Order, OutOfMemory, Problem};
 use std::alloc::Global;
 
-/// How long an edge takes: a round where it is a message, and no time within a node.
+/// How long an edge takes: a round if it is a message, and no time within a node.
 fn delay(problem: &Problem, edge: u32, turn: u64) -> u64
     requires { edge < edge_count problem.now }
     ensures { result ≡ (if is_message problem.now edge then turn else 0) }

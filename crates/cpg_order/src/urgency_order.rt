@@ -80,7 +80,7 @@ fn topological(alloc: Global, problem: &Problem, links: &Links) -> Result<Order,
 /// The urgency order: by falling length of the longest way to an end, then by number. A way takes the executions without
 /// faults of its processes, and a round of the bus for each of its messages.
 ///
-/// `Cycle` comes exactly where the graph has a cycle of edges, and shows one.
+/// `Cycle` comes exactly if the graph has a cycle of edges, and shows one.
 pub fn urgency(alloc: Global, problem: &Problem) -> Result<Order, OrderFault>
     ensures urgent { IfOk result (IsUrgencyOrder problem.now) }
     ensures topological { IfOk result (IsTopological problem.now) }

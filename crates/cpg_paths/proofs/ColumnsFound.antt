@@ -61,6 +61,6 @@ columns_are k (Fork' v cut p below upper) room cube is told fit =
 pub all_columns : (k : ℕ) (node : Node (Option ℕ)) → IsGood k node → columns_from k [] node ≡ columns_of_paths (paths_from k [] node)
 all_columns k node good = columns_are k node good.0 [] (room_whole k good.0 good.1) (told_whole k good.0 good.1) good.2
 
--- so those that are found from the root of a tree on
+-- the columns that are found from the root of a tree on are those of its paths
 pub columns_seen : (k : ℕ) (node : Node (Option ℕ)) → IsGood k node → (paths : List (Path (Option ℕ))) → paths ≡ paths_from k [] node → (faults : ℕ) → faults ≡ k → (whole : List Literal) → whole ≡ [] → columns_from faults whole node ≡ columns_of_paths paths
 columns_seen k node good paths seen faults same whole none = ap₂ (λ (m : ℕ) (cube : List Literal). columns_from m cube node) same none ∙ all_columns k node good ∙ ap columns_of_paths (sym seen)

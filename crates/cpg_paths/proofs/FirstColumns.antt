@@ -1,4 +1,4 @@
--- Where the columns of paths stand by their least scenarios, the first with a time has the least scenario with it.
+-- If the columns of paths stand by their least scenarios, the first with a time has the least scenario with it.
 use Rattle.std.proofs.Common.{ℕ, ◌+◌, ◌≤◌, ◌≡◌, ◌≢◌, ◌==◌, true, false, List, [], ◌∷◌, ◌++◌, get_or, Option, Some, None, unwrap_or, option_map, Box, Global, All, Contains, IsPermutation, refl, sym, ap, ap₂, ◌∙◌, subst, inl, inr, eq-eqb, ne_eqb}
 use Rattle.std.specs.Option.{IfNone, IfSome, option_map_or}
 use Rattle.std.proofs.lemmas.Bool.{cases_eq, cond-true, cond-false}
@@ -127,7 +127,7 @@ module _ (g : Graph) (paths : List (Path (Option ℕ))) (wanted : ℕ) where
   no_path : first_with wanted (columns_of_paths paths) ≡ None → (p : Path (Option ℕ)) → Contains paths p → p.1 ≢ Some wanted
   no_path none p c e = nowhere wanted (columns_of_paths paths) none (record { time = wanted; cube = p.0 }) (column_there paths (columns_of_paths paths) (IsPermutation-refl (columns_of_paths paths)) p wanted c e) refl
 
-  -- where no column has the number, no path has it
+  -- if no column has the number, no path has it
   pub none_first : (o : Option Scenario) → o ≡ option_map (lows g) (first_with wanted (columns_of_paths paths)) → IfNone o (All (λ (p : Path (Option ℕ)). p.1 ≢ Some wanted) paths)
   none_first o e = by_value (first_with wanted (columns_of_paths paths)) refl o e
     where
@@ -162,7 +162,7 @@ module _ (g : Graph) (few : process_count g ≤ 128) (k : ℕ) (node : Node (Opt
   pub first_met : is_met g.faults cube ≡ true
   first_met = (tidy_at (record { time = wanted; cube = cube }) here).met
 
-  -- its least one is that of the number, where the columns stand along the order
+  -- its least one is that of the number, if the columns stand along the order
   pub first_least : IsLeastWhereSorted g paths wanted (lows g cube)
   first_least order all stand =
       let xs = columns_of_paths paths in

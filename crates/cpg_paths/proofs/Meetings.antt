@@ -184,7 +184,7 @@ module _ {T U V W : Type 0} (node : Node T) (other : Node U) (part : Node V) (re
       let l = in_above g room v cut there p.0 is under over r.0 r.2 in
       (r.0, r.1, l.0, follows r.0 l.1 r.3)
 
-  -- where the other side is closed
+  -- if the other side is closed
   met_same : ((s : Scenario) → Lies room s → inner s → fact s) → IsMetIn room part rest inner → IsMetIn room node other fact
   met_same follows met g forks is =
       let r = met g (parts g forks).1 is in
@@ -300,7 +300,7 @@ module _ (v cut : ℕ) (there : v < 256) (low high node : Node (Option ℕ)) {p 
       let r = passes_parts (is_variable g) v cut low high node is forks.first in
       (variable_from g v r.0, record { few = forks.few; first = r.2; second = forks.second })
 
-  -- where one side is closed
+  -- if one side is closed
   pub most_low : (best most : Option ℕ) → ((s : Scenario) → Lies room s → number_of s v ≤ cut) → IsMostIn room low wanted best most → IsMostIn room node wanted best most
   most_low best most only of_low = record {
     above = λ s n lies comes. of_low.above s n lies (sym (low_value s (only s lies)) ∙ comes.0, comes.1);
@@ -395,7 +395,7 @@ module _ (k : ℕ) (node : Node (Option ℕ)) (wanted : Node Bool) (good : IsGoo
           let r = f g (record { few = of.few; first = forks_of_paths (is_variable g) k node of.known; second = forks_of_paths (is_variable g) k wanted of.known_too }) (whole_of g room (subst (λ n. IsWhole n room) of.faults whole)) in
           record { scenario = r.0; lawful = r.1; has = seen r.0 number (subst (λ n. HasFew n r.0) (sym of.faults) (scenario_few g r.0 r.1)) r.3 }
 
--- and of what its caller sees
+-- the greatest number of what the caller sees of the trees
 module _ (first : TreeState (Option ℕ)) (second : TreeState Bool) (node : Node (Option ℕ)) (wanted : Node Bool) (good : IsGood first.faults node) (paths : first.paths ≡ paths_of first.faults node)
     (good_too : IsGood second.faults wanted) (paths_too : second.paths ≡ paths_of second.faults wanted) (same : first.faults ≡ second.faults)
     (room : Space) (whole : IsWhole first.faults room) (all : (s : Scenario) → HasFew first.faults s → Lies room s) (o : Option ℕ) (most : IsMostIn room node wanted None o) where

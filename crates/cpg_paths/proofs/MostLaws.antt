@@ -145,7 +145,7 @@ module _ (g : Graph) (node : Node (Option ℕ)) (good : IsGood g.faults node) (m
   path_of : (s : Scenario) → IsScenario g s → (x : Path (Option ℕ)) × IsOn all.paths s x
   path_of s law = the_path g.faults all.paths (λ u f. subst (λ (t : TreeState (Option ℕ)). length (filter (is_on u) t.paths) ≡ 1) is (one_path g.faults node good u f)) s (scenario_few g s law)
 
-  -- where the tree has the number, so has the other
+  -- if the tree has the number, so has the other
   alone : (s : Scenario) → IsScenario g s → HasValue all.paths (Some m) s → HasValue only.paths (Some m) s
   alone s law has =
       let z = the_path g.faults only.paths each s (scenario_few g s law) in
@@ -163,7 +163,7 @@ module _ (g : Graph) (node : Node (Option ℕ)) (good : IsGood g.faults node) (m
         least = λ u law has. h.least u law (record { number = m; has = alone u law has });
       }
 
-  -- where the other has no number, no path has it
+  -- if the other has no number, no path has it
   none_alone : process_count g ≤ 128 → All (λ p. IsKnown g p.0) (paths_of g.faults node) → All (λ (p : Path (Option ℕ)). p.1 ≡ None) only.paths → All (λ (p : Path (Option ℕ)). p.1 ≢ Some m) all.paths
   none_alone processes known none i d l e =
       let there = subst (λ (t : TreeState (Option ℕ)). Contains t.paths (get_or all.paths i d)) (sym is) (Contains-get_or all.paths i d l) in

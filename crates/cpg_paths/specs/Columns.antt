@@ -13,7 +13,7 @@ use Rattle.cpg_tree.specs.declared.node.Node.{Node, Leaf, Fork'}
 use Rattle.cpg_tree.specs.Paths.{up_to, above}
 use Rattle.cpg_tree.specs.Tree.{Path}
 
--- a time with a cube, where there is one
+-- a time with a cube, if there is one
 abbrev pub column_of : List Literal → Option ℕ → List Column
 column_of cube None = []
 column_of cube (Some time) = record { time = time; cube = cube } ∷ []
@@ -22,7 +22,7 @@ column_of cube (Some time) = record { time = time; cube = cube } ∷ []
 abbrev pub columns_of_paths : List (Path (Option ℕ)) → List Column
 columns_of_paths paths = flat_map (λ (p : Path (Option ℕ)). column_of p.0 p.1) paths
 
--- the columns on from a cube, as they are found: none where a range is empty
+-- the columns on from a cube, as they are found: none if a range is empty
 abbrev pub columns_from : ℕ → List Literal → Node (Option ℕ) → List Column
 columns_from k cube (Leaf x) = column_of cube x
 columns_from k cube (Fork' v cut p below upper) =

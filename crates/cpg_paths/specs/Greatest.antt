@@ -43,7 +43,7 @@ pub record IsMost (t : TreeState (Option ℕ)) (most : ℕ) : Type 0 where
 
 -- ---- without a list
 
--- the greater of two numbers, where there are two
+-- the greater of two numbers, if there are two
 abbrev pub greater : Option ℕ → Option ℕ → Option ℕ
 greater None b = b
 greater (Some a) None = Some a

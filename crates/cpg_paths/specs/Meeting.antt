@@ -67,7 +67,7 @@ pub record AreForksOf {T U : Type 0} (g : Graph) (a : Node T) (b : Node U) : Typ
   pub first : DoForksPass (is_variable g) a
   pub second : DoForksPass (is_variable g) b
 
--- where the variables of a tree and of another one are a graph's, a scenario of it in a space has a fact
+-- if the variables of a tree and of another one are a graph's, a scenario of it in a space has a fact
 abbrev pub IsMetIn : {T U : Type 0} → Space → Node T → Node U → (Scenario → Type 0) → Type 0
 IsMetIn room a b fact = (g : Graph) → AreForksOf g a b → IsRoomOf g room → (s : Scenario) × IsScenario g s × Lies room s × fact s
 

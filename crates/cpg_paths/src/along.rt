@@ -42,7 +42,7 @@ fn leaves_along<T>(node: &Node<T>, places: &[u16; VARIABLES], left: u16) -> Opti
 }
 
 /// How many paths there are, if those with a number are known to stand by the least scenario along the order that they match.
-/// No clause speaks of the number, which is for room alone. The one error is want of memory.
+/// No clause speaks of the number, which is for room alone. The one error is `OutOfMemory`.
 pub(crate) fn count_along(
     tree: &Tree<Option<u64>>,
     problem: &Problem,
@@ -57,7 +57,7 @@ pub(crate) fn count_along(
 }
 
 /// Whether the paths with a number are known to stand by the least scenario along the order that they match. The one error is
-/// want of memory.
+/// `OutOfMemory`.
 pub(crate) fn stand_along(
     tree: &Tree<Option<u64>>,
     problem: &Problem,

@@ -98,7 +98,7 @@ pub(crate) fn listed(
 }
 
 /// The paths with a number, each with its own cube, from the left to the right, and whether they are known to stand by the least
-/// scenario along the order that they match. The one error is want of memory.
+/// scenario along the order that they match. The one error is `OutOfMemory`.
 pub fn listing_along(
     tree: &Tree<Option<u64>>,
     problem: &Problem,
@@ -129,7 +129,7 @@ pub fn listing_along(
     }
 }
 
-/// The paths with a number, each with its own cube, by the least scenario that it matches. The one error is want of memory.
+/// The paths with a number, each with its own cube, by the least scenario that it matches. The one error is `OutOfMemory`.
 pub fn columns(
     tree: &Tree<Option<u64>>,
     problem: &Problem,

@@ -8,7 +8,7 @@ ghost use Rattle.cpg_paths.specs.Meeting.{IsMetIn, IsMostIn, IsUpTo, IsMostWhere
 
 use cpg_tree::{Node, Space, Tree};
 
-/// Whether it is true in some scenario of a space.
+/// Whether a tree is true in some scenario of a space.
 fn holds_in(node: &Node<bool>, space: &mut Space) -> bool
     ensures back { space.new ≡ space.old }
     ensures met { OnTrue result (IsMetIn space.old node.now node.now (λ s. value_at node.now s ≡ true)) }
@@ -100,7 +100,7 @@ fn most_in(
     }
 }
 
-/// The greatest number in a scenario in which another tree is true; `None` exactly where there is none.
+/// The greatest number in a scenario in which another tree is true; `None` exactly if there is none.
 pub fn most_where(tree: &Tree<Option<u64>>, wanted: &Tree<bool>) -> Option<u64>
     requires same { tree.now.faults ≡ wanted.now.faults }
     ensures none { IfNone result (IsNowhere tree.now wanted.now) }

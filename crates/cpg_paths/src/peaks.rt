@@ -17,7 +17,7 @@ use cpg_base::{Order, OutOfMemory, Problem, Scenario, top};
 use cpg_cube::{Cube, Literal, first_by_least_scenario};
 use cpg_tree::{Node, Tree};
 
-/// The greater of two numbers, where there are two.
+/// The greater of two numbers, if there are two.
 fn greater(first: Option<u64>, second: Option<u64>) -> Option<u64>
     ensures { result ≡ greater first second }
 {
@@ -60,7 +60,7 @@ fn with_alone(tree: &Tree<Option<u64>>, wanted: u64) -> Result<Tree<Option<u64>>
     tree.map(&|time: Option<u64>| kept(wanted, time))
 }
 
-/// The least scenario that has a number; `None` exactly where no scenario has one.
+/// The least scenario that has a number; `None` exactly if no scenario has one.
 fn first_with_number(
     tree: &Tree<Option<u64>>,
     problem: &Problem,
@@ -85,7 +85,7 @@ fn first_with_number(
     }
 }
 
-/// The least scenario that has the number; `None` exactly where no path has it.
+/// The least scenario that has the number; `None` exactly if no path has it.
 fn least_listed(
     tree: &Tree<Option<u64>>,
     problem: &Problem,
@@ -107,7 +107,7 @@ fn least_listed(
     first_with_number(&alone, problem, order)
 }
 
-/// Narrows a cube by the way to the first leaf from the left with a number. False exactly where no leaf has it: then the cube is
+/// Narrows a cube by the way to the first leaf from the left with a number. False exactly if no leaf has it: then the cube is
 /// what it was.
 fn narrow_to_first(
     node: &Node<Option<u64>>,
@@ -166,7 +166,7 @@ fn narrow_to_first(
     }
 }
 
-/// The least scenario of the first column from the left with a time; `None` exactly where no column has it.
+/// The least scenario of the first column from the left with a time; `None` exactly if no column has it.
 fn least_found(
     tree: &Tree<Option<u64>>,
     problem: &Problem,
@@ -187,7 +187,7 @@ fn least_found(
     Ok(least)
 }
 
-/// The least scenario that has the number; `None` exactly where no path has it.
+/// The least scenario that has the number; `None` exactly if no path has it.
 fn least_with(
     tree: &Tree<Option<u64>>,
     problem: &Problem,
@@ -207,7 +207,7 @@ fn least_with(
     least_listed(tree, problem, order, wanted)
 }
 
-/// The greatest number of a path; `None` exactly where no path has one.
+/// The greatest number of a path; `None` exactly if no path has one.
 pub fn most(tree: &Tree<Option<u64>>) -> Option<u64>
     ensures none { IfNone result (All (λ p. p.1 ≡ None) tree.now.paths) }
     ensures some { IfSome result (IsMost tree.now) }
@@ -215,7 +215,7 @@ pub fn most(tree: &Tree<Option<u64>>) -> Option<u64>
     most_of(tree.root())
 }
 
-/// The greatest number, with its least scenario; `None` exactly where no scenario has a number. The one error is want of memory.
+/// The greatest number, with its least scenario; `None` exactly if no scenario has a number. The one error is `OutOfMemory`.
 pub fn greatest(
     tree: &Tree<Option<u64>>,
     problem: &Problem,

@@ -10,6 +10,6 @@ use Rattle.cpg_cube.specs.Cube.{holds, matches}
 pub matches_more : (s : Scenario) (ls : List Literal) (i : ℕ) (d : Literal) → i < length ls → matches (take i ls) s ≡ true → holds s (get_or ls i d) ≡ true → matches (take (i + 1) ls) s ≡ true
 matches_more s ls i d there before h = list_all_more (holds s) ls i d there ∙ and_from (matches (take i ls) s) (holds s (get_or ls i d)) before h
 
--- what doesn't hold where a literal of those that match must
+-- what doesn't hold if a literal of those that match must
 pub unsaid : (s : Scenario) (ls : List Literal) (l : Literal) → (matches ls s ≡ true → holds s l ≡ true) → holds s l ≡ false → matches ls s ≡ false
 unsaid s ls l said off = false_from_ne_true (matches ls s) (λ all. both_ways (holds s l) off (said all))

@@ -86,7 +86,7 @@ module _ (cubes : List (List Literal)) (room one two : Space) (places low high :
     fewer = omega (arith, of_one.fewer, of_two.fewer);
   }
 
--- where more nodes may be, so may as many as these
+-- if more nodes may be, so may as many as these
 pub sorted_fewer : (cubes : List (List Literal)) (room : Space) (places : List ℕ) (rest left : ℕ) (r : Sorted) → rest ≤ left → IsSorted cubes room places rest r → IsSorted cubes room places left r
 sorted_fewer cubes room places rest left r less h = record { told = h.told; fewer = omega (arith, h.fewer, less) }
 

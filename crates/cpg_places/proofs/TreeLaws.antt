@@ -47,7 +47,7 @@ module _ {g : Graph} {columns : List Column} {tree : Places} (is : IsRowTree g c
   told_as : (o : Option ℕ) → place_at tree s ≡ o → tells_cube (cubes_in columns) o s
   told_as o e = subst (λ p. tells_cube (cubes_in columns) p s) e (is.told s law)
 
-  -- where there is no place, no column matches
+  -- if there is no place, no column matches
   pub none_matches : place_at tree s ≡ None → (d : Column) → Contains columns d → matches d.cube s ≡ true → ⊥
   none_matches e d c m = told_as None e c.0 (matched_at columns s c.0 c.1 (ap (λ (d : Column). matches d.cube s) (get_or_default columns c.0 (record { time = 0; cube = [] }) d c.1 ∙ c.2) ∙ m))
 
@@ -62,7 +62,7 @@ module _ {g : Graph} {columns : List Column} {tree : Places} (is : IsRowTree g c
   pub place_only : (i j : ℕ) → place_at tree s ≡ Some i → j < length columns → matches (column_at columns j).cube s ≡ true → j ≡ i
   place_only i j e l m = (told_as (Some i) e).1 j (matched_at columns s j l m)
 
-  -- so no two columns match
+  -- no two columns match
   pub one_place : (i j : ℕ) → i < length columns → j < length columns → matches (column_at columns i).cube s ≡ true → matches (column_at columns j).cube s ≡ true → i ≡ j
   one_place i j k l m n = go (place_at tree s) refl
     where
@@ -77,7 +77,7 @@ module _ {g : Graph} {columns : List Column} {tree : Places} (is : IsRowTree g c
       sym at_c ∙ ap (column_at columns) (one_place k.0 l.0 k.1 l.1 (ap (λ (x : Column). matches x.cube s) at_c ∙ m) (ap (λ (x : Column). matches x.cube s) at_d ∙ n)) ∙ at_d
 
 module _ {g : Graph} {columns : List Column} {tree : Places} (is : IsRowTree g columns tree) (s : Scenario) (law : IsScenario g s) (i : ℕ) (there : i < length columns) (m : matches (column_at columns i).cube s ≡ true) where
-  -- no earlier column matches where one does
+  -- no earlier column matches if one does
   pub none_earlier : list_any (λ (d : Column). matches d.cube s) (take i columns) ≡ false
   none_earlier = list_any_false (λ (d : Column). matches d.cube s) (take i columns) (λ d k. false_unless (matches d.cube s) (λ n. apart d k n))
     where

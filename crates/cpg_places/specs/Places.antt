@@ -22,7 +22,7 @@ pub record IsMatched (cubes : List (List Literal)) (s : Scenario) (i : ℕ) : Ty
   pub there : i < length cubes
   pub matched : matches (cube_at cubes i) s ≡ true
 
--- the place of the one cube that the scenario matches, and none where it matches no cube
+-- the place of the one cube that the scenario matches, and none if it matches no cube
 abbrev pub tells_cube : List (List Literal) → Option ℕ → Scenario → Type 0
 tells_cube cubes None s = (j : ℕ) → IsMatched cubes s j → ⊥
 tells_cube cubes (Some i) s = IsMatched cubes s i × ((j : ℕ) → IsMatched cubes s j → j ≡ i)

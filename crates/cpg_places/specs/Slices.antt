@@ -24,7 +24,7 @@ pub record IsInRange (room : Space) (s : Scenario) : Type 0 where
 abbrev pub is_narrow : ℕ → Space → ℕ → Bool
 is_narrow k room v = nat_lt 0 (get_or room.low v 0) || nat_lt (get_or room.high v 0) (top k v)
 
--- 1 where they are
+-- 1 if they are
 abbrev pub narrowed : ℕ → Space → ℕ → ℕ
 narrowed k room v = if nat_lt v 256 && is_narrow k room v then 1 else 0
 

@@ -20,7 +20,7 @@ places_of spots = map (λ (e : Spot). e.place) spots
 abbrev pub IsSaidBy : List Literal → Literal → Type 0
 IsSaidBy literals l = (s : Scenario) → matches literals s ≡ true → holds s l ≡ true
 
--- of some places this is the one whose cube the scenario matches
+-- this is the only one of some places whose cube the scenario matches
 pub record IsOnlyMatch (cubes : List (List Literal)) (places : List ℕ) (s : Scenario) (i : ℕ) : Type 0 where
   pub is : IsMatched cubes s i
   pub only : (j : ℕ) → Contains places j → IsMatched cubes s j → j ≡ i
@@ -30,7 +30,7 @@ abbrev pub tells_place : List (List Literal) → List ℕ → Option ℕ → Sce
 tells_place cubes places None s = (j : ℕ) → Contains places j → IsMatched cubes s j → ⊥
 tells_place cubes places (Some i) s = IsOnlyMatch cubes places s i
 
--- of a list of places those that such scenarios match are in another
+-- those of a list of places that such scenarios match are in another list, too
 abbrev pub KeepsWhere : List (List Literal) → (Scenario → Type 0) → List ℕ → List ℕ → Type 0
 KeepsWhere cubes fits places kept = (s : Scenario) (i : ℕ) → fits s → Contains places i → IsMatched cubes s i → Contains kept i
 
@@ -39,7 +39,7 @@ pub record IsKept (fits : Scenario → Type 0) (place : ℕ) (before now : List 
   pub earlier : (i : ℕ) → Contains (places_of before) i → Contains (places_of now) i
   pub this : (s : Scenario) → fits s → Contains (places_of now) place
 
--- where literals match, the number of a variable is in what they say of it: a high of 255 says nothing
+-- if literals match, the number of a variable is in what they say of it: a high of 255 says nothing
 pub record IsSaid (literals : List Literal) (v : ℕ) (said : Said) : Type 0 where
   pub low : (s : Scenario) → matches literals s ≡ true → said.low ≤ number_of s v
   pub high : (s : Scenario) → matches literals s ≡ true → said.high < 255 → number_of s v ≤ said.high

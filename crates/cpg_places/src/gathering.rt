@@ -22,8 +22,8 @@ fn add_place(place: Option<u32>, found: &mut Vec<u32>) -> Result<bool, OutOfMemo
     Ok(true)
 }
 
-/// Adds the places that scenarios of a space come to, as long as there is one and a test passes at each; false where it
-/// stopped before the last. The space is changed on the way, and is as before where it didn't stop.
+/// Adds the places that scenarios of a space come to, as long as there is one and a test passes at each; false if it
+/// stopped before the last. The space is changed on the way, and is as before if it didn't stop.
 fn gather_each<J: Test>(
     node: &Node<Option<u32>>,
     space: &mut Space,
@@ -74,7 +74,8 @@ fn gather_each<J: Test>(
     }
 }
 
-/// The same with a space of its own to change. In a function of its own, since that is cleared at each call.
+/// As `gather_each`, with a space of its own to change. It is a function of its own, since that space is cleared at
+/// each call.
 fn gather_in_all<J: Test>(
     node: &Node<Option<u32>>,
     space: &Space,
@@ -107,7 +108,7 @@ fn gather_one<J: Test>(
     Ok(there)
 }
 
-/// Adds the places that scenarios of a space come to, as long as there is one and a test passes at each; false where it
+/// Adds the places that scenarios of a space come to, as long as there is one and a test passes at each; false if it
 /// stopped before the last.
 pub(crate) fn gather<J: Test>(
     node: &Node<Option<u32>>,

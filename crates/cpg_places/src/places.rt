@@ -17,24 +17,24 @@ use cpg_cube::{Cube, Literal};
 use cpg_tree::{Node, Space, Tally};
 use std::alloc::Global;
 
-/// A tree has no more nodes than so many for each cube, and `FEW` besides.
+/// A tree has at most this many nodes for each cube, and `FEW` besides.
 const EACH: u32 = 6;
 /// How many nodes a tree of few cubes may have.
 const FEW: u32 = 64;
-/// The same for each cube where a cube that goes to both sides of a fork counts as a node, too.
+/// The number for each cube if a cube that goes to both sides of a fork counts as a node, too.
 const EACH_SHARED: u32 = 8;
-/// And besides.
+/// The number that is added to `EACH_SHARED` for each cube.
 const FEW_SHARED: u32 = 104;
-/// Room is made at once for so many of the places that go to a side of a fork: for all of them, mostly.
+/// Room is made at once for at most this many of the places that go to a side of a fork: mostly for all of them.
 const AT_ONCE: usize = 32;
 
 /// A place, with what is known of its cube in the space where it stands: hints, that no clause speaks of.
 #[derive(Clone, Copy)]
 struct Spot {
     place: u32,
-    /// So many of the first literals hold in the whole space, at least.
+    /// At least this many of the first literals hold in the whole space.
     held: u16,
-    /// So many faults are left beyond those that the cube asks for.
+    /// How many faults are left beyond those that the cube asks for.
     spare: u8,
 }
 
@@ -223,7 +223,7 @@ fn held_at(space: &Space, literals: &[Literal], held: u16, variable: u8) -> u16 
     }
 }
 
-/// How many of the first literals hold where a variable is in this range, so many being known to in the whole space.
+/// How many of the first literals hold if a variable is in this range, so many being known to in the whole space.
 fn held_with(held: u16, said: Said, least: u8, greatest: u8) -> u16 {
     if said.is_first && said.low <= least && greatest <= said.high {
         held.saturating_add(1)
@@ -349,7 +349,7 @@ fn span_of(space: &Space, cut: Cut) -> Span
     }
 }
 
-/// The places whose cubes some scenario of each side of a fork may match. The space is as before where it answers.
+/// The places whose cubes some scenario of each side of a fork may match. The space is as before if it answers.
 fn parted(
     alloc: Global,
     space: &mut Space,
@@ -386,7 +386,8 @@ fn open_cut(space: &Space, variable: u8, most: u8) -> Option<Cut>
     Some(Cut { variable, most })
 }
 
-/// Where a literal parts a space, if it does.
+/// The cut at which a literal parts a space, if it does: just below its low, or at its high if the space leaves
+/// nothing below its low.
 pub(crate) fn cut_of(space: &Space, literal: Literal) -> Option<Cut>
     ensures { IfSome result (λ r. AreOpen space.now r.variable r.most) }
 {
@@ -497,7 +498,7 @@ fn top_of(space: &Space, cubes: &[&Cube], spots: &[Spot], tally: &mut Tally) -> 
     Top::Leaf(Some(first.place))
 }
 
-/// How many more nodes there may be where a fork parts so many places: each that goes to both sides counts as one.
+/// How many more nodes there may be if a fork parts so many places: each that goes to both sides counts as one.
 fn left_after(left: u32, count: usize, sides: &Sides) -> u32
     ensures { result ≤ left }
 {
@@ -506,7 +507,7 @@ fn left_after(left: u32, count: usize, sides: &Sides) -> u32
     left.saturating_sub(shared as u32)
 }
 
-/// The tree of places that a fork parts. The space is as before where there is a tree.
+/// The tree of places that a fork parts. The space is as before if there is a tree.
 #[cycle(sorted)]
 fn forked(
     alloc: Global,
@@ -543,8 +544,8 @@ fn forked(
     }))
 }
 
-/// The tree of these places for the scenarios of a space, with at most so many nodes; `None` where two cubes may match
-/// together, or where there would be more nodes. The space is as before where there is a tree.
+/// The tree of these places for the scenarios of a space, with at most so many nodes; `None` if two cubes may match
+/// together, or if there would be more nodes. The space is as before if there is a tree.
 #[cycle(sorted)]
 fn sorted_out(
     alloc: Global,
@@ -642,8 +643,8 @@ fn all_sorted_by(
     }
 }
 
-/// The same by forks at the first literal that is open, or, if that leads to no tree, by those that part the cubes best. The
-/// first is mostly a way, and takes less time.
+/// As `all_sorted_by`, by forks at the first literal that is open, or, if that leads to no tree, by those that part
+/// the cubes best. The first is mostly a way, and takes less time.
 fn all_sorted_out(
     alloc: Global,
     k: u8,
@@ -701,7 +702,7 @@ impl Places {
         do_pass_with(&self.root, &other.root, space, test)
     }
 
-    /// Adds the places that scenarios of a space come to, as long as there is one and a test passes at each; false where it
+    /// Adds the places that scenarios of a space come to, as long as there is one and a test passes at each; false if it
     /// stopped before the last.
     pub fn gather<J: Test>(
         &self,

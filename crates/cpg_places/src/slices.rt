@@ -112,7 +112,7 @@ fn narrowed(k: u8, space: &Space, variable: u8) -> u32
     if is_narrow(k, space, variable) { 1 } else { 0 }
 }
 
-/// How many variables are narrow where this one is narrowed too, if that isn't too great a number.
+/// How many variables are narrow if this one is narrowed too, unless that is too great a number.
 fn narrow_with(k: u8, space: &Space, variable: u8, narrow: u32) -> Option<u32>
     ensures { IfSome result (λ n. narrow + 1 ≤ n + narrowed k space.now variable) }
 {
@@ -378,7 +378,7 @@ fn lead_of(k: u8, space: &Space, path: &[Literal], cubes: &[&Cube], slice: Slice
     };
     let literals = cube.literals();
     if slice.to - slice.from == 1 {
-        // mostly so where the cubes stand by the numbers of the variables
+        // mostly so if the cubes stand by the numbers of the variables
         if are_same(path, literals) {
             return Lead::Leaf(Some(slice.from));
         }
@@ -434,7 +434,7 @@ fn border_of(cubes: &[&Cube], slice: Slice, part: Part) -> u32 {
     first
 }
 
-/// The tree of a slice that a fork parts. The space and the path are as before where there is a tree.
+/// The tree of a slice that a fork parts. The space and the path are as before if there is a tree.
 #[cycle(led)]
 fn led_apart(
     k: u8,
@@ -495,8 +495,8 @@ fn led_apart(
 }
 
 /// The tree of a slice for the scenarios of a space, which are those that the literals of a path match, with at most so many
-/// nodes; `None` where the cubes don't stand as a tree lists them, or where there would be more nodes. The space and the path
-/// are as before where there is a tree.
+/// nodes; `None` if the cubes don't stand as a tree lists them, or if there would be more nodes. The space and the path
+/// are as before if there is a tree.
 #[cycle(led)]
 fn led(
     k: u8,
@@ -553,7 +553,7 @@ fn led_by(
 }
 
 /// The tree of the places of cubes that stand as a tree lists them, in the scenarios of at most `k` faults and with at most
-/// so many nodes; `None` where they don't, or where there would be more nodes.
+/// so many nodes; `None` if they don't, or if there would be more nodes.
 pub(crate) fn led_out(
     alloc: Global,
     k: u8,

@@ -9,7 +9,7 @@ use cpg_cube::{Entry, cubes_of};
 use cpg_table::Tables;
 use std::alloc::Global;
 
-/// The tree of columns, if they have one: not where two columns may match together, or where it would be too large.
+/// The tree of columns, if they have one: not if two columns may match together, or if it would be too large.
 pub fn tree_of(
     alloc: Global,
     problem: &Problem,
@@ -24,7 +24,7 @@ pub fn tree_of(
 }
 
 /// For each item the tree of its row, if one is found: for each scenario the place of the one column that matches. The one error
-/// is want of memory.
+/// is `OutOfMemory`.
 pub fn row_trees(
     alloc: Global,
     problem: &Problem,

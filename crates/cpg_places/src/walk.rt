@@ -7,7 +7,7 @@ ghost use Rattle.cpg_tree.specs.Decision.{value_at};
 
 use cpg_tree::{Node, Space};
 
-/// A test of the places that scenarios come to: what it tells where it passes.
+/// A test of the places that scenarios come to: what it tells if it passes.
 pub trait Test {
     ghost tells: { Self → Option ℕ → Scenario → Type 0 };
 
@@ -16,7 +16,7 @@ pub trait Test {
         ensures { OnTrue result ((s : Scenario) → Lies space.now s → tells self.now place s) };
 }
 
-/// A test of the places that scenarios come to in two trees: what it tells where it passes.
+/// A test of the places that scenarios come to in two trees: what it tells if it passes.
 pub trait PairTest {
     ghost tells: { Self → Option ℕ → Option ℕ → Scenario → Type 0 };
 
@@ -45,7 +45,7 @@ impl<'a, J: PairTest> Test for Beside<'a, J> {
 }
 
 /// Whether a test passes at each place that scenarios of a space come to. The space is changed on the way, and is as
-/// before where it does.
+/// before if the test passes at each.
 fn do_pass_each<J: Test>(node: &Node<Option<u32>>, space: &mut Space, test: &J) -> bool
     ensures passed { OnTrue result ((s : Scenario) → Lies space.old s → J.tells test.now (value_at node.now s) s) }
     ensures same { OnTrue result (space.new ≡ space.old) }
@@ -79,7 +79,8 @@ fn do_pass_each<J: Test>(node: &Node<Option<u32>>, space: &mut Space, test: &J) 
     }
 }
 
-/// The same with a space of its own to change. In a function of its own, since that is cleared at each call.
+/// As `do_pass_each`, with a space of its own to change. It is a function of its own, since that space is cleared at
+/// each call.
 fn do_pass_in_all<J: Test>(node: &Node<Option<u32>>, space: &Space, test: &J) -> bool
     ensures { OnTrue result ((s : Scenario) → Lies space.now s → J.tells test.now (value_at node.now s) s) }
 {
@@ -111,8 +112,8 @@ pub(crate) fn do_pass<J: Test>(node: &Node<Option<u32>>, space: &Space, test: &J
     }
 }
 
-/// Whether a test passes at a place of the first tree with each place of a second that scenarios of a space come to. The
-/// space is changed on the way, and is as before where it does.
+/// Whether a test passes at a place of the first tree with each place of a second that scenarios of a space come to.
+/// The space is changed on the way, and is as before if the test passes with each.
 fn do_pass_at<J: PairTest>(
     first: Option<u32>,
     second: &Node<Option<u32>>,
@@ -129,8 +130,8 @@ fn do_pass_at<J: PairTest>(
     do_pass_each(second, space, &beside)
 }
 
-/// Whether a test passes at each two places that scenarios of a space come to in two trees: the second is walked down with
-/// the first. The space is changed on the way, and is as before where it does.
+/// Whether a test passes at each two places that scenarios of a space come to in two trees. The second is walked down
+/// with the first. The space is changed on the way, and is as before if the test passes at each two.
 fn do_pass_both<J: PairTest>(
     first: &Node<Option<u32>>,
     second: &Node<Option<u32>>,

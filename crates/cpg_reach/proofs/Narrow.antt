@@ -1,4 +1,4 @@
--- Where no item is wide under an order, none is too wide by any reach.
+-- If no item is wide under an order, none is too wide by any reach.
 use Rattle.std.proofs.Common.{ℕ, ◌<◌, ◌≡◌, false, List, inl, inr}
 use Rattle.std.proofs.lemmas.Bool.{cases_Bool}
 use Rattle.cpg_base.specs.Graph.{Graph, item_count}

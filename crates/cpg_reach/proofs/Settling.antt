@@ -41,7 +41,7 @@ apart_products a b f h m l k e = elim (cases_order a b) [
 ]
 
 module _ (g : Graph) (order : List ℕ) (top : IsTopological g order) where
-  -- of one moment there is one item
+  -- one moment has one item
   pub same_moment : (x y : ℕ) → x < item_count g → y < item_count g → moment g order x ≡ moment g order y → x ≡ y
   same_moment x y l m e =
       let r = apart_products (place order (producer g x)) (place order (producer g y)) (phase (item_at g x)) (phase (item_at g y)) (phases g) (phase_below g x l) (phase_below g y m) e in
@@ -90,7 +90,7 @@ module _ (g : Graph) (order : List ℕ) (top : IsTopological g order) where
         | inr (inr c) ↦ (c.0, c.1, sym (ap (producer_of_item g) c.3) ∙ r.0)
       ]
 
-  -- and a message comes of its edge
+  -- a message comes of its edge
   pub message_at : (p e x : ℕ) → p < process_count g → e < edge_count g → x < item_count g → moment g order x ≡ place order p * phases g + (e + 3) → source g e ≡ p
   message_at p e x n h l is =
       let r = moment_parts x p (e + 3) l n (omega arith) is in
@@ -102,7 +102,7 @@ module _ (g : Graph) (order : List ℕ) (top : IsTopological g order) where
 
   -- ---- what has been sent before a moment
 
-  -- where nothing is sent at the moment, as much before the next
+  -- if nothing is sent at the moment, as much before the next
   pub sent_kept : (m node : ℕ) → ((y : ℕ) → y < item_count g → is_sent g y ≡ true → moment g order y ≡ m → ⊥) → sent_before g order (m + 1) node ≡ sent_before g order m node
   sent_kept m node none = same_filter _ _ (numbers_below (item_count g)) (λ y k. by_sent y (numbers-Contains (item_count g) y k) (is_sent g y) refl)
     where

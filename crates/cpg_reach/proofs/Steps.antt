@@ -37,7 +37,7 @@ start_parts false true false i = refl
 start_parts false false true i = refl
 start_parts false false false i = refl
 
--- and the parts of what is known after it
+-- the parts of what is known after a start, in the order of the rules
 known_parts : (a e b s p : Bool) → ((((a || e) || b) || s) || p) ≡ ((a || b) || (e || (s || p)))
 known_parts true e b s p = refl
 known_parts false true true s p = refl

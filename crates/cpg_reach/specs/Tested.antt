@@ -10,7 +10,7 @@ abbrev pub tested : Guard → List ℕ
 tested (Leaf a) = []
 tested (Test c off on) = c ∷ (tested off ++ tested on)
 
--- their values
+-- the values of all conditions that a tree tests
 abbrev pub tested_values : Guard → List ℕ
 tested_values t = map value_variable (tested t)
 

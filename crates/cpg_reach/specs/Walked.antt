@@ -14,12 +14,12 @@ use Rattle.cpg_order.specs.Elements.{SameElements}
 abbrev pub heard_by : Graph → Reach → ℕ → List ℕ → List ℕ
 heard_by g r node cs = flat_map (λ c. value_variable c ∷ hearing_reach g r node c) cs
 
--- what a start depends on, where what those before it on its node made it wait for is known by node
+-- what a start depends on, if what those before it on its node made it wait for is known by node
 abbrev pub start_by : Graph → Reach → List (List ℕ) → ℕ → List ℕ
 start_by g r known p = if (process_at g p).frozen then map value_variable (conditions_of g p) else
     get_or known (node_of g p) [] ++ heard_by g r (node_of g p) (conditions_of g p) ++ flat_map (input_reach g r) (inputs g p)
 
--- what a send depends on, where what the same node has sent before it is known by node
+-- what a send depends on, if what the same node has sent before it is known by node
 abbrev pub send_by : Graph → Reach → List (List ℕ) → Item → List ℕ
 send_by g r sent i = if is_sent_item g i then
     (if is_frozen_item g i then map value_variable (conditions_of g (producer_of_item g i))
@@ -30,7 +30,7 @@ send_by g r sent i = if is_sent_item g i then
 abbrev pub known_after : Graph → Reach → ℕ → List ℕ → List ℕ
 known_after g r node qs = heard_by g r node (flat_map (conditions_of g) qs) ++ flat_map (end_reach r) qs
 
--- the first k processes of an order, where they are on a node
+-- the first k processes of an order, if they are on a node
 abbrev pub on_node : Graph → List ℕ → ℕ → ℕ → List ℕ
 on_node g order k node = filter (λ q. node_of g q == node) (take k order)
 

@@ -28,12 +28,12 @@ pub record IsLeastWide (g : Graph) (order : List ℕ) (x : ℕ) : Type 0 where
 abbrev pub load_by : Graph → List ℕ → ℕ → ℕ
 load_by g reached x = views g reached * rows_of_item g (item_at g x)
 
--- whether an item with this reach is too wide, where the items before it have these loads
+-- whether an item with this reach is too wide, if the items before it have these loads
 abbrev pub is_wide_by : Graph → List ℕ → ℕ → ℕ → Bool
 is_wide_by g reached x loads = nat_lt 0 (rows_of_item g (item_at g x))
     && (nat_lt most_views (views g reached) || nat_lt most_loads (loads + load_by g reached x))
 
--- it isn't, and these are the loads with its own
+-- an item with this reach isn't too wide, and these are the loads with its own
 pub record HasLoads (g : Graph) (reached : List ℕ) (x loads after : ℕ) : Type 0 where
   pub narrow : is_wide_by g reached x loads ≡ false
   pub sum : after ≡ loads + load_by g reached x

@@ -112,7 +112,7 @@ fn views_of_outcome(
     ways[free_counts(admitted, reached, scenario)]
 }
 
-/// How many views there are with the values so far, where the conditions are still to choose; `most` where there are more.
+/// How many views there are with the values so far, where the conditions are still to choose; `most` if there are more.
 fn views_from(
     admitted: &Admitted,
     ways: &[u64],
@@ -158,7 +158,7 @@ impl Counter {
         })
     }
 
-    /// How many ways a set of variables has; `most` where there are more. The contract alone names `order`.
+    /// How many ways a set of variables has; `most` if there are more. The contract alone names `order`.
     pub fn views(
         &mut self,
         admitted: &Admitted,

@@ -27,7 +27,7 @@ pub struct Walk {
     sent: Vec<Variables>,
 }
 
-/// So many sets with nothing in them.
+/// Makes `count` empty sets of variables.
 fn empty_sets(alloc: Global, count: usize) -> Result<Vec<Variables>, OutOfMemory>
     ensures { IfOk result (λ sets. AreEmpty count sets.items) }
 {

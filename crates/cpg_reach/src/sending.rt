@@ -11,7 +11,7 @@ use crate::starting::{add_end, add_source_value};
 use crate::variables::Variables;
 use cpg_base::Problem;
 
-/// What the send of a message depends on, where it is known what its node has sent before it; nothing for an edge within a
+/// What the send of a message depends on, if it is known what its node has sent before it; nothing for an edge within a
 /// node.
 pub fn message_of(
     problem: &Problem,
@@ -52,7 +52,7 @@ fn after_end(reaches: &[Variables], sent: &[Variables], process: u32, node: u32)
     reach
 }
 
-/// What the send of a broadcast depends on, where it is known what its node has sent before it; nothing where there is one
+/// What the send of a broadcast depends on, if it is known what its node has sent before it; nothing if there is one
 /// node.
 pub fn broadcast_of(
     problem: &Problem,

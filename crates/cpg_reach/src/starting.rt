@@ -22,7 +22,7 @@ pub fn add_end(reaches: &[Variables], process: u32, reach: &mut Variables)
     reach.insert(process);
 }
 
-/// Adds the value of an edge's source, where the edge is conditional.
+/// Adds the value of an edge's source, if the edge is conditional.
 pub fn add_source_value(problem: &Problem, edge: u32, reach: &mut Variables)
     requires { edge < edge_count problem.now }
     ensures { Adds reach.old (source_value problem.now edge) reach.new }
@@ -107,7 +107,7 @@ fn add_inputs(problem: &Problem, reaches: &[Variables], process: u32, reach: &mu
     }
 }
 
-/// What the start of a process depends on, where it is known what those before it on its node made it wait for.
+/// What the start of a process depends on, if it is known what those before it on its node made it wait for.
 pub fn start_of(
     problem: &Problem,
     deciding: &[Variables],

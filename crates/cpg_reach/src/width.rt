@@ -29,7 +29,7 @@ pub fn rows_of_item(problem: &Problem, item: u32) -> u64
     }
 }
 
-/// The loads with that of one more item; `None` where it has too many views, or the loads are then too many.
+/// The loads with that of one more item; `None` if it has too many views, or the loads are then too many.
 fn loads_with(
     admitted: &Admitted,
     order: &Order,
@@ -77,7 +77,7 @@ pub fn views(
     Ok(views)
 }
 
-/// The least item that is too wide under an order, and `None` exactly where there is none: its views are more than 16,384,
+/// The least item that is too wide under an order, and `None` exactly if there is none: its views are more than 16,384,
 /// or the loads of the items up to it are together more than 524,288. The load of an item is its views in each of its rows.
 pub fn too_wide(
     alloc: Global,

@@ -20,7 +20,7 @@ pub problem_of-refused : (bytes : List ℕ) → (IsUtf8 bytes → parse_document
 unfolding problem_of document_of
 problem_of-refused bytes h = rw (none_if (is_utf8 bytes) (parse_document bytes) (λ e. h (IsUtf8-from_is_utf8 bytes e))) refl
 
--- code that refuses as reading does, or for want of memory, answers what reading gives where memory is there
+-- code that refuses as reading does, or because memory ran out, answers what reading gives if memory is there
 pub answer-is : {T : Type 0} (answer reading : Reading T) → Gives (λ x. x) answer reading → answer ≢ Err OutOfMemory → answer ≡ reading
 answer-is (Ok x) reading h memory = sym h
 answer-is (Err NotToml) reading h memory = sym h

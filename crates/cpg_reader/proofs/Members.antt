@@ -29,6 +29,6 @@ module _ {X : Type 0} (xs : List X) (i : ℕ) (x : X) (h : i < length xs) (is : 
   pub all_more : (P : X → Type 0) → All P (take i xs) → P x → All P (take (i + 1) xs)
   all_more P a p = subst (All P) (sym more) (All-push P (take i xs) x a p)
 
-  -- and what was made of all so far
+  -- what was made of all so far is made of one more
   pub made_more : {Y : Type 0} (f : X → Y) (made new : List Y) → made ≡ map f (take i xs) → new ≡ made ++ f x ∷ [] → new ≡ map f (take (i + 1) xs)
   made_more f made new so_far is_new = is_new ∙ rw (so_far, more) (sym (map_push f (take i xs) x))

@@ -57,7 +57,7 @@ module _ (es : List RawEdge) (i : ℕ) (e : RawEdge) (whole : List (List ℕ)) (
       → whole ≡ different (texts ks) (sources (drop i es)) → whole ≡ different (texts new) (sources (drop (i + 1) es))
   more_sources h is new k conditional named keys so_far = so_far ∙ rw (drop-here es i e h is) (source_noted e (drop (i + 1) es) ks new k conditional named keys)
 
-  -- and one more that is simple
+  -- one more edge that is simple
   pub same_sources : i < length es → e ≡ get_or es i e → is_some e.when ≡ false
       → whole ≡ different (texts ks) (sources (drop i es)) → whole ≡ different (texts ks) (sources (drop (i + 1) es))
   same_sources h is simple so_far = so_far ∙ rw (drop-here es i e h is) (simple_edge e (drop (i + 1) es) (texts ks) simple)

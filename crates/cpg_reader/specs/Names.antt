@@ -114,7 +114,7 @@ resolved g = do
   order ← order_of (process_names g.processes) g.order
   pure (graph_with g slots processes edges order)
 
--- the same where the names of processes and of the order are looked at first
+-- the graph of a document; the names of processes and of the order are looked at first
 unfoldable pub named : RawGraph → Reading Graph
 named g = do
   apart tables.Process Name (process_names g.processes)

@@ -62,7 +62,7 @@ abbrev pub typed_in : {T : Type 0} → Row → Key → Option T → Reading (Opt
 typed_in row key None = bad row key
 typed_in row key (Some x) = pure (Some x)
 
--- what stands at a key, as what it has to be, where anything stands there
+-- what stands at a key, as what it has to be, if anything stands there
 abbrev pub optional_in : {T : Type 0} → Row → Key → (Data → Option T) → Option Data → Reading (Option T)
 optional_in row key as_type None = pure None
 optional_in row key as_type (Some d) = typed_in row key (as_type d)
@@ -74,11 +74,11 @@ abbrev pub required_in : {T : Type 0} → Row → Key → Option T → Reading T
 required_in row key None = bad row key
 required_in row key (Some x) = pure x
 
--- the same where something has to stand
+-- what stands at a key, as what it has to be; something has to stand there
 abbrev pub required : {T : Type 0} → (Data → Option T) → Row → Key → Reading T
 required as_type row key = optional as_type row key >>= required_in row key
 
--- the same with a default
+-- what stands at a key, as what it has to be, or a default if nothing stands there
 abbrev pub with_default : {T : Type 0} → T → (Data → Option T) → Row → Key → Reading T
 with_default value as_type row key = do
   found ← optional as_type row key

@@ -40,7 +40,7 @@ process_middle nodes p =
     member (codes "frozen") (boolean p.frozen)
     (member (codes "join") (boolean p.join) (member (codes "mu") (number p.mu) (member (codes "name") (string p.name) (process_low nodes p))))
 
--- an own deadline, where there is one
+-- an own deadline, if there is one
 abbrev pub with_deadline : Option ℕ → Members → Members
 with_deadline None ms = ms
 with_deadline (Some d) ms = member (codes "deadline") (number d) ms
@@ -48,7 +48,7 @@ with_deadline (Some d) ms = member (codes "deadline") (number d) ms
 abbrev pub process_members : List (List ℕ) → Process → Members
 process_members nodes p = member (codes "alpha") (number p.alpha) (member (codes "chi") (number p.chi) (with_deadline p.deadline (process_middle nodes p)))
 
--- the value with which an edge is taken, where it isn't always
+-- the value with which an edge is taken, if it isn't always
 abbrev pub when_members : Option Bool → Members
 when_members None = no_members
 when_members (Some value) = member (codes "when") (boolean value) no_members

@@ -160,7 +160,7 @@ fn edges_of(alloc: Global, raw: &RawProblem, processes: &Names<'_>) -> Result<Ve
     Ok(edges)
 }
 
-/// The numbers of the processes of the order, where there is one.
+/// The numbers of the processes of the order, if there is one.
 #[tactic(auto, unfolding(crate::specs::Names::order_of))]
 fn order_of(
     alloc: Global,

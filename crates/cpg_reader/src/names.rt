@@ -57,7 +57,7 @@ impl<'a> Model for Names<'a> {
 }
 
 impl<'a> Names<'a> {
-    /// The names of elements, where no two are equal.
+    /// The names of elements, if no two are equal.
     #[tactic(auto, unfolding(crate::specs::Names::apart))]
     pub fn of<T: Named>(
         alloc: Global,

@@ -24,7 +24,7 @@ fn problem_at(alloc: Global, members: &toml::Table) -> Result<Problem, ReadFault
 ///
 /// The refusals come in this order, each over the whole document before the next, and each shows its first place: the
 /// bytes aren't UTF-8 or no TOML document, a field is bad, a count or a number is beyond its limit, a name stands twice,
-/// a name names nothing. Want of memory may come before any of these.
+/// a name names nothing. Out of memory may come before any of these.
 pub fn read_problem(alloc: Global, bytes: &[u8]) -> Result<Problem, ReadFault>
     ensures { result ≢ Err ReadFault.OutOfMemory → result ≡ problem_of bytes.now }
 {

@@ -37,7 +37,7 @@ impl<'a> Row<'a> {
         self.members.get(key.text())
     }
 
-    /// An integer, where anything stands at the key.
+    /// An integer, if anything stands at the key.
     #[tactic(auto, unfolding(crate::specs::Rows::optional))]
     pub fn optional_integer(&self, key: Key) -> Result<Option<i64>, ReadFault>
         ensures { Gives (λ n. n) result (optional as_integer (row_view self.now) key) }
@@ -51,7 +51,7 @@ impl<'a> Row<'a> {
         }
     }
 
-    /// A boolean, where anything stands at the key.
+    /// A boolean, if anything stands at the key.
     #[tactic(auto, unfolding(crate::specs::Rows::optional))]
     pub fn optional_flag(&self, key: Key) -> Result<Option<bool>, ReadFault>
         ensures { Gives (λ b. b) result (optional as_bool (row_view self.now) key) }
@@ -122,7 +122,7 @@ impl<'a> Row<'a> {
         }
     }
 
-    /// An array of names, where anything stands at the key.
+    /// An array of names, if anything stands at the key.
     #[tactic(auto, unfolding(crate::specs::Rows::optional))]
     pub fn optional_names(&self, alloc: Global, key: Key) -> Result<Option<Vec<Name>>, ReadFault>
         ensures { Gives (λ names. option_map (λ v. v.items) names) result (optional as_names (row_view self.now) key) }
@@ -186,7 +186,7 @@ fn as_tables<'a>(
     }
 }
 
-/// The elements of an array, and `None` where one isn't a table.
+/// The elements of an array, and `None` if one isn't a table.
 fn tables_in<'a>(
     alloc: Global,
     array: &'a Array,
@@ -212,7 +212,7 @@ fn as_names(alloc: Global, value: &Value) -> Result<Option<Vec<Name>>, OutOfMemo
     }
 }
 
-/// The elements of an array, and `None` where one isn't a name.
+/// The elements of an array, and `None` if one isn't a name.
 fn names_in(alloc: Global, array: &Array) -> Result<Option<Vec<Name>>, OutOfMemory>
     ensures { IfOk result (λ names. option_map (λ v. v.items) names ≡ items_as as_name (array_view array.now)) }
 {

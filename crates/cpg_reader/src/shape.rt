@@ -106,7 +106,7 @@ struct RawWork {
     deadline: Option<i64>,
 }
 
-/// What a process has beside its names, where its table has no other key.
+/// What a process has beside its names, if its table has no other key.
 #[tactic(auto, unfolding(crate::specs::Shape::work_at))]
 fn read_work(row: &Row<'_>) -> Result<RawWork, ReadFault>
     ensures { Gives (λ x. x) result (work_at (row_view row.now)) }
@@ -178,7 +178,7 @@ struct RawLink {
     frozen: bool,
 }
 
-/// What an edge has beside its ends, where its table has no other key.
+/// What an edge has beside its ends, if its table has no other key.
 #[tactic(auto, unfolding(crate::specs::Shape::link_at))]
 fn read_link(row: &Row<'_>) -> Result<RawLink, ReadFault>
     ensures { Gives (λ x. x) result (link_at (row_view row.now)) }
@@ -244,7 +244,7 @@ struct Tops<'a> {
     order: Option<Vec<Name>>,
 }
 
-/// The tables of each list of the top and the names of the order, where it has no other key.
+/// The tables of each list of the top and the names of the order, if it has no other key.
 #[tactic(auto, unfolding(crate::specs::Shape::lists_at))]
 fn read_lists<'a>(
     alloc: Global,

@@ -117,7 +117,7 @@ pub enum Halt {
         /// The first violation.
         fault: Fault,
     },
-    /// Want of memory.
+    /// Out of memory.
     Memory,
 }
 

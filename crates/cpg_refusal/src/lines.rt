@@ -51,7 +51,7 @@ fn write_wide(out: &mut String, problem: &Problem, item: u32) -> Result<(), Allo
     write_item(out, problem, item)
 }
 
-/// The number of a column, or a dash where there is none.
+/// The number of a column, or a dash if there is none.
 fn write_column(out: &mut String, column: Option<u32>) -> Result<(), AllocError>
     ensures { OnOk result (string_bytes out.new ≡ string_bytes out.old ++ column_text column) }
 {

@@ -32,7 +32,7 @@ module _ (g : Graph) (order : List ℕ) (topological : IsTopological g order) wh
       let f : get_or order k 0 ∷ drop (suc k) order ≡ p ∷ ps = sym (drop-cons order k 0 l) ∙ e in
       ap (λ n. drop n order) (add-one k) ∙ ap (drop 1) f
 
-  -- where nothing is left, all places are before
+  -- if nothing is left, all places are before
   pub rest_none : (k : ℕ) → drop k order ≡ [] → (p : ℕ) → p < process_count g → place order p < k
   rest_none k e p h =
       let l = place-lt order p (Contains-order (process_count g) order topological.all p h) in

@@ -47,7 +47,7 @@ module _ (g : Graph) (order : List ℕ) (topological : IsTopological g order) (f
       rest = λ c l m. on.rest c l (omega arith);
     }
 
-    -- or it is true
+    -- its condition becomes true
     turns : (c : ℕ) → condition_of g p ≡ Some c → IsOnWay (k + 1) (settled s (step_of g p) true) (set o c true)
     turns c its = record {
       count = length-set o c true ∙ on.count;
@@ -66,7 +66,7 @@ module _ (g : Graph) (order : List ℕ) (topological : IsTopological g order) (f
           takes = λ d l m v e. get_or-set_other o c d true false (λ x. let f = ap (λ y. place order (process_of g y)) x in let j = ap (place order) of_it in omega arith) ∙ on.follows.takes d l m v e;
         }
 
-    -- the value of its condition is free exactly where it is active
+    -- the value of its condition is free exactly if it is active
     free_here : (c : ℕ) → condition_of g p ≡ Some c → is_value_free g (all_values g) o c ≡ is_active here
     free_here c its =
         ap (λ b. b && active g o (process_of g c)) (is_in_from (all_values g) (value_variable c) (Contains-map value_variable (numbers_below (condition_count g)) c (Contains-numbers (condition_count g) c (condition_of_below g p c its))))

@@ -47,7 +47,7 @@ module _ (g : Graph) (order : List ℕ) (topological : IsTopological g order) wh
       below (Some c) None f = tt
       below (Some c) (Some v) f = f c refl
 
-  -- a test passes where the edge takes the value
+  -- a test passes if the edge takes the value
   pub passed : (values : List Bool) (e : ℕ) → e < edge_count g → (x : Option ℕ) → condition_of g (source g e) ≡ x → (w : Option Bool) → (edge_at g e).when ≡ w → is_passed (test_of x w) values ≡ takes w (value_of g values (source g e))
   passed values e h None is None when = refl
   passed values e h (Some c) is None when = refl

@@ -1,4 +1,4 @@
--- A graph that keeps all rules shows no fault but want of memory.
+-- A graph that keeps all rules shows no fault but that memory runs out.
 use Rattle.std.proofs.Common.{ℕ, ◌<◌, ◌≤◌, ◌≡◌, Bool, true, false, not, ◌&&◌, ◌==◌, List, length, filter, refl, ap, ◌∙◌, subst, arith, inl, inr, eqb-true, ltb-true}
 use Rattle.std.specs.Prelude.{nat_lt, IfSome}
 use Rattle.std.proofs.lemmas.Bool.{and_parts, or_cases, both_ways}

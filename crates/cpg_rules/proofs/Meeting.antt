@@ -15,7 +15,7 @@ use Rattle.cpg_rules.proofs.Equal.{same_guard-is, same_guard-refl}
 
 -- ---- what they come to
 
--- the first activation where it settles the matter
+-- the first activation if it settles the matter
 abbrev pub first_settling : Bool → Activation → Activation → Activation
 first_settling join a b = if settles join a then a else b
 

@@ -20,7 +20,7 @@ scenario_given g s t long faults given = ap₂ (λ vs fs. let r : Scenario = rec
     (λ c l. given c (omega arith) ∙ sym (get_or-map-below (λ d. is_set (get_or s (process_of g d) None)) (condition_count g) c false (omega arith))))
     faults
 
--- where no process is a join with two live inputs, the graph has none
+-- if no process is a join with two live inputs, the graph has none
 pub single_joins : (g : Graph) → ((p : ℕ) → p < process_count g → IsSingleJoin g p) → HasSingleJoins g
 single_joins g h = λ p values l join long. few (length (filter (live g values) (inputs g p))) (h p l values join long)
   where

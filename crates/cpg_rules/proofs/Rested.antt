@@ -187,7 +187,7 @@ module _ (p : ℕ) where
   two_alike : (step : Step) (kept : List Step) (s u : List (Option Bool)) → IsAlike (step ∷ kept) s u → are_two_live s step.inputs ≡ are_two_live u step.inputs
   two_alike step kept s u alike = ap (nat_lt 1) (count_alike s u step.inputs (inputs_alike step kept s u alike))
 
-  -- where one is found
+  -- if one is found
   some_alike : (steps : List Step) (s u : List (Option Bool)) → IsAlike (rested (Process p) steps) s u → is_some (found_from p steps s) ≡ is_some (found_from p (rested (Process p) steps) u)
   some_alike [] s u alike = refl
   some_alike (step ∷ steps) s u alike = go (step.process == p) (are_reading (rested (Process p) steps) step.process) refl refl alike (λ t w a. some_alike steps t w a)

@@ -52,7 +52,7 @@ module _ (g : Graph) (s t : Scenario) where
       below_one_way (number_of_value (get_or s.values d false) ∷ ys) (number_of_value (get_or t.values d false) ∷ xs)
       (below-cons_less (number_of_value (get_or s.values d false)) (number_of_value (get_or t.values d false)) ys xs more)
 
-  -- where a true condition of the second is false in the first, and nothing before it is more, the second isn't before the first
+  -- if a true condition of the second is false in the first, and nothing before it is more, the second isn't before the first
   pub not_before_first : (ps qs : List ℕ) (q c : ℕ) → ((p : ℕ) → Contains ps p → IsNoMore p) → fault_of s q ≤ fault_of t q → condition_of g q ≡ Some c
       → get_or s.values c false ≡ false → get_or t.values c false ≡ true → is_before g (ps ++ q ∷ qs) t s ≡ false
   not_before_first [] qs q c fewer f is low high =
@@ -97,7 +97,7 @@ module _ (g : Graph) (order : List ℕ) (topological : IsTopological g order) (f
   record IsFresh (k : ℕ) (s : List (Option Bool)) : Type 0 where
     unset : (q : ℕ) → q < process_count g → k ≤ place order q → get_or s q None ≡ None
 
-  -- by the standings at a process two of its inputs are live exactly where they are
+  -- by the standings at a process two of its inputs are live exactly if they are
   two_live_here : (k : ℕ) (s : List (Option Bool)) → AreSettled g order k s → (o : List Bool) → Follows g order k s o → (p : ℕ) → place order p ≡ k
       → are_two_live s (step_of g p).inputs ≡ has_two_live g o p
   two_live_here k s are o follows p at = ap (nat_lt 1)

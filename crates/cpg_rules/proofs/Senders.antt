@@ -1,4 +1,4 @@
--- Where no node that sends lacks a slot, each sender has one.
+-- If no node that sends lacks a slot, each sender has one.
 use Rattle.std.proofs.Common.{ℕ, ◌<◌, ◌≡◌, Bool, true, false, not, ◌&&◌, ◌==◌, length, refl, sym, ap, ◌∙◌, subst, eq-eqb, inl, inr}
 use Rattle.std.specs.Bool.{nat_lt}
 use Rattle.std.specs.List.{list_any}

@@ -1,4 +1,4 @@
--- Parts stay what they are where others are added, and so do the trees of processes.
+-- Parts stay what they are if others are added, and so do the trees of processes.
 use Rattle.std.proofs.Common.{ℕ, zero, suc, ◌<◌, ◌≡◌, List, [], ◌∷◌, length, set, All, arith, refl, ap, ap₂, ◌∙◌}
 use Rattle.std.proofs.lemmas.List.Elements.{All-head, All-tail}
 use Rattle.cpg_order.specs.Guard.{Guard}
@@ -22,7 +22,7 @@ makes_extends a b c t n m e = record {
   is = e.same n m.within ∙ m.is;
 }
 
--- the same parts with other things known
+-- parts stay if other things are known
 pub extends_known : (a b : Sharing) → b.parts ≡ a.parts → b.ranks ≡ a.ranks → Extends a b
 extends_known a b parts ranks = record { ranks = ranks; longer = omega (arith, ap length parts); same = λ n l. ap (λ ps. tree_at ps n) parts }
 

@@ -73,7 +73,7 @@ module _ (g : Graph) (order : List ℕ) (topological : IsTopological g order) wh
       pub live_here : is_live_edge g s e ≡ live g o e
       live_here = live_by (get_or s (source g e) None) refl (are.right o follows (source g e) from sooner)
 
-    -- so it has the activation that they say
+    -- a process at the place has the activation that the standings say
     pub activation_here : (o : List Bool) → Follows g order k s o → (p : ℕ) → p < process_count g → place order p ≡ k → activation_in s (step_of g p) ≡ activation g o p
     activation_here o follows p h at =
         activation_in-is g s p
@@ -121,7 +121,7 @@ module _ (g : Graph) (order : List ℕ) (topological : IsTopological g order) wh
       no_condition Plain x c e f i = cc
       no_condition (By j) x c e f i = cc
 
-      -- where one way alone is taken, all outcomes take it
+      -- if one way alone is taken, all outcomes take it
       pub follows_one_way : choice (activation_in s (step_of g p)) (condition_of g p) ≡ None → (o : List Bool) → Follows g order k s o → Follows g order (k + 1) next o
       follows_one_way none o f = follows_on o f (λ c i j active. absurd (no_condition (activation_in s (step_of g p)) (condition_of g p) c none active (subst (λ x. condition_of g x ≡ Some c) j (condition_of_process_of g c i))))
 
@@ -130,11 +130,11 @@ module _ (g : Graph) (order : List ℕ) (topological : IsTopological g order) wh
       chosen Plain x c e = e
       chosen (By j) x c e = e
 
-      -- where both are, it is the condition of the process that tells
+      -- if both are, it is the condition of the process that tells
       pub its_condition : (c : ℕ) → choice (activation_in s (step_of g p)) (condition_of g p) ≡ Some c → condition_of g p ≡ Some c
       its_condition c e = chosen (activation_in s (step_of g p)) (condition_of g p) c e
 
-      -- and an outcome takes the way of its value
+      -- an outcome takes the way of the value of its condition
       pub follows_value : (c : ℕ) → choice (activation_in s (step_of g p)) (condition_of g p) ≡ Some c → (o : List Bool) → get_or o c false ≡ v → Follows g order k s o → Follows g order (k + 1) next o
       follows_value c some o value f =
           let its = its_condition c some in

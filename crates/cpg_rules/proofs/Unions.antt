@@ -72,7 +72,7 @@ module _ (o : List Bool) where
 
 -- ---- the inputs of a join
 
--- so many live inputs are one at most, and a tree is active where there is one
+-- this many live inputs are one at most, and an activation is active exactly if there is one
 record IsOne (a : Activation) (n : ℕ) : Type 0 where
   active : is_active a ≡ nat_lt 0 n
   few : nat_lt 1 n ≡ false
@@ -85,7 +85,7 @@ first_alone : (e : ℕ) (f : ℕ → Bool) (b : Bool) → f e ≡ b → IsOne (i
 first_alone e f true h = subst (λ v. IsOne (By e) (length (if v then e ∷ [] else []))) (sym h) (record { active = refl; few = refl })
 first_alone e f false h = subst (λ v. IsOne Inactive (length (if v then e ∷ [] else []))) (sym h) none_live
 
--- and with later ones that are not live with it
+-- the first of the inputs with later ones that are not live with it
 first_with : (e : ℕ) (es : List ℕ) (f : ℕ → Bool) (b : Bool) → f e ≡ b → (a : Activation) → IsOne a (length (filter f es)) → (b ≡ true → is_active a ≡ true → ⊥)
     → IsOne (first_settling true (if b then By e else Inactive) a) (length (filter f (e ∷ es)))
 first_with e es f true h a one apart = subst (λ v. IsOne (By e) (length (if v then e ∷ filter f es else filter f es))) (sym h) (go (length (filter f es)) one)
@@ -111,7 +111,7 @@ module _ (g : Graph) (order : List ℕ) (topological : IsTopological g order) (g
   input_is_active : (e : ℕ) → Contains (inputs g p) e → live g o e ≡ true → is_active (outcome_at (tree_in e) o) ≡ true
   input_is_active e c l = ap is_active (input_at e c ∙ ap (λ b. if b then By e else Inactive) l)
 
-  -- what the tree of inputs tells, where there is one
+  -- what the tree of inputs tells, if there is one
   abbrev IsUnion : List ℕ → Option Guard → Type 0
   IsUnion es None = Unit {0}
   IsUnion es (Some t) = IsOne (outcome_at t o) (length (filter (live g o) es))

@@ -29,12 +29,12 @@ pub record AreAlternatives (g : Graph) (order : List ℕ) (p : ℕ) (s : Scenari
 abbrev pub are_two_live : List (Option Bool) → List Input → Bool
 are_two_live standings is = nat_lt 1 (count_by (is_live_in standings) is)
 
--- the first of two, where there is one
+-- the first of two, if there is one
 abbrev pub first_some : Option (List (Option Bool)) → Option (List (Option Bool)) → Option (List (Option Bool))
 first_some None b = b
 first_some (Some a) b = Some a
 
--- the second counts where there are two ways
+-- the second counts if there are two ways
 abbrev pub if_other : Option ℕ → Option (List (Option Bool)) → Option (List (Option Bool))
 if_other None b = None
 if_other (Some c) b = b

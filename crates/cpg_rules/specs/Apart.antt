@@ -33,7 +33,7 @@ union_with ranks [] first later = Some first
 union_with ranks (i ∷ is) first None = None
 union_with ranks (i ∷ is) first (Some later) = if are_both_live ranks first later then None else Some (met true ranks first later)
 
--- the tree of a join with these inputs, where no two of them are live at once
+-- the tree of a join with these inputs, if no two of them are live at once
 abbrev pub union : Graph → List ℕ → List Guard → List Input → Option Guard
 union g ranks trees [] = Some (Leaf Inactive)
 union g ranks trees (i ∷ is) = union_with ranks is (input_tree g true trees i) (union g ranks trees is)

@@ -39,7 +39,7 @@ against ranks c off on (Test d low high) =
     then tested d (against ranks c off on low) (against ranks c off on high)
     else tested c (off (Test d low high)) (on (Test d low high)))
 
--- the first tree where it settles the matter, and else the second
+-- the first tree if it settles the matter, and else the second
 abbrev pub met : Bool → List ℕ → Guard → Guard → Guard
 met join ranks (Leaf a) t = if settles join a then Leaf a else t
 met join ranks (Test c off on) t = against ranks c (met join ranks off) (met join ranks on) t

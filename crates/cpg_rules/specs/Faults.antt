@@ -33,7 +33,7 @@ pub record HasSlots (g : Graph) (order : List ℕ) : Type 0 where
   pub inputs : HasFewInputs g order
   pub slots : HasSenderSlots g
 
--- and no message is larger than its slot holds
+-- no message is larger than its slot holds, either
 pub record HasSizes (g : Graph) (order : List ℕ) : Type 0 where
   pub slots : HasSlots g order
   pub sizes : AllFit g

@@ -7,8 +7,8 @@ use Rattle.cpg_base.specs.Activity.{is_active, takes}
 use Rattle.cpg_rules.specs.declared.steps.Input.{Input}
 use Rattle.cpg_rules.specs.Steps.{Step}
 
--- On the way each process so far has a standing: None where it is inactive, and else the value of its condition,
--- false where it has none.
+-- On the way each process so far has a standing: None if it is inactive, and else the value of its condition,
+-- false if it has none.
 
 -- whether an input is live, by the standing of its source
 abbrev pub is_taken : Option Bool → Option Bool → Bool
@@ -34,7 +34,7 @@ activation_from false standings (i ∷ is) = if list_all (is_live_in standings) 
 abbrev pub activation_in : List (Option Bool) → Step → Activation
 activation_in standings step = activation_from step.join standings step.inputs
 
--- the standing of a process, where its condition has the value
+-- the standing of a process, if its condition has the value
 abbrev pub standing : Activation → Bool → Option Bool
 standing a value = if is_active a then Some value else None
 
@@ -46,7 +46,7 @@ choice a condition = if is_active a then condition else None
 abbrev pub settled : List (Option Bool) → Step → Bool → List (Option Bool)
 settled standings step value = slice_set standings step.process (standing (activation_in standings step) value)
 
--- the second number counts where there are two ways
+-- the second number counts if there are two ways
 abbrev pub if_both : Option ℕ → ℕ → ℕ
 if_both None n = 0
 if_both (Some c) n = n

@@ -18,11 +18,11 @@ reads p step = list_any (λ i. i.source == p) step.inputs
 abbrev pub are_reading : List Step → ℕ → Bool
 are_reading steps p = list_any (reads p) steps
 
--- whether the walk rests on a step, where these are the later steps that it rests on
+-- whether the walk rests on a step, if these are the later steps that it rests on
 abbrev pub is_rested : Aim → Step → List Step → Bool
 is_rested aim step later = is_aim aim step || are_reading later step.process
 
--- of these steps those that the walk rests on
+-- those of these steps that the walk rests on
 abbrev pub rested : Aim → List Step → List Step
 rested aim [] = []
 rested aim (step ∷ steps) = if is_rested aim step (rested aim steps) then step ∷ rested aim steps else rested aim steps

@@ -32,7 +32,7 @@ abbrev pub IsTop : List Part → Top → Guard → Type 0
 IsTop parts (LeafTop a) tree = tree ≡ Leaf a
 IsTop parts (TestTop c off on) tree = (off < length parts) × (on < length parts) × (tree ≡ Test c (tree_at parts off) (tree_at parts on))
 
--- it is the answer to what is asked; that two are never active at once has none
+-- a part is the answer to what is asked; that two are never active at once has none
 abbrev pub IsAnswer : List ℕ → List Part → Ask → ℕ → Type 0
 IsAnswer ranks parts (Live a x source) n = (source < length parts) × (n < length parts) × (tree_at parts n ≡ live_tree a x (tree_at parts source))
 IsAnswer ranks parts (Met join first second) n =
@@ -67,7 +67,7 @@ pub record Extends (before after : Sharing) : Type 0 where
   pub longer : length before.parts ≤ length after.parts
   pub same : (n : ℕ) → n < length before.parts → tree_at after.parts n ≡ tree_at before.parts n
 
--- and this one has the tree
+-- parts that are there stay, and this one has the tree
 pub record Makes (before after : Sharing) (tree : Guard) (n : ℕ) : Type 0 where
   pub more : Extends before after
   pub within : n < length after.parts
@@ -77,12 +77,12 @@ pub record Makes (before after : Sharing) (tree : Guard) (n : ℕ) : Type 0 wher
 abbrev pub trees_of : List Part → List ℕ → List Guard
 trees_of parts roots = map (tree_at parts) roots
 
--- so many processes have parts that are there
+-- the roots of this many processes are numbers of parts
 pub record AreRoots (parts : List Part) (count : ℕ) (roots : List ℕ) : Type 0 where
   pub all : length roots ≡ count
   pub within : All (λ n. n < length parts) roots
 
--- the part has the tree, where there is one
+-- the part has the tree, if there is one
 abbrev pub MakesUnion : Sharing → Sharing → Option Guard → Option ℕ → Type 0
 MakesUnion before after None None = Extends before after
 MakesUnion before after None (Some n) = ⊥

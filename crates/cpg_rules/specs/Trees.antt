@@ -20,6 +20,6 @@ same_guard (Leaf a) (Test d low high) = false
 same_guard (Test c off on) (Leaf b) = false
 same_guard (Test c off on) (Test d low high) = (c == d) && (same_guard off low && same_guard on high)
 
--- a test, or the one tree where both arms are equal
+-- a test, or the one tree if both arms are equal
 abbrev pub tested : ℕ → Guard → Guard → Guard
 tested c off on = if same_guard off on then off else Test c off on

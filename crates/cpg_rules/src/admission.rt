@@ -68,7 +68,7 @@ pub enum RuleFault {
     /// The order that the graph gives isn't topological: the least process that is lacking in it, or if none is lacking, the
     /// first in it that stands before the source of one of its inputs.
     BadOrder(u32),
-    /// Want of memory.
+    /// Out of memory.
     OutOfMemory,
 }
 

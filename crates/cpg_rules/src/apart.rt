@@ -11,7 +11,7 @@ use crate::steps::{Input, inputs_of};
 use cpg_base::{Activation, OutOfMemory, Problem};
 use std::alloc::Global;
 
-/// The part of a join with these inputs, where no two of them are live at once.
+/// The part of a join with these inputs, if no two of them are live at once.
 fn union(
     alloc: Global,
     problem: &Problem,
@@ -64,7 +64,7 @@ fn are_apart(
     Ok(!parts.are_both_live(first, later))
 }
 
-/// Whether the parts tell that no outcome makes two inputs of a process live, where it is a join.
+/// Whether the parts tell that no outcome makes two inputs of a process live, if it is a join.
 pub fn is_single_join(
     alloc: Global,
     problem: &Problem,

@@ -118,7 +118,7 @@ pub fn seeds(alloc: Global, parts: &mut Parts, count: usize) -> Result<Vec<usize
     Ok(roots)
 }
 
-/// The parts of the processes after the steps, by number, where these are those before.
+/// The parts of the processes after the steps, by number, if these are those before.
 pub fn composed_along(
     alloc: Global,
     problem: &Problem,

@@ -28,7 +28,7 @@ pub fn choice(activation: Activation, condition: Option<u32>) -> Option<u32>
     }
 }
 
-/// The standings after a step, where the condition of its process has the value.
+/// The standings after a step, if the condition of its process has the value.
 pub fn settled(standings: Standings, step: &Step, activation: Activation, value: bool) -> Standings
     requires process { step.now.process < 128 }
     requires activation { activation ≡ activation_in standings step.now }
@@ -39,7 +39,7 @@ pub fn settled(standings: Standings, step: &Step, activation: Activation, value:
     standings
 }
 
-/// How many tracks go this way, where there are fewer than most, and else most.
+/// How many tracks go this way, if there are fewer than most, and else most.
 pub fn tracks(steps: &[Step], standings: Standings, most: u32) -> u32
     requires { All (IsStepBelow 128) steps.now }
     ensures { result ≡ min most (tracks_from steps.now standings) }

@@ -73,7 +73,7 @@ fn scenario_of(
     Ok(scenario)
 }
 
-/// The least scenario in which two inputs of a process are live, where it is a join and there is one. The contract alone names
+/// The least scenario in which two inputs of a process are live, if it is a join and there is one. The contract alone names
 /// `order`.
 fn least_of(
     alloc: Global,
@@ -102,7 +102,7 @@ fn least_of(
     }
 }
 
-/// As `least_of`, where these are the parts of the guards: they are looked at first, and the search is made only where they
+/// As `least_of`, if these are the parts of the guards: they are looked at first, and the search is made only if they
 /// don't tell that no two inputs are live.
 fn least_by(
     alloc: Global,
@@ -129,7 +129,7 @@ fn least_by(
     least_of(alloc, problem, order, steps, process)
 }
 
-/// The least join that some outcome gives two live inputs, with its least scenario; `None` exactly where no outcome gives
+/// The least join that some outcome gives two live inputs, with its least scenario; `None` exactly if no outcome gives
 /// a join two. These are the parts of the guards.
 pub fn least_alternatives(
     alloc: Global,

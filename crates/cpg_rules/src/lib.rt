@@ -22,7 +22,7 @@ pub use laws::ways_are_deciding;
 pub use tree::{GuardTop, GuardTree};
 pub use trees::{GuardFault, GuardTrees, guards};
 
-/// A graph that keeps all rules shows no fault but want of memory.
+/// A graph that keeps all rules shows no fault but that memory runs out.
 pub fn admitted_show_no_fault()
     ensures { AdmittedShowNoFault }
 {}

@@ -55,7 +55,7 @@ pub enum Ask {
     },
 }
 
-/// What is asked, and the number of the part that is the answer, where one is.
+/// What is asked, and the number of the part that is the answer, if one is.
 #[derive(Clone, Copy, Debug, PartialEq, Eq)]
 pub struct Known {
     ask: Ask,
@@ -202,7 +202,7 @@ impl Parts {
         self.parts[part].top
     }
 
-    /// The same tree as a part.
+    /// The tree of a part.
     pub fn tree(&self, part: usize) -> Result<GuardTree, OutOfMemory>
         requires { part < length self.now.parts }
         ensures { IfOk result (λ tree. tree ≡ tree_at self.now.parts part) }
@@ -235,7 +235,7 @@ impl Parts {
         }
     }
 
-    /// The part at a place, where its top is this one.
+    /// The part at a place, if its top is this one.
     fn found(&self, place: usize, top: Top) -> Option<usize>
         ensures within { IfSome result (λ n. n < length self.now.parts) }
         ensures top { IfSome result (λ n. IsTop self.now.parts top (tree_at self.now.parts n)) }
@@ -335,7 +335,7 @@ impl Parts {
         Ok(made)
     }
 
-    /// The part that is a test, or the one part where both have equal trees.
+    /// The part that is a test, or the one part if both have equal trees.
     fn tested(
         &mut self,
         alloc: Global,
@@ -436,7 +436,7 @@ impl Parts {
         Ok(made)
     }
 
-    /// As `met`, where it isn't known.
+    /// As `met`, if it isn't known.
     #[cycle(meeting)]
     fn walked(
         &mut self,
@@ -475,7 +475,7 @@ impl Parts {
         }
     }
 
-    /// The first part where it settles the matter, and else the second: both are walked down together, by rank.
+    /// The first part if it settles the matter, and else the second: both are walked down together, by rank.
     #[cycle(meeting)]
     pub fn met(
         &mut self,
@@ -531,7 +531,7 @@ impl Parts {
         self.are_both_live(yes.0, yes.1)
     }
 
-    /// As `are_both_live`, where it isn't known.
+    /// As `are_both_live`, if it isn't known.
     #[cycle(living)]
     fn are_found_live(&mut self, first: usize, second: usize) -> bool
         requires { ArePairWithin self.old.parts first second }

@@ -44,7 +44,7 @@ fn decides(problem: &Problem, node: u32) -> bool
     false
 }
 
-/// Whether a node sends messages, or broadcasts where there are two nodes or more.
+/// Whether a node sends messages, or broadcasts if there are two nodes or more.
 fn is_sender(problem: &Problem, node: u32) -> bool
     ensures { result ≡ is_sender problem.now node }
 {
@@ -88,7 +88,7 @@ pub fn without_slot(problem: &Problem) -> Option<u32>
     None
 }
 
-/// How many bytes a frame in the first slot of a node holds, or 0 where it has none.
+/// How many bytes a frame in the first slot of a node holds, or 0 if it has none.
 fn slot_bytes(slots: &[Slot], node: u32) -> u32
     ensures { result ≡ bytes_in slots.now node }
 {

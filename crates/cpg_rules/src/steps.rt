@@ -12,8 +12,8 @@ use cpg_base::{Activation, Order, OutOfMemory, Problem};
 use std::alloc::Global;
 use std::marker::Model;
 
-/// How the processes so far stand, by process number: `None` where one is inactive, and else the value of its condition,
-/// false where it has none.
+/// How the processes so far stand, by process number: `None` if one is inactive, and else the value of its condition,
+/// false if it has none.
 pub type Standings = [Option<bool>; 128];
 
 /// An input of a process.
@@ -119,7 +119,7 @@ impl Step {
         self.inputs.iter().any(|input| input.source == process)
     }
 
-    /// The same step.
+    /// A copy of the step.
     fn copy(&self) -> Result<Step, OutOfMemory>
         ensures { IfOk result (λ step. step ≡ self.now) }
     {
@@ -131,7 +131,7 @@ impl Step {
         })
     }
 
-    /// The standings, where two of the inputs are live by them.
+    /// The standings, if two of the inputs are live by them.
     pub fn two_live(&self, standings: Standings) -> Option<Standings>
         requires { All (λ input. input.source < 128) self.now.inputs }
         ensures { result ≡ (if are_two_live standings self.now.inputs then Some standings else None) }
@@ -244,7 +244,7 @@ fn are_reading(steps: &[Step], process: u32) -> bool
     steps.iter().any(|step| step.reads(process))
 }
 
-/// Whether a walk rests on a step, where these are the later steps that it rests on.
+/// Whether a walk rests on a step, if these are the later steps that it rests on.
 fn is_rested(aim: Aim, step: &Step, later: &[Step]) -> bool
     ensures { result ≡ is_rested aim step.now later.now }
 {

@@ -58,9 +58,9 @@ pub enum GuardTop<'a> {
     Test {
         /// The number of the condition.
         condition: u32,
-        /// The tree where it is false.
+        /// The tree if it is false.
         no: &'a GuardTree,
-        /// The tree where it is true.
+        /// The tree if it is true.
         yes: &'a GuardTree,
     },
 }
@@ -88,7 +88,7 @@ impl GuardTree {
         Ok(GuardTree { node })
     }
 
-    /// The same tree.
+    /// A copy of the tree.
     pub(crate) fn copy(&self) -> Result<GuardTree, OutOfMemory>
         ensures { IfOk result (λ tree. tree ≡ self.now) }
     {

@@ -50,7 +50,7 @@ impl Model for GuardTrees {
 pub enum GuardFault {
     /// It has more than 16,384 tracks.
     TooManyTracks,
-    /// Want of memory.
+    /// Out of memory.
     OutOfMemory,
 }
 
@@ -113,7 +113,7 @@ pub fn shared_guards(
 
 /// The guards of a graph, by the trees along its urgency order.
 ///
-/// `TooManyTracks` comes exactly where the graph has more than 16,384 tracks.
+/// `TooManyTracks` comes exactly if the graph has more than 16,384 tracks.
 pub fn guards(alloc: Global, problem: &Problem, order: &Order) -> Result<GuardTrees, GuardFault>
     requires { IsTopological problem.now order.now }
     ensures guards { IfOk result (AreGuardsOf problem.now order.now) }

@@ -1,4 +1,4 @@
--- What bounds a start or a send is no greater than a number where each thing that it waits for is not.
+-- What bounds a start or a send is no greater than a number if each thing that it waits for is not.
 use Rattle.std.proofs.Common.{◌≡◌, ℕ, ◌+◌, ◌≤◌, true, List, [], ◌∷◌, ◌++◌, map, filter, flat_map, Contains, inl, inr, subst}
 use Rattle.std.proofs.lemmas.List.Elements.{Contains-append_cases}
 use Rattle.cpg_base.specs.Numbers.{greatest}

@@ -36,7 +36,7 @@ module _ (g : Graph) (order : List ℕ) (topological : IsTopological g order) wh
       let l = numbers-Contains (condition_count g) c r.0 in
       (omega (arith, l), omega (arith, ap (place order) (producer_of_broadcast g c), decides_earlier g order topological s.values p c l r.1))
 
-  -- so do its messages
+  -- the messages to a process come from earlier processes
   pub receives_earlier : (p e : ℕ) → Contains (inputs g p) e → (message_item g e < item_count g) × (place order (producer g (message_item g e)) < place order p)
   receives_earlier p e j =
       let l = (inputs_parts g p e j).0 in

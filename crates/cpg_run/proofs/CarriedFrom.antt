@@ -31,7 +31,7 @@ use Rattle.cpg_run.proofs.CubesOf.{number_holds}
 use Rattle.cpg_run.proofs.Queued.{producer_no_later}
 use Rattle.cpg_run.proofs.SameSends.{producer_active}
 
--- a member of a list that is there only where a test passes
+-- a member of a list that is there only if a test passes
 in_if : {X : Type 0} (b : Bool) (xs : List X) (x : X) → Contains (if b then xs else []) x → (b ≡ true) × Contains xs x
 in_if true xs x j = (refl, j)
 in_if false xs x j = absurd (Contains-nil x j)
@@ -99,14 +99,14 @@ module _ (g : Graph) (order : List ℕ) (rows : List (List Column)) (s : Scenari
     by_message : active g s.values q ≡ true → (process_at g q).frozen ≡ false → FromMessage q m → FromProcess p q m
     by_count : Contains (before_on_node g order p) q → active g s.values q ≡ true → m ≡ number_known s q → FromProcess p q m
 
-  -- of a start that is not frozen
+  -- what a process on the node gives to a start that is not frozen
   pub record FromFree (p : ℕ) (m : Literal) : Type 0 where
     pub free : (process_at g p).frozen ≡ false
     pub process : ℕ
     pub stands : Contains (up_to g order p) process
     pub told : FromProcess p process m
 
-  -- beside a start: what decides its process or, where it is not frozen, more
+  -- beside a start: what decides its process or, if it is not frozen, more
   pub data FromStart (p : ℕ) (m : Literal) : Type 0 where
     own : FromValue p m → FromStart p m
     more : FromFree p m → FromStart p m
@@ -281,7 +281,7 @@ module _ (g : Graph) (order : List ℕ) (rows : List (List Column)) (s : Scenari
         holds_is m (of_number v known is) = ap (holds s) is ∙ number_holds s v
         holds_is m (of_row y at row) = from_all (holds s) row.column.cube m row.matched row.literal
 
-    -- and is on variables of the graph, where the columns of earlier rows are
+    -- all that is carried is on variables of the graph, if the columns of earlier rows are
     pub carried_known : process_count g ≤ 128 → (x : ℕ) → x < item_count g → ((y : ℕ) → IsEarlier g order (place order (producer g x)) y → All (λ c. IsCube g c.cube) (row_at rows y)) →
         item_active g s.values (item_at g x) ≡ true → (m : Literal) → Contains (carried g order rows s x) m → IsVariable g m.variable
     carried_known few x l cubes on m j = known_is (carried_is few (place order (producer g x)) m x l (omega arith) on j)

@@ -70,7 +70,7 @@ module _ (g : Graph) (urgency order : List ℕ) (frozen : List (Option ℕ)) (ti
   sent_reach x v (Message d) e j = subst (λ vs. Contains vs v) (sym (cond-true _ _ _ e)) j
   sent_reach x v (Broadcast c) e j = subst (λ vs. Contains vs v) (sym (cond-true _ _ _ e)) j
 
-  -- ---- the parts of a start's reach, where it isn't frozen
+  -- ---- the parts of a start's reach, if it isn't frozen
 
   conditions_part : ℕ → List ℕ
   conditions_part p = flat_map (λ c. value_variable c ∷ hearing_reach g r (node_of g p) c) (flat_map (conditions_of g) (before_on_node g order p ++ p ∷ []))

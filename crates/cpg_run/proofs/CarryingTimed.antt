@@ -1,4 +1,4 @@
--- Carrying rows have the times of the runs; a column of theirs matches only where its item is active, so what never is has none.
+-- Carrying rows have the times of the runs; a column of theirs matches only if its item is active, so what never is has none.
 use Rattle.std.proofs.Common.{ℕ, ◌<◌, ◌≤◌, ◌≡◌, true, false, List, [], ◌∷◌, length, filter, get_or, Contains, Option, None, option_to_list, arith, refl, sym, ap, ◌∙◌, subst, inl, inr}
 use Rattle.std.proofs.lemmas.Bool.{cases_lt, both_ways}
 use Rattle.std.proofs.lemmas.List.{get_or_past}

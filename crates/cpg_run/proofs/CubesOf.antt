@@ -72,7 +72,7 @@ module _ (g : Graph) (few : process_count g ≤ 128) (literals cube : List Liter
       (λ m i e. omega (arith, holds-high s m (from_all (holds s) literals m h i), ap (number_of s) e)) in
       holds-from s l (omega (arith, r.0, is.low v, low)) (omega (arith, r.1, is.high v, high)))
 
-  -- and in no other
+  -- the literals hold in each scenario that their cube matches
   pub literals_hold : matches cube s ≡ true → matches literals s ≡ true
   literals_hold h = all_from (holds s) literals (λ m j.
       let v : ℕ = m.variable in
@@ -91,7 +91,7 @@ same_lows g a b same =
     let faults = same_map (low_in a) (low_in b) (numbers_below (process_count g)) (λ p j. same p) in
     λ i. record { values = values i; faults = faults i }
 
--- so have two cubes of the same literals
+-- two cubes of the same literals have the same least scenario
 pub same_least : (g : Graph) (xs a b : List Literal) → IsCubeOf g.faults xs a → IsCubeOf g.faults xs b → lows g a ≡ lows g b
 same_least g xs a b is other = same_lows g a b (λ v. is.low v ∙ sym (other.low v))
 
@@ -108,7 +108,7 @@ module _ (k : ℕ) (literals : List Literal) where
   spoken_below : List ℕ
   spoken_below = filter is_spoken (numbers_below (suc (greatest (map (λ (m : Literal). m.variable) literals))))
 
-  -- of each variable of the literals what is kept of it
+  -- what is kept of each variable of the literals
   pub cube_of : List Literal
   cube_of = map kept spoken_below
 

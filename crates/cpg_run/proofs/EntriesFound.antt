@@ -16,7 +16,7 @@ use Rattle.cpg_run.specs.Rows.{IsCubeOf, IsEntryIn, AreEntriesOf}
 use Rattle.cpg_run.proofs.CubesOf.{same_least}
 use Rattle.cpg_run.proofs.SameInRows.{only_one}
 
--- of a list without repeats no element stands before its place
+-- no element of a list without repeats stands before its place
 pub not_before_place : {X : Type 0} (xs : List X) (i : ℕ) (d : X) → AllPairs (λ x y. x ≢ y) xs → i < length xs → Contains (take i xs) (get_or xs i d) → ⊥
 not_before_place {X} xs i d apart l j =
     let x : X = get_or xs i d in
@@ -57,7 +57,7 @@ module _ (g : Graph) (order : List ℕ) (frozen : List (Option ℕ)) (rows : Lis
     pub passed_inactive : item_active g s.values (item_at g x) ≡ false → AreEntriesAmong (done ++ s ∷ []) entries
     passed_inactive off = pass_over (λ e is least. both_ways _ off is.active)
 
-    -- nor has one that isn't the least of its cube
+    -- a scenario that isn't the least of its cube has no entry
     pub passed_other : (cube : List Literal) → IsCubeOf g.faults (carried g order rows s x) cube → lows g cube ≢ s → AreEntriesAmong (done ++ s ∷ []) entries
     passed_other cube is other = pass_over (λ e entry least. other (same_least g (carried g order rows s x) cube e.cube is entry.cube ∙ least))
 

@@ -31,7 +31,7 @@ use Rattle.cpg_run.proofs.SameSends.{carried_decides}
 pub every : {X : Type 0} (P : X → Type 0) (xs : List X) → ((x : X) → Contains xs x → P x) → All P xs
 every P xs h k d l = h (get_or xs k d) (Contains-get_or xs k d l)
 
--- of a list no two of which pass, one passes at most
+-- at most one element passes of a list of which no two pass
 module _ {X : Type 0} (R : X → X → Type 0) (p : X → Bool) where
   two_at_most : (xs ys : List X) → ((y : X) → Contains ys y → Contains xs y × (p y ≡ true)) → AllPairs R ys → ((x y : X) → Contains xs x → Contains xs y → p x ≡ true → p y ≡ true → R x y → ⊥) → length ys ≤ 1
   two_at_most xs [] from pairs never = omega arith
@@ -77,11 +77,11 @@ module _ (g : Graph) (urgency order : List ℕ) (frozen : List (Option ℕ)) (ro
     pub cube_same : (u : Scenario) → IsScenario g u → matches cube u ≡ true → IsSameIn g order frozen rows x s u
     cube_same u lu h = carried_decides g urgency order frozen rows s u x timed l earlier law lu on (literals_hold g few (carried g order rows s x) cube is u lu h)
 
-    -- so it is the cube of what is carried there
+    -- a cube is that of what is carried in each scenario that it matches
     pub cube_there_too : (u : Scenario) → IsScenario g u → matches cube u ≡ true → IsCubeOf g.faults (carried g order rows u x) cube
     cube_there_too u lu h = subst (λ ls. IsCubeOf g.faults ls cube) (sym (cube_same u lu h).carried) is
 
-    -- and of its least scenario
+    -- the entry of a cube is that of its least scenario
     pub entry_of_least : (time : ℕ) → ((t : Times) → IsRun g order frozen s t → get_or t.times x None ≡ Some time) → IsEntryIn g order frozen rows x (lows g cube) (record { time = time; cube = cube })
     entry_of_least time here =
         let lawful = lows-lawful g few cube cube_known cube_met in
@@ -122,7 +122,7 @@ module _ (g : Graph) (urgency order : List ℕ) (frozen : List (Option ℕ)) (ro
     matches_once u lu = one_passes (λ (d e : Column). lows g d.cube ≢ lows g e.cube) (λ (c : Column). matches c.cube u) entries are.apart
         (λ d e i j h k ne. ne (same_least g (carried g order rows u x) d.cube e.cube (entry_cube d i u lu h) (entry_cube e j u lu k)))
 
-    -- one does where the item is active
+    -- one does if the item is active
     a_match : (u : Scenario) (w : Times) → IsScenario g u → IsRun g order frozen u w → item_active g u.values (item_at g x) ≡ true → (e : Column) × Contains entries e × (matches e.cube u ≡ true)
     a_match u w lu other on =
         let cube : List Literal = cube_of g.faults (carried g order rows u x) in

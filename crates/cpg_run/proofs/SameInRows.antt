@@ -36,7 +36,7 @@ module _ (g : Graph) (order : List ℕ) (frozen : List (Option ℕ)) (rows : Lis
   tells_nothing s law t run off = ap (flat_map (λ (c : Column). c.cube)) (none_of_map (λ (c : Column). c.time) (matching_in rows s y)
       (times s t law run ∙ ap option_to_list (time_is g order frozen s t run y l ∙ cond-false _ _ _ off)))
 
-  -- of an active item's row one column matches, with the time of the run
+  -- one column of an active item's row matches, with the time of the run
   pub record Match (s : Scenario) (t : Times) : Type 0 where
     pub column : Column
     pub only : filter (λ (c : Column). matches c.cube s) (row_at rows y) ≡ column ∷ []
@@ -66,7 +66,7 @@ module _ (g : Graph) (order : List ℕ) (frozen : List (Option ℕ)) (rows : Lis
       pub time : get_or t.times y None ≡ get_or w.times y None
       pub tells : told_by rows u y ≡ told_by rows s y
 
-    -- where what its row tells in the first holds in the second
+    -- if what its row tells in the first holds in the second
     pub told_alike : item_active g s.values (item_at g y) ≡ true → matches (told_by rows s y) u ≡ true → SameTold
     told_alike on h =
         let m = the_match s ls t run on in

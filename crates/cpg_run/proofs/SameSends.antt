@@ -51,7 +51,7 @@ module _ (g : Graph) (urgency order : List ℕ) (frozen : List (Option ℕ)) (ro
   takes_is_same e l h (Some wanted) is = takes_same g order z.timed.admitted.topological s.values u.values e l
       (λ c n at. one_value _ _ (sym (number_of-value s c) ∙ sym (same_numbers u s (source_value g e) h (value_variable c) (value_in_source g e c wanted n at is)) ∙ number_of-value u c)) (Some wanted) is
 
-  -- an item whose producer is as active, and whose value is the same where it is
+  -- an item whose producer is as active, and whose value is the same if it is
   item_is_same : (x : ℕ) → x < item_count g → active g s.values (producer g x) ≡ active g u.values (producer g x) → (active g s.values (producer g x) ≡ true → matches (sent_by_value g s x) u ≡ true) →
       item_active g s.values (item_at g x) ≡ item_active g u.values (item_at g x)
   item_is_same x l same h = elim (item_cases g x l) [

@@ -58,7 +58,7 @@ module _ (g : Graph) (urgency order : List ℕ) (frozen : List (Option ℕ)) (ro
       has_time g order frozen s t z.run x l on ∙ sym (has_frozen_time g order frozen z.timed.frozen_times s z.first t z.run x l f on)
       ∙ has_frozen_time g order frozen z.timed.frozen_times u z.second w z.other x l f also ∙ sym (has_time g order frozen u w z.other x l also)
 
-  -- another has the same time where its bounds are the same
+  -- another has the same time if its bounds are the same
   pub free_time_same : (x : ℕ) → x < item_count g → item_active g s.values (item_at g x) ≡ true → item_active g u.values (item_at g x) ≡ true →
       unfrozen_time g order s t x ≡ unfrozen_time g order u w x → get_or t.times x None ≡ get_or w.times x None
   free_time_same x l on also e = time_active g order frozen s t z.run x l on ∙ ap (λ n. Some (greatest (n ∷ option_to_list (get_or frozen x None)))) e ∙ sym (time_active g order frozen u w z.other x l also)
@@ -71,7 +71,7 @@ module _ (g : Graph) (urgency order : List ℕ) (frozen : List (Option ℕ)) (ro
   unfolding Told
   told y on h e = told_alike g order frozen rows y e.0 (z.times y e) s u z.first z.second t w z.run z.other on h
 
-  -- ---- where what decides a process holds
+  -- ---- if what decides a process holds
 
   module _ (p : ℕ) (d : matches (decided g s p) u ≡ true) where
     value_same : (c : ℕ) → Contains (deciding g s.values p) c → number_of u (value_variable c) ≡ number_of s (value_variable c)
@@ -104,7 +104,7 @@ module _ (g : Graph) (urgency order : List ℕ) (frozen : List (Option ℕ)) (ro
           (l, deciding_is_active g urgency k.urgent (urgency_is_topological g k.formed order k.topological urgency k.urgent) s.values p c l r.1)
 
       module _ (at : place order p ≤ bound) where
-        -- and what is heard of conditions that decide it
+        -- what is heard of the conditions that decide a process is the same, if it holds
         module _ (h : matches (heard g rows s p) u ≡ true) where
           hears : (c : ℕ) → Contains (deciding g s.values p) c → (node_of g (process_of g c) == node_of g p) ≡ false → Told (broadcast_item g c)
           unfolding k
@@ -135,7 +135,7 @@ module _ (g : Graph) (urgency order : List ℕ) (frozen : List (Option ℕ)) (ro
                 | inr far ↦ ap (λ ls. if node_of g (process_of g c) == node_of g p then [] else ls) (hears c j far (hears_at c j)).tells
               ])
 
-        -- ---- its inputs, where it is active
+        -- ---- its inputs, if it is active
 
         module _ (on : active g s.values p ≡ true) where
           live_is_same : filter (live g s.values) (inputs g p) ≡ filter (live g u.values) (inputs g p)

@@ -196,7 +196,7 @@ module _ (g : Graph) (order : List ℕ) (topological : IsTopological g order) (s
           slots_free = subst (IsMost (IsSentBy g order s p (k + 1)) (free_after g t)) (ap (λ n. n + round g) (sym right)) (free_next k inside frozen t run free has.slots_free acts);
         }
 
--- the same as code says it
+-- the time of a send, as code says it
 pub found_is : (g : Graph) (frozen : List (Option ℕ)) (time free node sender end last item x : ℕ) → time ≡ max (max (next_slot g node end) free) (frozen_in frozen item)
     → node ≡ sender → end ≡ last → item ≡ x → time ≡ max (max (next_slot g sender last) free) (frozen_in frozen x)
 found_is g frozen time free node sender end last item x is n e i = is ∙ ap₂ (λ a b. max (max (next_slot g a b) free) (frozen_in frozen item)) n e ∙ ap (λ y. max (max (next_slot g sender last) free) (frozen_in frozen y)) i

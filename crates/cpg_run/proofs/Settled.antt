@@ -24,7 +24,7 @@ none_frozen g x = elim (cases_lt x (item_count g)) [
   | inr l ↦ get_or_past (nothing_frozen g) x None (omega (arith, length-replicate {A = Option ℕ} (item_count g) None))
 ]
 
--- of the frozen items along an order the first n have their times, and no other item has one
+-- the first n of the frozen items along an order have their times, and no other item has one
 pub record AreSettled (g : Graph) (order items : List ℕ) (n : ℕ) (frozen : List (Option ℕ)) : Type 0 where
   pub all : items ≡ frozen_along g order
   pub count : length frozen ≡ item_count g
@@ -51,7 +51,7 @@ module _ (g : Graph) (order : List ℕ) (topological : IsTopological g order) wh
         has = sym (unfrozen_same g order topological w.scenario w.times other x (agree_before g order topological w.scenario w.times other frozen others w.run run (moment g order x) same) h) ∙ w.has;
       }
 
-  -- so a frozen time stays one when what is set is not before it
+  -- a frozen time stays one when what is set is not before it
   pub frozen_time_kept : (frozen others : List (Option ℕ)) (x : ℕ) → x < item_count g → SameBefore frozen others x → get_or frozen x None ≡ get_or others x None → IsFrozenTime g order frozen x → IsFrozenTime g order others x
   frozen_time_kept frozen others x h same here f = record {
     reached = λ time e. would_have_same frozen others x time h same (f.reached time (here ∙ e));
@@ -59,7 +59,7 @@ module _ (g : Graph) (order : List ℕ) (topological : IsTopological g order) wh
     none = λ e time w. f.none (here ∙ e) time (would_have_same others frozen x time h (λ y i l. sym (same y i l)) w);
   }
 
-  -- and what an item would have is its frozen time once it is set
+  -- what an item would have is its frozen time once it is set
   pub frozen_time_set : (frozen others : List (Option ℕ)) (x : ℕ) → x < item_count g → SameBefore frozen others x → IsUnfrozenTime g order frozen x (get_or others x None) → IsFrozenTime g order others x
   frozen_time_set frozen others x h same f = record {
     reached = λ time e. would_have_same frozen others x time h same (f.reached time e);

@@ -1,4 +1,4 @@
--- The times of a run stay small where the frozen times are early.
+-- The times of a run stay small if the frozen times are early.
 use Rattle.std.proofs.Common.{◌≡◌, ◌∙◌, ℕ, ◌^◌, List, length, get_or, Option, None, unwrap_or, arith, ap, inl, inr}
 use Rattle.std.proofs.lemmas.Bool.{cases_lt}
 use Rattle.std.proofs.lemmas.List.{get_or_past}

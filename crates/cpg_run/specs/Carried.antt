@@ -44,7 +44,7 @@ received g rows s p = flat_map (λ e. if is_message g e then told_by rows s (mes
 abbrev pub executed : Graph → List (List Column) → Scenario → ℕ → List Literal
 executed g rows s p = (if (process_at g p).frozen then [] else received g rows s p) ++ number_known s p ∷ []
 
--- what a node carries on from a process: what decides it, and its execution where it is active
+-- what a node carries on from a process: what decides it, and its execution if it is active
 abbrev pub passed : Graph → List (List Column) → Scenario → ℕ → List Literal
 passed g rows s p = decided g s p ++ heard g rows s p ++ (if active g s.values p then executed g rows s p else [])
 
@@ -78,6 +78,6 @@ carried_by_item g order rows s x (Start p) = carried_at_start g order rows s p
 carried_by_item g order rows s x (Message e) = carried_at_send g order rows s x
 carried_by_item g order rows s x (Broadcast c) = carried_at_send g order rows s x
 
--- that of the item of a number
+-- what is carried beside the time of the item that has this number
 abbrev pub carried : Graph → List ℕ → List (List Column) → Scenario → ℕ → List Literal
 carried g order rows s x = carried_by_item g order rows s x (item_at g x)

@@ -23,7 +23,7 @@ pub record ContainsKept (k : ℕ) (cube literals : List Literal) : Type 0 where
   pub low : (v : ℕ) → low_in cube v ≤ kept_low literals v
   pub high : (v : ℕ) → kept_high k literals v ≤ high_in k cube v
 
--- the columns of an item have the times of the runs, and where one matches it says no more than what is carried there
+-- the columns of an item have the times of the runs, and if one matches it says no more than what is carried there
 pub record IsCarryingRow (g : Graph) (urgency order : List ℕ) (frozen : List (Option ℕ)) (rows : List (List Column)) (x : ℕ) : Type 0 where
   pub times : HaveTimesOf g order frozen x (row_at rows x)
   pub carries : (s : Scenario) (c : Column) → IsScenario g s → Contains (row_at rows x) c → IsTrue (matches c.cube s) →

@@ -7,7 +7,7 @@ use Rattle.cpg_run.specs.Run.{Times, time_in, end_in}
 abbrev pub AreEarly : List (Option ℕ) → Type 0
 AreEarly frozen = (x time : ℕ) → get_or frozen x None ≡ Some time → time < 2 ^ 58
 
--- the frozen time of an item, or 0 where none is set
+-- the frozen time of an item, or 0 if none is set
 abbrev pub frozen_in : List (Option ℕ) → ℕ → ℕ
 frozen_in frozen x = unwrap_or (get_or frozen x None) 0
 

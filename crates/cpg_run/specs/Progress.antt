@@ -89,7 +89,7 @@ pub record ProgressState : Type 0 where
   pub ready : List ℕ
   pub free : List ℕ
 
--- it is that of a scenario before the place i
+-- what is found of a run is that of a scenario before the place i
 pub record IsAlong (g : Graph) (order : List ℕ) (frozen : List (Option ℕ)) (s : Scenario) (i : ℕ) (p : ProgressState) : Type 0 where
   pub places : HasPlaces g p.known p.ready p.free
   pub at : (t : Times) → IsRun g order frozen s t → IsAt g order s t i p.known p.ready p.free

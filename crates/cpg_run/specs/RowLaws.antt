@@ -20,7 +20,7 @@ pub record IsTimed (g : Graph) (urgency order : List ℕ) (frozen : List (Option
   pub admitted : Admitted g urgency order
   pub frozen_times : AreFrozenTimes g order frozen
 
--- in every scenario the columns have the one time of an item in the run, and none where it is inactive
+-- in every scenario the columns have the one time of an item in the run, and none if it is inactive
 abbrev pub HaveTimesOf : Graph → List ℕ → List (Option ℕ) → ℕ → List Column → Type 0
 HaveTimesOf g order frozen x columns = (s : Scenario) (t : Times) → IsScenario g s → IsRun g order frozen s t →
     times_in columns s ≡ option_to_list (get_or t.times x None)
@@ -53,7 +53,7 @@ abbrev pub CarriedRestsOnEarlier : Type 0
 CarriedRestsOnEarlier = (g : Graph) (order : List ℕ) (rows others : List (List Column)) (s : Scenario) (x : ℕ) → IsTopological g order →
     x < item_count g → SameRowsBefore g order (place order (producer g x)) rows others → carried g order rows s x ≡ carried g order others s x
 
--- it decides the time: where it holds in another scenario, the item is the same there
+-- what is carried beside a time decides the time: if it holds in another scenario, the item is the same there
 abbrev pub CarriedDecides : Type 0
 CarriedDecides = (g : Graph) (urgency order : List ℕ) (frozen : List (Option ℕ)) (rows : List (List Column)) (s u : Scenario) (x : ℕ) →
     IsTimed g urgency order frozen →

@@ -16,13 +16,13 @@ pub struct Built {
     pub worst: u64,
     /// The least scenario that has it.
     pub worst_in: Scenario,
-    /// The least process that ends at it there; `None` exactly where there is no process.
+    /// The least process that ends at it there; `None` exactly if there is no process.
     pub worst_by: Option<u32>,
     /// How far an end is past its due at most, in time units.
     pub excess: u64,
     /// The least scenario that has this excess.
     pub excess_in: Scenario,
-    /// The least process that has it there; `None` exactly where nothing is late.
+    /// The least process that has it there; `None` exactly if nothing is late.
     pub excess_by: Option<u32>,
 }
 
@@ -31,7 +31,7 @@ pub struct Built {
 pub enum BuildFault {
     /// The least item whose row would have too many columns.
     TooWide(u32),
-    /// Want of memory.
+    /// Out of memory.
     OutOfMemory,
 }
 

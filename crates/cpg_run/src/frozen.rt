@@ -33,7 +33,7 @@ impl Frozen {
         })
     }
 
-    /// The time of an item, and `None` exactly where none was set.
+    /// The time of an item, and `None` exactly if none was set.
     pub fn of(&self, item: u32) -> Option<u64>
         requires { item < length self.now }
         ensures { result ≡ get_or self.now item None }

@@ -62,7 +62,7 @@ impl Known {
         })
     }
 
-    /// The time of an item, and `None` where none is known.
+    /// The time of an item, and `None` if none is known.
     pub(crate) fn time_if(&self, item: u32) -> Option<u64>
         ensures { result ≡ get_or self.now.times item None }
     {
@@ -72,14 +72,14 @@ impl Known {
         }
     }
 
-    /// The time of an item, or 0 where none is known.
+    /// The time of an item, or 0 if none is known.
     pub(crate) fn time(&self, item: u32) -> u64
         ensures { result ≡ time_in self.now item }
     {
         self.time_if(item).unwrap_or(0)
     }
 
-    /// The end of a process, or 0 where none is known.
+    /// The end of a process, or 0 if none is known.
     pub(crate) fn end(&self, process: u32) -> u64
         ensures { result ≡ end_in self.now process }
     {

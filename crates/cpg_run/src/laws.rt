@@ -9,7 +9,8 @@ pub fn carried_rests_on_earlier()
     ensures { CarriedRestsOnEarlier }
 {}
 
-/// Where it holds in another scenario, the item is active there too, at the same time, and the same is carried.
+/// If what is carried beside a time holds in another scenario, the item is active there too, at the same time, and
+/// the same is carried.
 pub fn carried_decides()
     ensures { CarriedDecides }
 {}
@@ -19,7 +20,7 @@ pub fn entries_have_times()
     ensures { EntriesHaveTimes }
 {}
 
-/// So have rows, and an item that is never active has no column.
+/// Rows have the times of the runs, and an item that is never active has no column.
 pub fn rows_have_times()
     ensures { RowsHaveTimes }
 {}
@@ -34,17 +35,17 @@ pub fn listed_rows_carry()
     ensures { ListedRowsCarry }
 {}
 
-/// Rows that carry no more than they may are within the limits of a row and of all rows where no item is too wide.
+/// Rows that carry no more than they may are within the limits of a row and of all rows if no item is too wide.
 pub fn found_rows_fit()
     ensures { FoundRowsFit }
 {}
 
-/// Within those limits they can be written as tables.
+/// Rows that are found can be written as tables, if they are within the limits of a row and of all rows.
 pub fn found_rows_are_writable()
     ensures { FoundRowsAreWritable }
 {}
 
-/// Their tables, with the greatest finish and excess of the runs, are what a builder answers.
+/// The tables of rows that are found, with the greatest finish and excess of the runs, are what a builder answers.
 pub fn found_tables_are_built()
     ensures { FoundTablesAreBuilt }
 {}

@@ -38,7 +38,7 @@ fn send_time(
     next.max(free).max(frozen_time(frozen, item))
 }
 
-/// Sets the times of all that an active process sends, where the slots of its node are free from a time on, and tells from
+/// Sets the times of all that an active process sends, if the slots of its node are free from a time on, and tells from
 /// when on they are free then.
 pub(crate) fn send(
     setting: &Setting<'_>,

@@ -115,7 +115,7 @@ impl Progress {
         })
     }
 
-    /// The time of an item in time units, and `None` where none is known.
+    /// The time of an item in time units, and `None` if none is known.
     pub fn time(&self, item: u32) -> Option<u64>
         ensures { result ≡ get_or self.now.known.times item None }
     {
@@ -145,7 +145,7 @@ impl Progress {
         Ok(())
     }
 
-    /// The run, where all is known.
+    /// The run, if all is known.
     pub(crate) fn finished(self) -> RunTimes
         ensures { result ≡ record self.known { finish = greatest (flat_map option_to_list self.known.ends) } }
     {

@@ -33,7 +33,7 @@ impl RunTimes {
         }
     }
 
-    /// The time of an item, and `None` exactly where it is inactive or no item.
+    /// The time of an item, and `None` exactly if it is inactive or no item.
     pub fn time(&self, item: u32) -> Option<u64>
         ensures { result ≡ get_or self.now.times item None }
     {
@@ -43,7 +43,7 @@ impl RunTimes {
         }
     }
 
-    /// The end of a process, and `None` exactly where it is inactive or no process.
+    /// The end of a process, and `None` exactly if it is inactive or no process.
     pub fn end(&self, process: u32) -> Option<u64>
         ensures { result ≡ get_or self.now.ends process None }
     {
@@ -53,7 +53,7 @@ impl RunTimes {
         }
     }
 
-    /// The greatest end, or 0 where there is none.
+    /// The greatest end, or 0 if there is none.
     pub fn finish(&self) -> u64
         ensures { result ≡ self.now.finish }
     {

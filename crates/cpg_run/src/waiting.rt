@@ -80,7 +80,7 @@ fn heard_there(problem: &Problem, plan: &Plan, known: &Known, node: u32, conditi
     }
 }
 
-/// When an input is there, or 0 where it isn't live.
+/// When an input is there, or 0 if it isn't live.
 fn live_there(
     problem: &Problem,
     guards: &GuardTrees,
@@ -197,7 +197,7 @@ pub(crate) fn decided_there(
     Ok(heard)
 }
 
-/// The frozen time of an item, or 0 where none is set.
+/// The frozen time of an item, or 0 if none is set.
 pub(crate) fn frozen_time(frozen: &Frozen, item: u32) -> u64
     requires { item < length frozen.now }
     ensures { result ≡ frozen_in frozen.now item }

@@ -1,4 +1,4 @@
--- Each cause is there exactly where its test fails, and the tests stand in the order of the causes.
+-- Each cause is there exactly if its test fails, and the tests stand in the order of the causes.
 use Rattle.std.proofs.Common.{ℕ, zero, suc, ℤ, pos, negsuc, ◌≡◌, ◌<◌, ◌≤◌, ◌⊎◌, Bool, true, false, not, ◌&&◌, ◌||◌, if◌then◌else◌, List, [], ◌∷◌, Contains, Option, Some, None, Ok, Err, is_some, sum_by, codes, refl, sym, ap, subst, ◌∙◌, inl, inr, arith, true≢false}
 use Rattle.std.specs.Prelude.{◌↔◌, ⊤, IsSomeAnd, bytes_eq, nat_le, option_and_then}
 use Rattle.std.specs.List.{list_any, list_all}
@@ -17,7 +17,7 @@ use Rattle.cpg_scenario.specs.File.{top_keys, are_among, is_typed, are_typed, is
 use Rattle.cpg_scenario.specs.Causes.{document_of, Stands, HasEntry, HasOtherKey, HasOtherType, IsNoTableOf, HasBadField, HasUnknownName, HasBadValue, IsNegative, HasNegativeCount, IsOverBudget, IsNoLength, HasBadLength, IsIn, place_of, FirstCausesAreTold}
 use Rattle.cpg_scenario.proofs.Filling.{all_pass, one_fails}
 
--- ---- a test and what is so where it fails
+-- ---- a test and what is so if it fails
 
 abbrev Fails : Bool → Type 0 → Type 0
 Fails test Fact = (test ≡ false) ↔ Fact
@@ -26,7 +26,7 @@ both : (a b : Bool) (A B : Type 0) → Fails a A → Fails b B → Fails (a && b
 both false b A B f g = (λ e. inl (f.0 refl), λ s. refl)
 both true b A B f g = (λ e. inr (g.0 e), λ s. elim s [ inl x ↦ absurd (true≢false (f.1 x)) | inr y ↦ g.1 y ])
 
--- the same by facts that say the same
+-- a test fails by a fact exactly if it fails by another that says the same
 through : (test : Bool) (A B : Type 0) → Fails test A → (A → B) → (B → A) → Fails test B
 through test A B f on back = (λ e. on (f.0 e), λ b. f.1 (back b))
 
@@ -289,6 +289,7 @@ module _ (g : Graph) (ms : Members) where
   passes : (cause : Cause) → (IsIn g (Some ms) cause → ⊥) → test cause ≡ true
   passes cause none = true_from_ne_false (test cause) (λ e. none ((fails cause).0 e))
 
+-- a document is rejected for its first cause, and played if there is none
 abbrev Judged : Graph → Option Members → Type 0
 Judged g document =
     ((cause : Cause) → played_if g document ≡ Err (Bad cause) ↔ (IsIn g document cause × ((other : Cause) → place_of other < place_of cause → IsIn g document other → ⊥)))

@@ -1,4 +1,4 @@
--- Pieces that are written one after the other are their list with commas, where no piece is empty.
+-- Pieces that are written one after the other are their list with commas, if no piece is empty.
 use Rattle.std.proofs.Common.{◌≡◌, ℕ, ◌+◌, ◌==◌, Bool, true, false, cond, List, [], ◌∷◌, ◌++◌, codes, flat_map, refl, sym, ap, ◌∙◌, append-nil}
 use Rattle.std.specs.Prelude.{⊤}
 use Rattle.std.specs.Fmt.{decimal}

@@ -125,6 +125,6 @@ pub record IsJudgedByCauses (g : Graph) (bytes : List ℕ) : Type 0 where
   pub refused : (cause : Cause) → file_of g bytes ≡ Err (Bad cause) ↔ IsFirstCauseOf g bytes cause
   pub played : ((p : Played) × (file_of g bytes ≡ Ok p)) ↔ ((cause : Cause) → IsThere g bytes cause → ⊥)
 
--- so is each file
+-- each file is rejected for its first cause, and says a scenario if there is no cause
 abbrev pub FirstCausesAreTold : Type 0
 FirstCausesAreTold = (g : Graph) (bytes : List ℕ) → IsJudgedByCauses g bytes

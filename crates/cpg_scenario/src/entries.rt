@@ -72,7 +72,7 @@ fn table_at<'a>(document: &'a Table, key: &str) -> Option<&'a Table>
     }
 }
 
-/// Whether a table of such entries stands at a key, if anything does.
+/// Whether a key is absent, or a table stands there whose entries are all booleans (if `flags` is true) or all integers.
 fn is_table_of(document: &Table, key: &str, flags: bool) -> bool
     ensures { result ≡ is_table_of flags (get_member key.now (table_view document.now)) }
 {

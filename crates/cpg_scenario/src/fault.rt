@@ -24,7 +24,7 @@ pub enum Cause {
 pub enum ScenarioFault {
     /// The file isn't one of the graph.
     Bad(Cause),
-    /// Want of memory.
+    /// Out of memory.
     OutOfMemory,
 }
 

@@ -12,7 +12,7 @@ pub use fault::{Cause, ScenarioFault};
 pub use reading::{Played, read_scenario};
 pub use text::scenario_text;
 
-/// A scenario file is refused for its first cause, and says a scenario of the graph where it has none.
+/// A scenario file is refused for its first cause, and says a scenario of the graph if it has none.
 pub fn first_causes_are_told()
     ensures { FirstCausesAreTold }
 {}

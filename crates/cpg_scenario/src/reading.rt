@@ -33,7 +33,7 @@ fn value_given(problem: &Problem, document: &Table, process: u32) -> Option<bool
     flag_at(document, "values", name)
 }
 
-/// Whether a process has a condition, where it is given a value.
+/// Whether a process has a condition, if it is given a value.
 fn may_have_value(problem: &Problem, document: &Table, process: u32) -> bool
     requires { process < process_count problem.now }
     ensures { result ≡ may_have_value problem.now (table_view document.now) process }
@@ -91,7 +91,7 @@ fn count_within(count: i64, left: u8) -> Option<u8>
     Some(count as u8)
 }
 
-/// Gives each process its fault count; false exactly where a count is below 0, or they are more than the fault number.
+/// Gives each process its fault count; false exactly if a count is below 0, or they are more than the fault number.
 fn set_faults(problem: &Problem, document: &Table, scenario: &mut Scenario) -> bool
     requires { length scenario.old.faults ≡ process_count problem.now }
     ensures kept { result ≡ keeps_budget problem.now (table_view document.now) }
@@ -111,7 +111,7 @@ fn set_faults(problem: &Problem, document: &Table, scenario: &mut Scenario) -> b
     true
 }
 
-/// The length that is given, where it is one of an execution that takes at most the longest, and the longest where none is.
+/// The length that is given, if it is one of an execution that takes at most the longest, and the longest if none is.
 fn length_within(given: Option<i64>, longest: u64) -> Option<u64>
     ensures some { IfSome result (λ n. (n ≡ length_or longest given) × (is_length_if longest given ≡ true)) }
     ensures none { IfNone result (is_length_if longest given ≡ false) }
@@ -138,7 +138,7 @@ fn length_given(problem: &Problem, document: &Table, process: u32) -> Option<i64
     integer_at(document, "lengths", name)
 }
 
-/// Gives each execution its length, where all are full; false exactly where one is below 1 or above the full one.
+/// Gives each execution its length, if all are full; false exactly if one is below 1 or above the full one.
 fn set_lengths(problem: &Problem, document: &Table, lengths: &mut Lengths) -> bool
     requires { lengths.old ≡ map (λ p. duration problem.now p (count_of problem.now (table_view document.now) p)) (numbers_below (process_count problem.now)) }
     ensures kept { result ≡ keeps_lengths problem.now (table_view document.now) }

@@ -17,7 +17,7 @@ fn write_comma(out: &mut String) -> Result<(), AllocError>
     Ok(())
 }
 
-/// How often a process fails, where it does.
+/// Writes how often a process fails, if it does.
 fn write_faults(out: &mut String, name: &str, faults: u8) -> Result<(), AllocError>
     ensures { OnOk result (string_bytes out.new ≡ with_pieces (string_bytes out.old) (fault_pieces name.now faults)) }
 {
@@ -28,7 +28,7 @@ fn write_faults(out: &mut String, name: &str, faults: u8) -> Result<(), AllocErr
     write!(out, "{name} faults {faults}")
 }
 
-/// The value of a process, where it is true.
+/// Writes the value of a process if it is true.
 fn write_value(out: &mut String, name: &str, value: bool) -> Result<(), AllocError>
     ensures { OnOk result (string_bytes out.new ≡ with_pieces (string_bytes out.old) (value_pieces name.now value)) }
 {
@@ -39,7 +39,7 @@ fn write_value(out: &mut String, name: &str, value: bool) -> Result<(), AllocErr
     write!(out, "{name} true")
 }
 
-/// What a scenario says of a process.
+/// Writes what a scenario says of a process.
 fn write_process(
     out: &mut String,
     problem: &Problem,
@@ -60,7 +60,7 @@ fn write_process(
     write_value(out, name, value)
 }
 
-/// `none` where nothing is said.
+/// `none` if nothing is said.
 fn write_none(out: &mut String) -> Result<(), AllocError>
     ensures { OnOk result (string_bytes out.new ≡ or_none (string_bytes out.old)) }
 {
@@ -70,7 +70,7 @@ fn write_none(out: &mut String) -> Result<(), AllocError>
     Ok(())
 }
 
-/// The faults and the true values of a scenario by process number, as `A faults 1, A true`, and `none` where there are
+/// The faults and the true values of a scenario by process number, as `A faults 1, A true`, and `none` if there are
 /// none.
 pub fn scenario_text(
     alloc: Global,

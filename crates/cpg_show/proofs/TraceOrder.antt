@@ -1,4 +1,4 @@
--- The order of a trace: the derived order keeps it, and where no two events have one key there is one such order.
+-- The order of a trace: the derived order keeps it, and if no two events have one key there is one such order.
 use Rattle.std.proofs.Common.{◌≡◌, ◌≢◌, ℕ, ◌+◌, Bool, true, false, not, ◌&&◌, List, ◌++◌, get_or, flat_map, AllPairs, IsPermutation, Ordering, Less, Equal, Greater, arith, refl, sym, ap, ◌∙◌, true≢false}
 use Rattle.std.specs.Ordering.{nat_cmp, is_lt, ordering_then}
 use Rattle.std.specs.Cmp.{IsStrictWeakOrder}
@@ -55,7 +55,7 @@ is_total = ranks_by nat_list_cmp_total event_key
 pub in_order : (events : List Event) → IsSorted (event_ord.ghosts).cmp events → AllPairs (λ a b. is_below (event_key b) (event_key a) ≡ false) events
 in_order events up i j d h l = sorted_far is_event_below is_total events (λ k e m n. event_order (get_or events (k + 1) e) (get_or events k e) (up k e m n)) i j d (omega arith) l
 
--- ---- where no two events have one key there is one order, and one text
+-- ---- if no two events have one key there is one order, and one text
 
 -- neither comes before the other
 abbrev is_tied : Event → Event → Bool

@@ -64,7 +64,7 @@ pub record IsEndWithin (g : Graph) (e : ℕ × Ended) : Type 0 where
 abbrev pub IsActWithin : Graph → Act → Type 0
 IsActWithin g a = a.item < item_count g
 
--- the same for what a node did
+-- what a node did is of a process or an item of the graph, and an end has no more faults than are allowed
 abbrev pub IsDeedWithin : Graph → Deed → Type 0
 IsDeedWithin g (End process faults value) = (process < process_count g) × (faults ≤ g.faults)
 IsDeedWithin g (Send item) = item < item_count g

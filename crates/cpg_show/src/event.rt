@@ -14,7 +14,7 @@ pub enum Deed {
         process: u32,
         /// How often it failed.
         faults: u8,
-        /// The value of its condition, and false where it has none.
+        /// The value of its condition, and false if it has none.
         value: bool,
     },
     /// A message or a broadcast was sent.

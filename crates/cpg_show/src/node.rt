@@ -116,7 +116,7 @@ fn sheet_of<'a>(alloc: Global, tables: &'a Tables, node: u32) -> Result<Sheet<'a
 
 /// Writes the name of a node, and the rows of what it starts, sends and hears.
 ///
-/// `Failed` only where the sink's count of faults rose. The sink has taken a proper prefix of the text then. On
+/// `Failed` only if the sink's count of faults rose. The sink has taken a proper prefix of the text then. On
 /// `OutOfMemory` the sink is as it was.
 pub fn write_node<O: Sink>(
     alloc: Global,

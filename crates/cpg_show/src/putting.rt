@@ -223,7 +223,7 @@ fn put_column<O: Sink>(
     put_text(buffer, sink, "\n")
 }
 
-/// The lines of columns. Where there is memory for it, a line takes over what it has in common with the line before.
+/// The lines of columns. If there is memory for it, a line takes over what it has in common with the line before.
 pub(crate) fn put_columns<O: Sink>(
     alloc: Global,
     buffer: &mut Buffer,

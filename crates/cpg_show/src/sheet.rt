@@ -88,7 +88,7 @@ fn write_through<O: Sink>(
 
 /// Writes a sheet.
 ///
-/// `Failed` only where the sink's count of faults rose. The sink has taken a proper prefix of the text then. The buffer is
+/// `Failed` only if the sink's count of faults rose. The sink has taken a proper prefix of the text then. The buffer is
 /// taken before the first write, so on `OutOfMemory` the sink is as it was.
 pub(crate) fn write_sheet<O: Sink>(
     alloc: Global,

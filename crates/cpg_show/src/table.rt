@@ -141,7 +141,7 @@ fn sheet_of<'a>(
 /// Writes the order, the greatest finish in time units, and the rows of what is started and sent, by number of the item.
 /// Of tables that weren't made for the graph it writes the rows of its items, and leaves out names that it doesn't have.
 ///
-/// `Failed` only where the sink's count of faults rose. The sink has taken a proper prefix of the text then. On
+/// `Failed` only if the sink's count of faults rose. The sink has taken a proper prefix of the text then. On
 /// `OutOfMemory` the sink is as it was.
 pub fn write_table<O: Sink>(
     alloc: Global,

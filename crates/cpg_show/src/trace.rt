@@ -30,7 +30,7 @@ fn write_outcome(
     write_value(out, u8::from(value))
 }
 
-/// How long an execution ran, where it ended early.
+/// How long an execution ran, if it ended early.
 fn write_ran(out: &mut String, length: u64, full: u64) -> Result<(), AllocError>
     ensures { OnOk result (string_bytes out.new ≡ string_bytes out.old ++ ran_text length full) }
 {
@@ -111,7 +111,7 @@ fn last_of(time: u64, ends: &[(u64, Ended)]) -> u64
     last
 }
 
-/// The greatest of the ends that all nodes have come to, in time units, and 0 where there is none.
+/// The greatest of the ends that all nodes have come to, in time units, and 0 if there is none.
 pub fn finish(problem: &Problem, cluster: &Cluster) -> u64
     requires { cluster.now.graph ≡ problem.now }
     ensures { result ≡ finish_of problem.now cluster.now.cluster.ends }
@@ -124,9 +124,9 @@ pub fn finish(problem: &Problem, cluster: &Cluster) -> u64
 }
 
 /// A line for each start, each message or broadcast and each end that the nodes have come to, then the greatest end in
-/// time units, 0 where there is none. Lines go by time, then by number of the node; then ends come first, sends next and
-/// starts last, each by number of the item. The time of an end is the planned one; where the execution took less, its line
-/// tells the length. The one error is want of memory.
+/// time units, 0 if there is none. Lines go by time, then by number of the node; then ends come first, sends next and
+/// starts last, each by number of the item. The time of an end is the planned one; if the execution took less, its line
+/// tells the length. The one error is `OutOfMemory`.
 pub fn trace_text(
     alloc: Global,
     admitted: &Admitted,

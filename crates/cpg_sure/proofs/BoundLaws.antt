@@ -1,4 +1,4 @@
--- Literals are heard where their bounds are.
+-- Literals are heard if their bounds are.
 use Rattle.std.proofs.Common.{ℕ, ◌≡◌, ◌==◌, Bool, true, false, cond, List, [], ◌∷◌, filter, flat_map, get_or, map, Contains, refl, sym, subst, arith, inl, inr, le-leb, ne_eqb, max}
 use Rattle.std.specs.Prelude.{nat_le}
 use Rattle.std.proofs.lemmas.Bool.{and_from, and_parts, cases_eq, cases_lt, cond-false, lt-leb}
@@ -14,7 +14,7 @@ use Rattle.cpg_sure.specs.Bounds.{bounds_of, high_of, low_of, unknown_bounds}
 use Rattle.cpg_sure.specs.Hearing.{IsAllHeard, IsHeardIn}
 use Rattle.cpg_sure.specs.Speakers.{AreToldIn, IsToldIn}
 
--- the one element where there is one
+-- the one element if there is one
 one_of : {X : Type 0} (b : Bool) (x y : X) → Contains (cond b [] (x ∷ [])) y → x ≡ y
 one_of true x y h = absurd (Contains-nil y h)
 one_of false x y h = elim (Contains-cases x [] y h) [ inl e ↦ e | inr k ↦ absurd (Contains-nil y k) ]
@@ -31,7 +31,7 @@ bound_wider k literals l w there h = elim (Contains-append_cases (low_of k l) (h
       (record { by = l; there = there; variable = refl; low = omega arith; high = omega arith })
 ]
 
--- none where a literal is known
+-- none if a literal is known
 unknown_there : {X : Type 0} (b : Bool) (xs : List X) (x : X) → b ≡ false → Contains xs x → Contains (cond b [] xs) x
 unknown_there b xs x e h = subst (λ ys. Contains ys x) (sym (cond-false b [] xs e)) h
 
@@ -61,11 +61,11 @@ module _ (k : ℕ) (known : List Literal) (l : Literal) (heard : (w : Literal) �
     | inr free ↦ le-leb (kept_high k known l.variable) l.high (omega (arith, free, least_bound (top k l.variable) (map (λ (l : Literal). l.high) (filter (λ (m : Literal). m.variable == l.variable) known))))
   ]
 
-  -- what is kept implies a literal where it implies its bounds
+  -- what is kept implies a literal if it implies its bounds
   bound_heard : is_heard k known l ≡ true
   bound_heard = and_from _ _ low_heard high_heard
 
--- so all literals of a column are where those on known variables are, and all bounds of the others
+-- all literals of a column are implied if those on known variables are, and all bounds of the others
 module _ (g : Graph) (tables : List NodeTable) (node : ℕ) (c : Column) (known : List Bool) (wanted : List Literal) (is : wanted ≡ flat_map (unknown_bounds g.faults known) c.cube) where
   pub all_wider : AreToldIn c.cube wanted
   all_wider w h = bounds_wider g.faults known c.cube w (subst (λ ws. Contains ws w) is h)

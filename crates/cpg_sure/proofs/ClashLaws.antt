@@ -1,4 +1,4 @@
--- V6 and V7, where items of a node are apart.
+-- V6 and V7, if items of a node are apart.
 use Rattle.std.proofs.Common.{ℕ, ◌+◌, ◌≤◌, ◌≡◌, ◌⊎◌, true, false, not, ◌&&◌, ◌||◌, ◌==◌, Bool, List, All, Contains, filter, arith, refl, sym, ap, ◌∙◌, subst, inl, inr, le-ltb, ne_eqb, eq-eqb}
 use Rattle.std.specs.Prelude.{nat_lt}
 use Rattle.std.specs.List.{list_any}
@@ -27,7 +27,7 @@ at_parts tables x s time h =
     let q = Contains-filter_parts (λ (c : Column). matches c.cube s) (columns_of tables x) r.0 r.1 in
     (r.0, q.0, q.1, r.2)
 
--- what passes where an item acts passes at its columns that match
+-- what passes if an item acts passes at its columns that match
 none_at : (tables : List NodeTable) (x : ℕ) (s : Scenario) (test : ℕ → Bool) → ((d : Column) → Contains (columns_of tables x) d → matches d.cube s ≡ true → test d.time ≡ false) → list_any test (at tables x s) ≡ false
 none_at tables x s test none = list_any_false test (at tables x s) (λ time h. let it = at_parts tables x s time h in sym (ap test it.3) ∙ none it.0 it.1 it.2)
 

@@ -37,7 +37,7 @@ module _ (g : Graph) (tables : List NodeTable) (rules : AllHold g tables row_rul
       let d = match_where g tables s law q (omega arith) rules (ap (item_active g s.values) (item_at-start g q l) ∙ a) in
       come_by tables q s (λ start. start + duration g q (fault_of s q)) time d.0 d.1 d.2 (over d.0 d.1 d.2)
 
-  -- and a message on a live edge has arrived
+  -- a message on a live edge that is over has arrived
   pub over_arrived : (e : ℕ) → e < edge_count g → is_message g e ≡ true → live g s.values e ≡ true → IsOverBy tables (slot_length g (home g (message_item g e))) (message_item g e) time s
       → is_by time (arrivals_of g tables s (message_item g e)) ≡ true
   over_arrived e l m a over =

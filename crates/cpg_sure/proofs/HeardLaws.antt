@@ -78,7 +78,7 @@ module _ (g : Graph) (tables : List NodeTable) (node time : ℕ) (s : Scenario) 
       (end_tells l.variable q few known of_it)))))
       refl (leb-true _ _ range.0) (leb-true _ _ range.1)
 
--- where all literals of all columns are heard, the rule holds
+-- if all literals of all columns are heard, the rule holds
 pub heard_sure : (g : Graph) (tables : List NodeTable) (x : ℕ) → ((c : Column) (l : Literal) → Contains (columns_of tables x) c → Contains c.cube l → IsHeardIn g tables (home g x) c l) → IsSure g tables Rule.Heard x
 heard_sure g tables x heard = sure_of g tables Rule.Heard x refl (λ s c earlier law k m.
     list_any_false (λ l. not (is_heard g.faults (facts g tables (home g x) s c.time) l)) c.cube (λ l h. ap not (heard c l k h s law m)))

@@ -143,7 +143,7 @@ module _ {g : Graph} {tables : List NodeTable} (lasts : ℕ → Scenario → ℕ
   pub early_before : one.last + one.span.longest ≤ other.first → IsOver lasts g tables y x
   early_before h s c law here m = early_over is law c.time (omega (arith, h, All-contains (λ (d : Column). other.first ≤ d.time) (columns_of tables x) c by.first here))
 
-  -- and so is what is over by the time of the column at each place of the other's tree
+  -- what is over by the time of the column at each place of another's tree is over before it
   pub walked_before : (own tree : Places) → one.tree.now ≡ Some own → other.tree.now ≡ Some tree
       → ((s : Scenario) → IsScenario g s → IfSome (place_at tree s) (λ i. IsOverAt one (column_at other.columns.now i).time (place_at own s) s)) → IsOver lasts g tables y x
   walked_before own tree has there all s c law here m =
@@ -280,7 +280,7 @@ module _ (lasts : ℕ → Scenario → ℕ) (g : Graph) (tables : List NodeTable
       (All-weaker (Known left) (Known (left ++ get_or items i 0 ∷ [])) (λ y k. elim k [ inl a ↦ inl (Contains-append_left left (get_or items i 0 ∷ []) y a) | inr a ↦ inr a ]) (take i items) before)
       (inl (Contains-push left (get_or items i 0)))
 
-  -- where all that are left are apart, all are
+  -- if all that are left are apart, all are
   pub known_apart : (left items : List ℕ) → All (Known left) items → All (λ y. IsApart lasts g tables y x) left → All (λ y. IsApart lasts g tables y x) items
   known_apart left items known apart = All-weaker (Known left) (λ y. IsApart lasts g tables y x)
       (λ y k. elim k [ inl a ↦ All-contains (λ y. IsApart lasts g tables y x) left y apart a | inr a ↦ a ]) items known

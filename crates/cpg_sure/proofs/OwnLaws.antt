@@ -43,7 +43,7 @@ module _ (g : Graph) (tables : List NodeTable) (rules : AllHold g tables row_rul
           let here : breaks_inputs_of g tables s c.time (item_at g x) ≡ false = ap (λ (c : Column). breaks_inputs_of g tables s c.time (item_at g x)) (sym at) ∙ none in
           not-false (is_by c.time (ends_of g tables s (producer g x))) (sym (waits g s x lx send tables c.time) ∙ here)
 
-      -- and what is always over before that
+      -- what is always over before the producer has ended, too
       pub earlier_ended : WellFormed g → (q : ℕ) → q < process_count g → IsBefore g tables q (producer g x) → IsSure g tables Rule.Inputs x → IsEndedBy g tables q x
       earlier_ended formed q l before sure s c law k m a =
           let p : ℕ = producer g x in
@@ -69,13 +69,13 @@ module _ (g : Graph) (tables : List NodeTable) (rules : AllHold g tables row_rul
           let on : active g s.values own.process ≡ true = ap (active g s.values) (sym own.owner.owner) ∙ active_here s law m in
           heard_end g tables (home g x) c.time s l own.process few own.owner.within own.near (own.ended s c law k m on) own.owner.known own.owner.owner (holds_here s m)
 
-      -- or that is over where the column matches
+      -- a literal on a variable of a process that is over when the column matches
       pub over_heard : (s : Scenario) → IsScenario g s → matches c.cube s ≡ true → IsOwnOver g tables (home g x) l.variable c.time s → is_heard g.faults (facts g tables (home g x) s c.time) l ≡ true
       over_heard s law m own =
           let on : active g s.values own.process ≡ true = ap (active g s.values) (sym own.owner.owner) ∙ active_here s law m in
           heard_end g tables (home g x) c.time s l own.process few own.owner.within own.near (over_ended g tables rules s law c.time own.process own.owner.within on own.over) own.owner.known own.owner.owner (holds_here s m)
 
-    -- where all literals are on variables of processes that have ended, the rule holds
+    -- if all literals are on variables of processes that have ended, the rule holds
     pub known_sure : process_count g ≤ 128 → (known : List Bool) → AreOwnEnded g tables x known → All (λ (c : Column). All (λ (l : Literal). get_or known l.variable false ≡ true) c.cube) (columns_of tables x) → IsSure g tables Rule.Heard x
     known_sure few known own all = heard_sure g tables x (λ c l k h.
         let marked = All-contains (λ (l : Literal). get_or known l.variable false ≡ true) c.cube l (All-contains (λ (c : Column). All (λ (l : Literal). get_or known l.variable false ≡ true) c.cube) (columns_of tables x) c all k) h in
@@ -86,7 +86,7 @@ module _ (g : Graph) (tables : List NodeTable) (rules : AllHold g tables row_rul
       pub known_heard : (known : List Bool) → AreOwnEnded g tables x known → (l : Literal) → Contains c.cube l → get_or known l.variable false ≡ true → IsHeardIn g tables (home g x) c l
       known_heard known own l h marked = ended_heard few c l k (record { by = l; there = h; variable = refl; low = omega arith; high = omega arith }) (own l.variable marked)
 
-      -- the wanted literals, where those that are left are on variables of processes that are over
+      -- the wanted literals, if those that are left are on variables of processes that are over
       pub left_heard : (wanted left : List Literal) → AreToldIn c.cube wanted → AreLeft g tables (home g x) c wanted left
           → ((s : Scenario) → IsScenario g s → matches c.cube s ≡ true → All (λ (l : Literal). IsOwnOver g tables (home g x) l.variable c.time s) left)
           → (l : Literal) → Contains wanted l → IsHeardIn g tables (home g x) c l

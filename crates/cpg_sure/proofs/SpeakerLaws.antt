@@ -63,7 +63,7 @@ module _ (g : Graph) (tables : List NodeTable) (node : ℕ) (c : Column) where
   pub left_first : (wanted : List Literal) → AreLeft g tables node c wanted wanted
   left_first wanted = record { among = λ l h. h; heard = λ l h. inl h }
 
-  -- and of those that are left
+  -- what is left of those that are left is left of all
   pub left_more : (wanted left next : List Literal) → AreLeft g tables node c wanted left → AreLeft g tables node c left next → AreLeft g tables node c wanted next
   left_more wanted left next before here = record {
     among = λ l h. before.among l (here.among l h);

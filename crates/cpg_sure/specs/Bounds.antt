@@ -3,11 +3,11 @@ use Rattle.std.specs.Prelude.{ℕ, ◌==◌, nat_le, if◌then◌else◌, Bool, 
 use Rattle.cpg_base.specs.Variable.{top}
 use Rattle.cpg_cube.specs.declared.literal.Literal.{Literal}
 
--- the low, where it isn't 0
+-- the low, if it isn't 0
 abbrev pub low_of : ℕ → Literal → List Literal
 low_of k l = if l.low == 0 then [] else record { variable = l.variable; low = l.low; high = max l.high (top k l.variable) } ∷ []
 
--- the high, where the variable may be above it in scenarios of at most k faults
+-- the high, if the variable may be above it in scenarios of at most k faults
 abbrev pub high_of : ℕ → Literal → List Literal
 high_of k l = if nat_le (top k l.variable) l.high then [] else record { variable = l.variable; low = 0; high = l.high } ∷ []
 
@@ -15,6 +15,6 @@ high_of k l = if nat_le (top k l.variable) l.high then [] else record { variable
 abbrev pub bounds_of : ℕ → Literal → List Literal
 bounds_of k l = low_of k l ++ high_of k l
 
--- none, where a variable's number is known
+-- none, if a variable's number is known
 abbrev pub unknown_bounds : ℕ → List Bool → Literal → List Literal
 unknown_bounds k known l = if get_or known l.variable false then [] else bounds_of k l

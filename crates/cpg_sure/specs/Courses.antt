@@ -43,7 +43,7 @@ pub record IsCourse (g : Graph) (tables : List NodeTable) (lasts : Scenario → 
 pub record HasAll (g : Graph) (space : Space) : Type 0 where
   pub lies : (s : Scenario) → IsScenario g s → Lies space s
 
--- those of the first items, and a space of all scenarios
+-- the courses of the first items, and a space of all scenarios
 pub record AreCourses (lasts : ℕ → Scenario → ℕ) (g : Graph) (tables : List NodeTable) (courses : Courses) : Type 0 where
   pub everywhere : HasAll g courses.everywhere
   pub each : (x : ℕ) (d : Course) → x < length courses.list.items → IsCourse g tables (lasts x) x (get_or courses.list.items x d)

@@ -15,12 +15,12 @@ use Rattle.cpg_sure.specs.Order.{IsOverBy, execution}
 abbrev pub IsHeardIn : Graph → List NodeTable → ℕ → Column → Literal → Type 0
 IsHeardIn g tables node c l = (s : Scenario) → IsScenario g s → matches c.cube s ≡ true → is_heard g.faults (facts g tables node s c.time) l ≡ true
 
--- so it is with those of some literals that aren't among those that are left
+-- wherever a column matches, a node has heard each of some literals by its time that isn't among those that are left
 pub record AreLeft (g : Graph) (tables : List NodeTable) (node : ℕ) (c : Column) (wanted left : List Literal) : Type 0 where
   pub among : (l : Literal) → Contains left l → Contains wanted l
   pub heard : (l : Literal) → Contains wanted l → Contains left l ⊎ IsHeardIn g tables node c l
 
--- so it is with all literals of a column
+-- wherever a column matches, a node has heard all its literals by its time
 abbrev pub IsAllHeard : Graph → List NodeTable → ℕ → Column → Type 0
 IsAllHeard g tables node c = (l : Literal) → Contains c.cube l → IsHeardIn g tables node c l
 

@@ -44,11 +44,11 @@ pub record StandsBefore (order : List ℕ) (first second : ℕ) : Type 0 where
 abbrev pub execution : Graph → ℕ → Scenario → ℕ
 execution g p s = duration g p (fault_of s p)
 
--- a frame as long as its node's slot
+-- a frame lasts as long as its node's slot
 abbrev pub frame : Graph → ℕ → Scenario → ℕ
 frame g x s = slot_length g (home g x)
 
--- of two sends at one node the later one is at a later time
+-- a send lasts 1, so the later one of two at one node is at a later time
 abbrev pub sending : ℕ → Scenario → ℕ
 sending x s = 1
 

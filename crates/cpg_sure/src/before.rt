@@ -192,7 +192,7 @@ impl<'a> Courses<'a> {
         true
     }
 
-    /// The same of another that has a tree.
+    /// Whether each of these items is over before another, which has a tree: wherever a column of each matches.
     fn end_before(&self, items: &[u32], course: &Course<'_>, tree: &Places) -> bool
         ensures { OnTrue result ((g : Graph) (tables : List NodeTable) (lasts : ℕ → Scenario → ℕ) (x : ℕ) → AreCourses lasts g tables self.now →
             IsCourse g tables (lasts x) x course.now → course.now.tree.now ≡ Some tree.now → All (λ y. IsOver lasts g tables y x) items.now) }
@@ -208,7 +208,8 @@ impl<'a> Courses<'a> {
         true
     }
 
-    /// The same by the other's tree, if it has one.
+    /// Whether each of these items is over before another, by the other's tree, if it has one: wherever a column of
+    /// each matches.
     pub(crate) fn precede(&self, items: &[u32], course: &Course<'_>) -> bool
         ensures { OnTrue result ((g : Graph) (tables : List NodeTable) (lasts : ℕ → Scenario → ℕ) (x : ℕ) →
             AreCourses lasts g tables self.now → IsCourse g tables (lasts x) x course.now → All (λ y. IsOver lasts g tables y x) items.now) }

@@ -5,7 +5,7 @@ ghost use Rattle.cpg_sure.specs.Bounds.{bounds_of, high_of, low_of, unknown_boun
 use cpg_base::{OutOfMemory, top};
 use cpg_cube::{Literal, VARIABLES};
 
-/// Adds the low of a literal, where it isn't 0.
+/// Adds the low of a literal, if it isn't 0.
 fn push_low(k: u8, literal: &Literal, bounds: &mut Vec<Literal>) -> Result<(), OutOfMemory>
     ensures { IfOk result (λ _. bounds.new.items ≡ bounds.old.items ++ low_of k literal.now) }
 {
@@ -20,7 +20,7 @@ fn push_low(k: u8, literal: &Literal, bounds: &mut Vec<Literal>) -> Result<(), O
     Ok(())
 }
 
-/// Adds its high, where the variable may be above it.
+/// Adds its high, if the variable may be above it.
 fn push_high(k: u8, literal: &Literal, bounds: &mut Vec<Literal>) -> Result<(), OutOfMemory>
     ensures { IfOk result (λ _. bounds.new.items ≡ bounds.old.items ++ high_of k literal.now) }
 {

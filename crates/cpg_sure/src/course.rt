@@ -27,7 +27,7 @@ pub(crate) struct Course<'a> {
     pub(crate) last: u64,
     /// How long the item lasts.
     pub(crate) span: Span,
-    /// Only where the item is active in every scenario.
+    /// Only if the item is active in every scenario.
     pub(crate) is_always: bool,
 }
 

@@ -154,7 +154,7 @@ fn marked_from_start(known: &[bool; VARIABLES]) -> usize
     VARIABLES
 }
 
-/// Whether all literals of a cube are, with the first so many variables marked: at once where the last literal is on one of
+/// Whether all literals of a cube are, with the first so many variables marked: at once if the last literal is on one of
 /// these, as the variables rise.
 fn is_cube_known(known: &[bool; VARIABLES], first: usize, cube: &Cube) -> bool
     requires { (v : ℕ) → v < first → get_or known.now v false ≡ true }

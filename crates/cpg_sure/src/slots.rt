@@ -26,7 +26,7 @@ use cpg_table::Tables;
 use cpg_tree::Space;
 use std::alloc::Global;
 
-/// Whether a node's slot starts at the time of a column, where the column matches.
+/// Whether a node's slot starts at the time of a column, if the column matches.
 fn is_in_slot(problem: &Problem, node: u32, column: &Entry) -> bool
     requires { HasSlot problem.now node }
     ensures { OnTrue result ((s : Scenario) → IsScenario problem.now s → matches column.now.cube s ≡ true →
@@ -42,7 +42,7 @@ fn is_in_slot(problem: &Problem, node: u32, column: &Entry) -> bool
     false
 }
 
-/// The same for each of these columns.
+/// Whether a node's slot starts at the time of each of these columns, if the column matches.
 fn are_in_slots(problem: &Problem, node: u32, columns: &[Entry]) -> bool
     requires { HasSlot problem.now node }
     ensures { OnTrue result (All (λ c. (s : Scenario) → IsScenario problem.now s → matches c.cube s ≡ true →

@@ -18,14 +18,14 @@ const COUNTS: usize = MOST_FAULTS as usize + 1;
 pub(crate) struct Span {
     /// The fault count of a process.
     pub(crate) variable: u8,
-    /// Where the variable has this number at most.
+    /// By each number: how long it lasts at most if the variable has no greater one.
     pub(crate) lengths: [u64; COUNTS],
-    /// Whatever number it has.
+    /// How long it lasts at most, whatever number the variable has.
     pub(crate) longest: u64,
 }
 
 impl Span {
-    /// That of the executions of a process, by its faults.
+    /// How long the executions of a process last at most, by its faults.
     pub(crate) fn of_execution(problem: &Problem, process: u32) -> Span
         requires { process < process_count problem.now }
         ensures { IsSpan problem.now (execution problem.now process) result }

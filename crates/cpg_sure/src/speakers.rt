@@ -76,7 +76,7 @@ fn is_as_close(literal: &Literal, wanted: &Literal) -> bool
 
 /// Where a variable's literal stands among literals by rising variable, if there is one.
 fn place_of(literals: &[Literal], variable: u8) -> usize {
-    // mostly there: where all variables before have literals too
+    // mostly there: if all variables before have literals too
     if let Some(literal) = literals.get(variable as usize) {
         if literal.variable == variable {
             return variable as usize;
@@ -104,7 +104,7 @@ fn place_from(literals: &[Literal], from: usize, variable: u8) -> usize {
     literals.len()
 }
 
-/// Whether the literal at a place does.
+/// Whether the literal at a place bounds the variable of a wanted one at least as closely.
 fn tells_there(literals: &[Literal], at: usize, wanted: &Literal) -> bool
     ensures { OnTrue result (IsToldIn literals.now wanted.now) }
 {
@@ -114,14 +114,14 @@ fn tells_there(literals: &[Literal], at: usize, wanted: &Literal) -> bool
     }
 }
 
-/// Whether one of these literals, by rising variable, does.
+/// Whether one of these literals, by rising variable, bounds the variable of a wanted one at least as closely.
 fn tells(literals: &[Literal], wanted: &Literal) -> bool
     ensures { OnTrue result (IsToldIn literals.now wanted.now) }
 {
     tells_there(literals, place_of(literals, wanted.variable), wanted)
 }
 
-/// Whether the literals of the column at a place do.
+/// Whether a literal of the column at a place bounds the variable of a wanted one at least as closely.
 fn tells_at(columns: &[Entry], place: u32, wanted: &Literal) -> bool
     ensures { OnTrue result (IsToldIn (column_at columns.now place).cube wanted.now) }
 {
@@ -131,7 +131,7 @@ fn tells_at(columns: &[Entry], place: u32, wanted: &Literal) -> bool
     }
 }
 
-/// Whether those of the column at each of these places do.
+/// Whether the column at each of these places has a literal that bounds the variable of a wanted one at least as closely.
 fn tell_at_all(columns: &[Entry], places: &[u32], wanted: &Literal) -> bool
     ensures { OnTrue result (All (λ i. IsToldIn (column_at columns.now i).cube wanted.now) places.now) }
 {
@@ -232,7 +232,8 @@ impl<'a> Speaker<'a> {
         Ok(())
     }
 
-    /// The same, where there is mostly one column.
+    /// Lists the same literals as `leave_each`, with the one column looked up once if there is a single place, as is
+    /// mostly so.
     fn leave(
         &self,
         places: &[u32],
@@ -256,7 +257,7 @@ impl<'a> Speaker<'a> {
     }
 
     /// Lists those of the wanted literals, each as wide as one of a column, that its frames haven't told by the column's time
-    /// wherever that matches, in a space that has all these scenarios; false where it tells none. The places of its own columns
+    /// wherever that matches, in a space that has all these scenarios; false if it tells none. The places of its own columns
     /// that match there are first written to `places`.
     pub(crate) fn tell(
         &self,

@@ -91,8 +91,8 @@ impl<'a> Courses<'a> {
         Ok(sorted)
     }
 
-    /// The items in an order in which each is over before each later one: as they are, or by their first times. None of
-    /// them where neither is known to be such an order.
+    /// The items in an order in which each is over before any later one begins: as they are, or by their first times.
+    /// The order is empty if neither is known to be such an order.
     fn in_turn(&self, alloc: Global, items: &[u32]) -> Result<Vec<u32>, OutOfMemory>
         ensures { IfOk result (λ order. (g : Graph) (tables : List NodeTable) (lasts : ℕ → Scenario → ℕ) →
             AreCourses lasts g tables self.now → Holds g tables Rule.Present → IsInTurn lasts g tables order.items) }
@@ -109,7 +109,8 @@ impl<'a> Courses<'a> {
         Ok(order)
     }
 
-    /// For each of these groups of items the order in which each is over before each later one, where one is known.
+    /// Puts each group of items into an order in which each item is over before any later one begins. The order is
+    /// empty if none is known.
     fn orders(&self, alloc: Global, groups: &[Vec<u32>]) -> Result<Vec<Vec<u32>>, OutOfMemory>
         ensures { IfOk result (λ orders. (g : Graph) (tables : List NodeTable) (lasts : ℕ → Scenario → ℕ) →
             AreCourses lasts g tables self.now → Holds g tables Rule.Present → All (λ order. IsInTurn lasts g tables order.items) orders.items) }
@@ -187,7 +188,8 @@ fn processes_by_node(alloc: Global, admitted: &Admitted) -> Result<Vec<Vec<u32>>
     Ok(groups)
 }
 
-/// The executions of all processes, with those of each node in turn.
+/// The rows of all processes' starts, and for each node the order in which its executions follow one another, if one
+/// is known.
 pub(crate) fn turns_of<'a>(
     alloc: Global,
     admitted: &Admitted,

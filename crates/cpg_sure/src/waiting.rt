@@ -72,7 +72,7 @@ impl<'a> Waiting<'a> {
         }
     }
 
-    /// Whether this is so of each of these inputs, by its last column.
+    /// Whether each of these inputs is there by a time, by its last column.
     fn are_early(&self, edges: &[u32], time: u64) -> bool
         requires edges { All (λ e. e < edge_count self.now.admitted.now.graph) edges.now }
         ensures { OnTrue result ((tables : List NodeTable) (s : Scenario) → IsWaiting self.now.admitted.now.graph tables self.now →
@@ -86,7 +86,7 @@ impl<'a> Waiting<'a> {
         true
     }
 
-    /// Whether it is so of each that is live in the scenarios of a space.
+    /// Whether each of these inputs that is live in the scenarios of a space is there by a time.
     fn are_over(&self, edges: &[u32], space: &Space, time: u64) -> bool
         requires edges { All (λ e. e < edge_count self.now.admitted.now.graph) edges.now }
         ensures { OnTrue result ((tables : List NodeTable) (s : Scenario) → IsWaiting self.now.admitted.now.graph tables self.now →

@@ -44,18 +44,18 @@ after_all (x ∷ xs) (row ∷ rows) e =
     let parts : (row.item ≡ x) × (items_of rows ≡ xs) = (cc, cc) in
     after_all xs rows parts.1 ∙ sym (cond-true (row.item == x) (after_items xs rows) None (eq-eqb row.item x parts.0))
 
--- and nothing but those leaves nothing
+-- rows that leave nothing are rows of these items
 pub all_after : (xs : List ℕ) (rows : List Row) → Some [] ≡ after_items xs rows → items_of rows ≡ xs
 all_after xs rows e = (after_parts xs rows [] e).0 ∙ append-nil xs
 
--- so other rows are not those of these items
+-- rows that don't begin with those of these items are not rows of them
 pub not_these : (xs : List ℕ) (rows : List Row) → None ≡ after_items xs rows → items_of rows ≢ xs
 not_these xs rows e same = let all = after_all xs rows same in absurd (let none : Some [] ≡ None = all ∙ sym e in cc)
 
 pub not_all : (xs : List ℕ) (row : Row) (rest rows : List Row) → Some (row ∷ rest) ≡ after_items xs rows → items_of rows ≢ xs
 not_all xs row rest rows e same = let all = after_all xs rows same in absurd (let none : Some [] ≡ Some (row ∷ rest) = all ∙ sym e in cc)
 
--- whether these are the rows of the items: where nothing is left
+-- whether these are the rows of the items: if nothing is left
 pub these_where_nothing : (xs : List ℕ) (rows rest : List Row) → Some rest ≡ after_items xs rows → (b : Bool) → b ≡ (length rest == 0) → IsTrue b ↔ (items_of rows ≡ xs)
 these_where_nothing xs rows [] e b t = (λ _. all_after xs rows e, λ _. t)
 these_where_nothing xs rows (row ∷ rest) e b t = (λ k. absurd (let none : length (row ∷ rest) ≡ 0 = eqb-true (length (row ∷ rest)) 0 (sym t ∙ k) in omega (arith, none)), λ same. absurd (not_all xs row rest rows e same))

@@ -77,7 +77,7 @@ module _ {X Y : Type 0} (view : X → Y) (f : ℕ → Y) where
 
 -- ---- the rows of a node
 
--- those of another node aren't gone
+-- the rows of another node aren't gone
 pub still_there : (g : Graph) (m n : ℕ) (rows : List Row) → m ≢ n → own_rows g m (other_rows g n rows) ≡ own_rows g m rows
 still_there g m n rows apart = passes_both (λ (row : Row). has_own g m row.item) (λ (row : Row). not (has_own g n row.item))
     (λ row e. one_home (home g row.item) m n (ltb row.item (process_count g) || is_sent g row.item) apart e) rows
@@ -87,7 +87,7 @@ all_known g rows w k d l =
     let m : k < item_count g = omega (arith, l, long g rows w) in
     subst (λ (row : Row). row.item < item_count g) (get_or_default rows k no_row d l) (subst (λ n. n < item_count g) (sym (item_is g rows w k m)) m)
 
--- nor are others new
+-- the rows of other nodes are of items that exist, too
 pub still_known : (g : Graph) (node : ℕ) (rows : List Row) → All (λ row. row.item < item_count g) rows → All (λ row. row.item < item_count g) (other_rows g node rows)
 still_known g node rows h = All-filter (λ (row : Row). not (has_own g node row.item)) (λ (row : Row). row.item < item_count g) rows h
 

@@ -12,7 +12,7 @@ use Rattle.cpg_base.specs.declared.limits.TheConstants.{MOST_LOAD}
 use Rattle.cpg_table.specs.Found.{row_columns}
 
 module _ (x : ℕ) where
-  -- none where there is no row
+  -- none if there is no row
   pub columns_in_row : (rows : List Row) → columns_in rows x ≡ unwrap_or (row_columns rows x) []
   columns_in_row [] = refl
   columns_in_row (r ∷ rs) = go (r.item == x) (columns_in_row rs)

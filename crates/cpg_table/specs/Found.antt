@@ -1,4 +1,4 @@
--- The columns of an item, where it has a row.
+-- The columns of an item, if it has a row.
 use Rattle.std.specs.Prelude.{ℕ, ◌==◌, if◌then◌else◌, List, [], ◌∷◌, Option, Some, None}
 use Rattle.cpg_cube.specs.Column.{Column}
 use Rattle.cpg_table.specs.Table.{Row}

@@ -16,7 +16,7 @@ use Rattle.cpg_table.specs.Table.{Row, NodeTable, table_at, columns_of}
 use Rattle.cpg_cube.specs.Column.{Column}
 use Rattle.cpg_table.specs.Valid.{later_by, hear_rows}
 
--- the row of an item, where each stands at the number of its item
+-- the row of an item, if each stands at the number of its item
 abbrev pub row_for : List Row → ℕ → Row
 row_for rows x = get_or rows x (record { item = 0; columns = [] })
 
@@ -36,11 +36,11 @@ has_own g node x = (home g x == node) && (nat_lt x (process_count g) || is_sent 
 abbrev pub own_rows : Graph → ℕ → List Row → List Row
 own_rows g node rows = filter (λ row. has_own g node row.item) rows
 
--- and the others
+-- the rows of what a node neither starts nor sends
 abbrev pub other_rows : Graph → ℕ → List Row → List Row
 other_rows g node rows = filter (λ row. not (has_own g node row.item)) rows
 
--- a column that a table may have, also where it is later by a slot
+-- a column that a table may have, also if it is later by a slot
 pub record IsWritable (g : Graph) (c : Column) : Type 0 where
   pub time : c.time < 2 ^ 59
   pub cube : IsCube g c.cube
@@ -49,7 +49,7 @@ pub record IsWritable (g : Graph) (c : Column) : Type 0 where
   pub not_whole : All (λ l. is_whole g.faults l ≡ false) c.cube
 
 -- a row for each item by number, with columns that tables may have: not too many in a row, nor in all rows of all nodes,
--- and none where nothing is started or sent
+-- and none if nothing is started or sent
 pub record AreWritable (g : Graph) (rows : List Row) : Type 0 where
   pub items : items_of rows ≡ numbers_below (item_count g)
   pub lawful : All (λ row. All (IsWritable g) row.columns) rows

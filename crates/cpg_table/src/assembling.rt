@@ -174,7 +174,7 @@ fn node_table(
     NodeTable::of(alloc, head, node, counts, rows)
 }
 
-/// The tables of the nodes, where each hears these.
+/// The tables of the nodes, if each hears these.
 fn node_tables(
     alloc: Global,
     problem: &Problem,

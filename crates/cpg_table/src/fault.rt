@@ -9,7 +9,7 @@ pub struct Fault {
     pub rule: u8,
     /// The number of the item.
     pub item: u32,
-    /// The number of the column in the item's row, counting from 0; `None` where the rule misses one.
+    /// The number of the column in the item's row, counting from 0; `None` if the rule misses one.
     pub column: Option<u32>,
     /// The least scenario that shows it.
     pub scenario: Scenario,

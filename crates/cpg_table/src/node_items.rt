@@ -32,7 +32,7 @@ impl Model for NodeItems {
     ghost invariant = { λ n. n.starts + n.sends ≤ length n.items.items };
 }
 
-/// Adds an item where it is wanted.
+/// Adds an item if it is wanted.
 fn push_if(items: &mut Vec<u32>, item: u32, wanted: bool) -> Result<(), OutOfMemory>
     ensures { OnOk result (items.new.items ≡ items.old.items ++ (if wanted then item ∷ [] else [])) }
 {
@@ -85,7 +85,7 @@ fn push_broadcasts(
     Ok(())
 }
 
-/// Adds what a node sends: no broadcasts where it is alone.
+/// Adds what a node sends: no broadcasts if it is alone.
 fn push_sends(items: &mut Vec<u32>, head: &Head, node: u32) -> Result<(), OutOfMemory>
     ensures { OnOk result (items.new.items ≡ items.old.items ++ sends_of head.now node) }
 {

@@ -85,7 +85,7 @@ impl NodeTable {
     }
 
     /// The table of a node with these rows: for each item that it starts, then for each that it sends, then for each that
-    /// it hears (docs/FORMATS.md). `None` exactly where the rows aren't those of the node's items, or one isn't lawful.
+    /// it hears (docs/FORMATS.md). `None` exactly if the rows aren't those of the node's items, or one isn't lawful.
     pub fn new(
         alloc: Global,
         head: &Head,
@@ -171,7 +171,7 @@ impl NodeTable {
         self.hears.as_slice()
     }
 
-    /// The columns of an item that the node hears; none where it doesn't hear it.
+    /// The columns of an item that the node hears; none if it doesn't hear it.
     pub fn heard_columns(&self, item: u32) -> &[Entry]
         ensures { result.now ≡ columns_in self.now.hears item }
     {

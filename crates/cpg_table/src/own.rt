@@ -47,7 +47,7 @@ fn condition_if(condition: u32, has: bool) -> Option<u32>
     if has { Some(condition) } else { None }
 }
 
-/// Adds a process where it is on the node.
+/// Adds a process if it is on the node.
 fn push_own(
     own: &mut Vec<Own>,
     node: u32,
@@ -109,7 +109,7 @@ fn is_own(own: &Own, number: u32, condition: Option<u32>, times: &Durations) -> 
     are_same_times(own.times.times(), times.times())
 }
 
-/// What stands after a process where it is on the node, and `None` exactly where it doesn't come first.
+/// What stands after a process if it is on the node, and `None` exactly if it doesn't come first.
 fn after_own<'a>(
     own: &'a [Own],
     node: u32,

@@ -67,7 +67,7 @@ impl Tables {
         Tables { head, nodes }
     }
 
-    /// These tables under this head, and `None` exactly where there isn't one for each node, one isn't that of its node
+    /// These tables under this head, and `None` exactly if there isn't one for each node, one isn't that of its node
     /// under this head, or all together have more than 524,288 columns.
     pub fn new(head: Head, nodes: Vec<NodeTable>) -> Option<Tables>
         ensures tables { IfSome result (λ t. t ≡ record { head = head; nodes = nodes.items }) }
@@ -103,7 +103,7 @@ impl Tables {
         &self.nodes[number as usize]
     }
 
-    /// The columns of an item's start row or send row; none where it has no row.
+    /// The columns of an item's start row or send row; none if it has no row.
     pub fn columns_of(&self, item: u32) -> &[Entry]
         ensures columns { result.now ≡ columns_of self.now.nodes item }
         ensures lawful { AreTablesOf self.now.head self.now.nodes }

@@ -2,7 +2,7 @@
 use cpg_cube::Entry;
 use cpg_table::Row;
 
-/// When a column is, with the low and the high of its first literal, 9 where it has none.
+/// When a column is, with the low and the high of its first literal, 9 if it has none.
 pub type Column = (u64, u8, u8);
 
 fn told(entry: &Entry) -> Column {

@@ -19,7 +19,7 @@ process = [
 edge = [{ from = "A", to = "B" }]
 "#;
 
-/// The same with a frozen message, and in time.
+/// The graph of `PAIR` with a frozen message, and in time.
 pub const FROZEN: &str = r#"faults = 1
 deadline = 122
 node = [{ name = "N1" }, { name = "N2" }]
@@ -63,7 +63,7 @@ process = [
 edge = [{ from = "A", to = "B", when = true }, { from = "A", to = "C", when = false }]
 "#;
 
-/// The same with two faults, a join, releases, deadlines that are missed, and frozen items.
+/// A graph like that of `FORK`, with two faults, a join, releases, deadlines that are missed, and frozen items.
 pub const MIXED: &str = r#"faults = 2
 deadline = 150
 node = [{ name = "N1" }, { name = "N2" }]
@@ -96,8 +96,8 @@ pub fn admitted(alloc: Global, text: &str) -> Result<Admitted, Fail> {
     Ok(admit(alloc, problem).ok().ok_or("graph")?)
 }
 
-/// A, of at most one fault, is on the first node, and B on the second. The message is sent at 40 where A has no fault and at 80
-/// where it has one, and B starts when it comes, 10 later.
+/// A, of at most one fault, is on the first node, and B on the second. The message is sent at 40 if A has no fault and at 80
+/// if it has one, and B starts when it comes, 10 later.
 const PACK: [u8; 147] = [
     67, 80, 71, 84, 1, 1, 2, 2, 78, 49, 2, 78, 50, 2, 1, 65, 0, 0, 0, 0, 0, 0, 0, 0, 0, 35, 0, 0,
     0, 0, 0, 0, 0, 72, 1, 66, 1, 0, 0, 0, 0, 0, 0, 0, 0, 15, 0, 0, 0, 0, 0, 0, 0, 32, 0, 1, 0, 1,

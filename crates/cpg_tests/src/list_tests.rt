@@ -117,7 +117,7 @@ struct Found {
     rows: [&'static [Column]; 3],
 }
 
-/// Of the pair A fails where B ends last, 5 too late.
+/// A of the pair fails in the scenario in which B ends last, 5 too late.
 const OF_PAIR: Found = Found {
     message: None,
     worst: (105, Some(1), 0, 1),
@@ -129,7 +129,7 @@ const OF_PAIR: Found = Found {
     ],
 };
 
-/// Where the message is frozen, B starts at one time, and ends last where it fails itself.
+/// If the message is frozen, B starts at one time, and ends last if it fails itself.
 const OF_FROZEN: Found = Found {
     message: Some(80),
     worst: (122, Some(1), 1, 1),
@@ -227,7 +227,7 @@ fn is_found(alloc: Global, admitted: &Admitted, want: &Found) -> Result<bool, Ou
     Ok(unlike && found)
 }
 
-/// The same of the graph of a text, if it has three items.
+/// Whether all that is found of the graph of a text is so, if it has three items.
 fn is_found_of(alloc: Global, text: &str, want: &Found) -> Result<bool, Fail> {
     let admitted = admitted(alloc, text)?;
     if admitted.problem().item_count() != 3 {

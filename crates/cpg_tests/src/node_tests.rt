@@ -31,7 +31,7 @@ fn a_new_node(rt: HostRuntime) -> Result<(), Fail> {
     Ok(())
 }
 
-/// Takes the turn of the next instant, where there is one, and answers that instant.
+/// Takes the turn of the next instant, if there is one, and answers that instant.
 fn take_turn(node: &mut Node) -> Option<u64>
     ensures last { IfSome result (λ time. node.new.dispatcher.last ≡ Some time) }
     ensures early { IfSome result (λ time. time < 2 ^ 61) }
@@ -90,7 +90,7 @@ fn did(node: &Node, act: Act) -> bool {
     node.acts() == [act].as_slice()
 }
 
-/// Whether the process starts at 90, where the frame of a fault is heard.
+/// Whether the process starts at 90, if the frame of a fault is heard.
 fn hears_and_starts(node: &mut Node) -> bool {
     let start = Act {
         time: 90,

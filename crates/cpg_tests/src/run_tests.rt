@@ -34,7 +34,7 @@ fn valued(alloc: Global, admitted: &Admitted, value: bool) -> Result<Scenario, O
     Ok(scenario)
 }
 
-/// The run of a graph where its condition has a value.
+/// The run of a graph if its condition has a value.
 #[tactic(auto, using(crate::proofs::Unfrozen::urgent_topological))]
 fn run_where(alloc: Global, admitted: &Admitted, value: bool) -> Result<RunTimes, OutOfMemory> {
     let frozen = unfrozen(alloc, admitted)?;
@@ -48,7 +48,7 @@ fn is_run(run: &RunTimes, times: [Option<u64>; 7], finish: u64) -> bool {
     [of(0), of(1), of(2), of(3), of(4), of(7), of(8)] == times && run.finish() == finish
 }
 
-/// Whether they are those where the condition has a value.
+/// Whether they are those if the condition has a value.
 fn runs_so(
     alloc: Global,
     admitted: &Admitted,

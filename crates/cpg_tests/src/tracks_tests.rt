@@ -24,7 +24,7 @@ fn starts(schedule: &Starts) -> [Option<u64>; 4] {
     [of(0), of(1), of(2), of(3)]
 }
 
-/// Whether the schedules begin so.
+/// Whether the starts of the schedules are these.
 fn are_starts(schedules: &[Starts], wanted: &[[Option<u64>; 4]]) -> bool {
     if schedules.len() != wanted.len() {
         return false;
@@ -37,7 +37,7 @@ fn are_starts(schedules: &[Starts], wanted: &[[Option<u64>; 4]]) -> bool {
     true
 }
 
-/// Whether those of a graph do.
+/// Whether the starts of a graph's schedules are these.
 fn have_starts(
     alloc: Global,
     admitted: &Admitted,

@@ -35,7 +35,7 @@ use Rattle.cpg_told_laws.proofs.Parts.{some_parts}
 use Rattle.cpg_told_laws.proofs.Stops.{admits, says, says_acts, says_scenario, spells, stops_graph, stops_log, stops_pack, stops_part, stops_scenario}
 use Rattle.cpg_told_laws.proofs.Values.{says_graph, says_log, says_part, says_played, says_tables}
 
--- ---- want of memory
+-- ---- out of memory
 
 unread_memory : (old new : ShelfState) (told : Option Text) (halt : Halt) → halt ≡ Memory → StopsReading (seen old new) told halt
 unread_memory old new told halt e = inr (inr (record { fault = ReadFault.OutOfMemory; halt_is = e; within = λ other. absurd (other refl); first = λ other. absurd (other refl) }))
@@ -95,7 +95,7 @@ module _ (old new : ShelfState) (k : KeepsShelf old new) where
   tables_are : (g : Option Graph) (name : Text) (f : Fetch) (t : Tables) → IsRead g (file PackFile name) f (tables_value t) → Agrees old.stands f → Spells (old.stands name) t
   tables_are g name f t r ag = spells (old.stands name) f.given t (tells_whole old.stands (file PackFile name) f r.whole ag) r.whole.short (says_tables g f.given t r.says)
 
-  -- so of a pack that was read first
+  -- the tables of a pack that was read first are spelled by the bytes that stand under its name
   pub spelled_by : (name : Text) (f : Fetch) (t : Tables) → IsRead None (file PackFile name) f (tables_value t) → Agrees old.stands f → Spells (old.stands name) t
   spelled_by name f t r ag = tables_are None name f t r ag
 

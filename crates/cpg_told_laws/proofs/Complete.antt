@@ -1,4 +1,4 @@
--- What a run answers where the shelf tells what it asks for, and no count of faults rises.
+-- What a run answers if the shelf tells what it asks for, and no count of faults rises.
 use Rattle.std.proofs.Common.{ℕ, ◌≡◌, ◌≢◌, ◌∙◌, Bool, true, false, List, [], ◌∷◌, Option, Some, None, refl, sym, ap, subst, inl, inr, true≢false}
 use Rattle.std.specs.Prelude.{◌⊎◌, Ok, Err}
 use Rattle.cpg_base.specs.Graph.{Graph}
@@ -156,7 +156,7 @@ module _ (r : Run) (w : IsLawfulRun r) (k : KeepsShelf r.shelf.old r.shelf.new) 
   of_memory halt e (inl told) = told.status ∙ ap status_of e
   of_memory halt e (inr muted) = absurd (calm.err muted.err.rose)
 
-  -- its files were read, or memory was wanting, or it follows a stream
+  -- its files were read, or memory ran out, or it follows a stream
   abbrev Comes : Command → List Value → Type 0
   Comes c values = ((ws : List Value) × Has r c ws × AllAlike values ws) ⊎ ((r.status ≡ 8) ⊎ FollowsRun r)
 
@@ -183,7 +183,7 @@ module _ (r : Run) (w : IsLawfulRun r) (k : KeepsShelf r.shelf.old r.shelf.new) 
   comes c values e t (inr (inr (inl x))) = inr (inr x.follows)
   comes c values e t (inr (inr (inr x))) = inr (inr x.follows)
 
-  -- but `live` no command follows one
+  -- for each command but `live`: its files were read, or memory ran out
   asked : (c : Command) (values : List Value) → is_live (Some c) ≡ false → command_of r.words ≡ Some c → AreTold r.shelf.old.stands None (files_of c) values → ((ws : List Value) × Has r c ws × AllAlike values ws) ⊎ (r.status ≡ 8)
   asked c values other e t = elim (comes c values e t w.ends) [
     | inl h ↦ inl h

@@ -1,4 +1,4 @@
--- What a fetch gave is what the shelf tells, where it does.
+-- What a fetch gave is what the shelf tells, if it does.
 use Rattle.std.proofs.Common.{ℕ, ◌≡◌, ◌+◌, ◌<◌, ◌≤◌, ◌∙◌, true, List, [], ◌∷◌, ◌++◌, All, Option, Some, None, IfSome, length, sym, ap, subst, arith, append-nil, inl, inr}
 use Rattle.std.proofs.lemmas.List.{append_assoc, append_cancel_right, length-append}
 use Rattle.std.proofs.lemmas.List.Elements.{All-head, All-tail}
@@ -16,7 +16,7 @@ pub on_some : (told : Option Text) (P Q : Text → Type 0) → ((bytes : Text) �
 on_some None P Q f p = tt
 on_some (Some bytes) P Q f p = f bytes p
 
--- the shelf tells these bytes, where it tells any
+-- the shelf tells these bytes, if it tells any
 abbrev pub TellsAs : Option Text → Text → Type 0
 TellsAs told given = IfSome told (λ bytes. bytes ≡ given)
 

@@ -1,4 +1,4 @@
--- What a run answers that is asked to follow a stream, where the shelf tells the pack and the stream, and no count rises.
+-- What a run answers that is asked to follow a stream, if the shelf tells the pack and the stream, and no count rises.
 use Rattle.std.proofs.Common.{ℕ, ◌≡◌, ◌∙◌, List, [], ◌∷◌, Option, Some, None, IfSome, refl, sym, ap, ap₂, subst, inl, inr, true≢false}
 use Rattle.std.specs.Prelude.{◌⊎◌, Result, Ok, Err, is_some}
 use Rattle.cpg_io.specs.Agreement.{IsFrontOf}
@@ -85,7 +85,7 @@ module _ (r : Run) (w : IsLawfulRun r) (k : KeepsShelf r.shelf.old r.shelf.new) 
   front : (f : FollowsRun r) → IsFrontOf bytes f.fetch
   front f = subst (λ o. IfSome o (λ whole. IsFrontOf whole f.fetch)) (ap r.shelf.old.stands (ap (stream_in f.stream) (live_is f)) ∙ q.told) (front_of r k f)
 
-  -- ---- it isn't stopped before, but for want of memory
+  -- ---- it isn't stopped before, unless memory runs out
 
   value_is : (c : Command) (ws : List Value) → c ≡ Live q.pack name q.stream → Has r c ws → ws ≡ tables_value t ∷ []
   value_is c ws e h =

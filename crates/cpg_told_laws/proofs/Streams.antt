@@ -1,4 +1,4 @@
--- How a stream ends, by what the shelf tells of it: of a part that came, where the rest changes nothing.
+-- How a stream ends, by what the shelf tells of it: of a part that came, if the rest changes nothing.
 use Rattle.std.proofs.Common.{◌≡◌, ℕ, ◌+◌, ◌-◌, ◌<◌, ◌≤◌, true, cond, ◌&&◌, List, [], ◌++◌, length, take, Option, Some, None, IfSome, refl, sym, ap, ap₂, ◌∙◌, subst, arith, append_assoc, append-nil, true≢false, inl, inr}
 use Rattle.std.specs.Prelude.{is_none, nat_lt, Ok, Err}
 use Rattle.std.proofs.Math.Seq.{take-append-add}

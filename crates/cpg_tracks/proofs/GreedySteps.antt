@@ -296,7 +296,7 @@ module _ (g : Graph) (o : List Bool) where
   pub left_first : unplaced_count (replicate (process_count g) None) + 0 ≤ process_count g
   left_first = omega (arith, at_first (process_count g))
 
-  -- and all at last
+  -- all are placed at last
   pub none_unplaced : (s : List (Option ℕ)) → IsPlacing g o s → unplaced_count s ≡ 0 → IsDone g o s
   none_unplaced s h e p f = let l = none_left s p (omega (arith, h.count, f.within)) f.unplaced in omega arith
 

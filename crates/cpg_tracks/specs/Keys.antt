@@ -4,11 +4,11 @@ use Rattle.std.specs.List.{flat_map}
 use Rattle.cpg_base.specs.Numbers.{greatest}
 use Rattle.cpg_base.specs.Graph.{Graph, source}
 
--- the latest start of a process, or 0 where it has none
+-- the latest start of a process, or 0 if it has none
 abbrev pub latest : List (List (Option ℕ)) → ℕ → ℕ
 latest schedules p = greatest (flat_map (λ starts. option_to_list (get_or starts p None)) schedules)
 
--- its key by some of its inputs
+-- the key of a process by some of its inputs
 abbrev pub key_over : Graph → List (List (Option ℕ)) → List ℕ → ℕ → List ℕ → ℕ
 key_over g schedules keys p edges = greatest (flat_map (λ starts. option_to_list (get_or starts p None)) schedules ++ map (λ e.
     get_or keys (source g e) 0 + 1) edges)

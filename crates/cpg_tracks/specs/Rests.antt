@@ -1,7 +1,7 @@
 -- How far numbers are from the greatest one.
 use Rattle.std.specs.Prelude.{ℕ, ◌+◌, ◌-◌, ◌^◌, ◌≡◌, ◌<◌, List, length, get_or}
 
--- those of the first n
+-- how far each of the first n numbers is from the greatest one
 pub record AreRestsUpTo (keys : List ℕ) (n : ℕ) (rests : List ℕ) : Type 0 where
   pub count : length rests ≡ n
   pub each : (p : ℕ) → p < n → get_or rests p 0 + get_or keys p 0 ≡ 2 ^ 64 - 1

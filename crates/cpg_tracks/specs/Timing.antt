@@ -18,7 +18,7 @@ use Rattle.cpg_tracks.specs.Track.{IsTrackOf, AreBy}
 abbrev pub outcome_of : Timing → List Bool
 outcome_of t = t.track.now.outcome
 
--- of an admitted graph: the edges of each process, which of them are live, how long executions with all the faults take, and how long a message
+-- an admitted graph has these edges of each process, live edges, durations with all the faults, and length of a message
 pub record IsTiming (g : Graph) (t : Timing) : Type 0 where
   pub limits : IsWithinLimits g
   pub well_formed : WellFormed g
@@ -55,7 +55,7 @@ IsBestOf g o starts qs (Some c) = IsBestCandidate g o starts qs c
 abbrev pub ComesFirst : List ℕ → Candidate → Candidate → Type 0
 ComesFirst order a b = (a.start < b.start) ⊎ ((a.start ≡ b.start) × (place order a.process ≤ place order b.process))
 
--- the better of two, where there are two
+-- the better of two, if there are two
 abbrev pub IsBetterOf : List ℕ → Option Candidate → Option Candidate → Option Candidate → Type 0
 IsBetterOf order None other better = better ≡ other
 IsBetterOf order (Some a) None better = better ≡ Some a

@@ -17,7 +17,7 @@ pub record IsTrackOf (g : Graph) (t : Track) : Type 0 where
   pub values : length t.outcome ≡ condition_count g
   pub active : t.active ≡ filter (active g t.outcome) (numbers_below (process_count g))
 
--- every track of a graph once, in the order of outcomes, where there are few
+-- every track of a graph once, in the order of outcomes, if there are few
 pub record AreAllTracks (g : Graph) (tracks : List Track) : Type 0 where
   pub outcomes : AreTracks g (map (λ t. t.outcome) tracks)
   pub each : All (IsTrackOf g) tracks

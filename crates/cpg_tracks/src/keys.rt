@@ -13,7 +13,7 @@ use cpg_base::{Order, OutOfMemory, Problem};
 use cpg_order::Links;
 use std::alloc::Global;
 
-/// The latest start of a process in these schedules, or 0 where it has none.
+/// The latest start of a process in these schedules, or 0 if it has none.
 fn latest(schedules: &[Starts], process: u32) -> u64
     ensures { result ≡ latest schedules.now process }
 {
@@ -26,7 +26,7 @@ fn latest(schedules: &[Starts], process: u32) -> u64
     latest
 }
 
-/// The key of a process: its latest start, and one more than the key of each predecessor where that is greater.
+/// The key of a process: its latest start, and one more than the key of each predecessor if that is greater.
 fn key_of(problem: &Problem, links: &Links, schedules: &[Starts], keys: &[u64], process: u32) -> u64
     requires links { links.now ≡ links_of problem.now }
     requires process { process < process_count problem.now }

@@ -37,7 +37,7 @@ fn by_key(alloc: Global, keys: &[u64]) -> Result<Vec<u32>, OutOfMemory>
 }
 
 /// The track order of a graph: by key, then by number. The key of a process is the greatest of its starts in the greedy
-/// schedules of all tracks, and of one more than the key of each predecessor. `None` exactly where there are more than 256
+/// schedules of all tracks, and of one more than the key of each predecessor. `None` exactly if there are more than 256
 /// tracks.
 pub fn merged_order(alloc: Global, admitted: &Admitted) -> Result<Option<Order>, OutOfMemory>
     ensures order { IfOk result (λ found. IfSome found (HasTrackOrder admitted.now.graph)) }

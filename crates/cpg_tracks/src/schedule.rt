@@ -33,7 +33,7 @@ impl Model for Starts {
 }
 
 impl Starts {
-    /// The start of a process, in time units; `None` exactly where it is inactive in the track, or there is no such process.
+    /// The start of a process, in time units; `None` exactly if it is inactive in the track, or there is no such process.
     pub fn of(&self, process: u32) -> Option<u64>
         ensures { result ≡ get_or self.now process None }
     {
@@ -51,7 +51,7 @@ pub(crate) struct Candidate {
     pub(crate) start: u64,
 }
 
-/// When an input is there; `None` exactly where its source isn't placed.
+/// When an input is there; `None` exactly if its source isn't placed.
 fn input_time(
     problem: &Problem,
     timing: &Timing<'_>,
@@ -74,7 +74,7 @@ fn input_time(
     Some(end)
 }
 
-/// When an active process is ready; `None` exactly where it is placed, or the source of a live input isn't.
+/// When an active process is ready; `None` exactly if it is placed, or the source of a live input isn't.
 fn ready_time(
     problem: &Problem,
     timing: &Timing<'_>,
@@ -104,7 +104,7 @@ fn ready_time(
     Some(ready)
 }
 
-/// A process as a candidate; `None` exactly where it can't be placed.
+/// A process as a candidate; `None` exactly if it can't be placed.
 fn candidate_of(
     problem: &Problem,
     timing: &Timing<'_>,
@@ -128,7 +128,7 @@ fn candidate_of(
     Some(Candidate { process, start })
 }
 
-/// The one of two candidates that starts sooner, and the more urgent where they start together.
+/// The one of two candidates that starts sooner, and the more urgent if they start together.
 fn sooner(order: &Order, best: Candidate, other: Candidate) -> Candidate
     requires best { best.process < length order.now }
     requires other { other.process < length order.now }
@@ -162,7 +162,7 @@ fn better(order: &Order, best: Option<Candidate>, other: Option<Candidate>) -> O
 }
 
 /// The process to place next: of those that can be placed the one that would start first, and of several the most urgent.
-/// `None` exactly where none can be placed.
+/// `None` exactly if none can be placed.
 fn next(
     problem: &Problem,
     order: &Order,

@@ -52,7 +52,7 @@ impl Track {
     }
 }
 
-/// Adds an outcome, and where the process of the condition is active also the outcome with that condition true.
+/// Adds an outcome and, if the process of the condition is active, also the outcome with that condition true.
 fn push_ways(
     problem: &Problem,
     guards: &GuardTrees,
@@ -97,8 +97,8 @@ fn both_ways(
     Ok(found)
 }
 
-/// The outcomes of the tracks, in order: each condition is chosen where its process is active, in urgency order. `None`
-/// exactly where there are more than 256.
+/// The outcomes of the tracks, in order: each condition is chosen if its process is active, in urgency order. `None`
+/// exactly if there are more than 256.
 fn outcomes(
     alloc: Global,
     problem: &Problem,
@@ -184,7 +184,7 @@ fn tracks_of(
 }
 
 /// The tracks of a graph, in the order of outcomes: at the first condition in urgency order at which two differ, the first
-/// is false. `None` exactly where there are more than 256.
+/// is false. `None` exactly if there are more than 256.
 pub fn tracks(alloc: Global, admitted: &Admitted) -> Result<Option<Vec<Track>>, OutOfMemory>
     ensures tracks { IfOk result (λ found. IfSome found (λ tracks. AreAllTracks admitted.now.graph tracks.items)) }
     ensures many { IfOk result (λ found. IfNone found (HasManyTracks admitted.now.graph)) }

@@ -7,7 +7,7 @@ use Rattle.cpg_tree.specs.declared.node.Node.{Node, Leaf, Fork'}
 use Rattle.cpg_tree.specs.Space.{Space, is_open_below, is_open_above, below_cut, above_cut, faults_of}
 use Rattle.cpg_tree.specs.Decision.{IsFit}
 
--- the same but for highs that are no lower, and no fewer faults left
+-- a space as another, but for highs that are no lower, and no fewer faults left
 record IsHigher (room other : Space) : Type 0 where
   pub low : room.low ≡ other.low
   pub left : room.left ≤ other.left
@@ -25,7 +25,7 @@ higher_set highs others v cut u long h (inl e) = subst (λ w. get_or (slice_set 
 less_left : (a b n : ℕ) → a ≤ b → a - n ≤ b - n
 less_left a b n l = omega arith
 
--- where some faults left allow a number, so do more
+-- if some faults left allow a number, so do more
 allows_more : (v cut low a b : ℕ) → a ≤ b → (nat_le 128 v || nat_lt cut (low + a)) ≡ true → (nat_le 128 v || nat_lt cut (low + b)) ≡ true
 allows_more v cut low a b l h = elim (or_cases (nat_le 128 v) (nat_lt cut (low + a)) h) [
   | inl value ↦ or_left (nat_le 128 v) _ value

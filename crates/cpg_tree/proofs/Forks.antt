@@ -126,7 +126,7 @@ join_whole answers room a b part r same made = made_weaker (Lies room) _ _ _ _ _
     (λ s z d t. subst (λ y. answers (value_at a s) y z) (same.value s d) t)
     (λ s u d. omega (arith, same.lows s u d)) (λ k s u d. omega (arith, same.highs k s u d))
 
--- and so is what a chooser picks
+-- what a chooser picks from the parts of trees that a space comes to is picked from the trees
 pub pick_whole : {T : Type 0} (room : Space) (chooser : Node Bool) (on off on_part off_part r : Node T) → IsWithin room on on_part → IsWithin room off off_part →
     IsPickOf room chooser on_part off_part r → IsPickOf room chooser on off r
 pick_whole {T} room chooser on off on_part off_part r same_on same_off made = made_weaker (Lies room) _ _ _ _ _ _ r made
@@ -287,21 +287,21 @@ module _ {T U : Type 0} (fact : Scenario → T → U → Type 0) (more_low : Sce
       ((s : Scenario) → domain s → number_of s v ≤ cut → one s) → ((s : Scenario) → domain s → cut < number_of s v → two s) → IsTwo fact more_low more_high domain n r
   two_fork_of one two lo hi of_lo of_hi fork goes_one goes_two = subst (λ (m : Node T). IsTwo fact more_low more_high domain m r) (sym is) (two_fork fact more_low more_high domain v cut p below above r one two lo hi of_lo of_hi fork goes_one goes_two)
 
--- and of one value
+-- the same of a tree that is one value
 module _ {T U : Type 0} (fact : Scenario → T → U → Type 0) (more_low : Scenario → T → ℕ → ℕ) (more_high : ℕ → Scenario → T → ℕ → ℕ) (domain : Scenario → Type 0) (x : T) (n : Node T) (is : n ≡ Leaf x) (r : Node U) where
   pub two_leaf_of : IsMade domain (λ s z. fact s x z) (λ s u. more_low s x u) (λ k s u. more_high k s x u) r → IsTwo fact more_low more_high domain n r
   two_leaf_of made = subst (λ (m : Node T). IsTwo fact more_low more_high domain m r) (sym is)
       (made_weaker domain _ _ _ _ _ _ r made (λ s z d t. t) (λ s u d. omega arith) (λ k s u d. omega arith))
 
--- where the forks of a tree that is a fork pass a test, so do those of its sides
+-- if the forks of a tree that is a fork pass a test, so do those of its sides
 pub passes_parts : {T : Type 0} (test : ℕ → Bool) (v cut : ℕ) (below above n : Node T) {p : Box (Unit {0}) Global} → n ≡ Fork' v cut p below above → DoForksPass test n → (test v ≡ true) × DoForksPass test below × DoForksPass test above
 passes_parts test v cut below above n is pass = subst (DoForksPass test) is pass
 
--- where such a tree fits, so do its sides
+-- if such a tree fits, so do its sides
 pub fit_parts : {T : Type 0} (room : Space) (v cut : ℕ) (below above n : Node T) {p : Box (Unit {0}) Global} → n ≡ Fork' v cut p below above → IsFit room n → IsFit room (Fork' v cut p below above)
 fit_parts room v cut below above n is fit = subst (IsFit room) is fit
 
--- where two pairs of sides are the same, so are their sides
+-- if two pairs of sides are the same, so are their sides
 module _ {T : Type 0} {one other : Node T × Node T} (same : one ≡ other) where
   pub same_below : one.0 ≡ other.0
   same_below = ap (λ (sides : Node T × Node T). sides.0) same

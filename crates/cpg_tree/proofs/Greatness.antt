@@ -1,4 +1,4 @@
--- Where a tree is at least another everywhere, it is the greater of the two.
+-- If a tree is at least another everywhere, it is the greater of the two.
 use Rattle.std.proofs.Common.{ℕ, ◌≤◌, ◌≡◌, max, inl, inr, arith, ap, subst}
 use Rattle.std.proofs.lemmas.Bool.{cases_lt}
 use Rattle.cpg_base.specs.Scenario.{Scenario, number_of}

@@ -111,7 +111,7 @@ variable_passes : (g : Graph) (v : ℕ) → IsVariable g v → is_variable g v �
 variable_passes g v (inl l) = or_left (nat_lt v (process_count g)) _ (lt-ltb v (process_count g) l)
 variable_passes g v (inr b) = or_right (nat_lt v (process_count g)) _ (and_from (nat_le 128 v) _ (le-leb 128 v b.0) (lt-ltb v (value_variable (condition_count g)) b.1))
 
--- so where the variables of a tree are the graph's, they are known, as is asked of a tree whose columns are listed
+-- if the variables of a tree are the graph's, they are known, as is asked of a tree whose columns are listed
 pub known_from : {T : Type 0} (g : Graph) (paths : List (Path T)) → DoPathsPass (is_variable g) paths → All (λ (p : Path T). IsKnown g p.0) paths
 known_from g paths h i d l j e m = variable_from g _ (h i d l j e m)
 

@@ -121,7 +121,7 @@ module _ (k : ℕ) (s : Scenario) (few : HasFew k s) where
     left = omega (arith, same_sum_by (beyond room s) (fault_of s) (numbers_below 128) (λ p c. omega (arith, lows p (omega (arith, numbers-Contains 128 p c)))), few, left);
   }
 
--- what holds where a test fails
+-- what holds if a test fails
 pub on_false : {P : Type 0} (b : Bool) → (b ≡ false → P) → OnFalse b P
 on_false true h = search rules
 on_false false h = h refl

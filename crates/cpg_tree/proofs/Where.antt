@@ -85,7 +85,7 @@ module _ {T U V : Type 0} (k : ℕ) (domain : Scenario → Type 0) (all : (s : S
       high_off : (s : Scenario) → value_at chooser s ≡ false → (v : ℕ) → (if value_at chooser s then min (high_at k a s v) (high_at k b s v) else top k v) ≡ top k v
       high_off s e v = cond-false (value_at chooser s) _ _ e
 
--- and of what callers see of the trees
+-- what is made where a chooser is true, said of what callers see of the trees
 module _ {T U V : Type 0} (chooser : Node Bool) (a : Node T) (b : Node U) (r : Node V) (first : TreeState Bool) (second : TreeState T) (third : TreeState U)
     (paths_c : first.paths ≡ paths_of first.faults chooser) (paths_a : second.paths ≡ paths_of second.faults a) (paths_b : third.paths ≡ paths_of third.faults b) (k : ℕ) where
   pub where_seen : (answers : T → U → V → Type 0) (none : V) → k ≡ first.faults → first.faults ≡ second.faults → first.faults ≡ third.faults → IsGood first.faults chooser → IsGood second.faults a → IsGood third.faults b →

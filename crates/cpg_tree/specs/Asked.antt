@@ -33,7 +33,7 @@ pub record AreOpen (rooms : Rooms) (v cut : ℕ) : Type 0 where
   pub walked_below : is_open_below rooms.walked v cut ≡ true
   pub walked_above : is_open_above rooms.walked v cut ≡ true
 
--- where all scenarios go one way, spaces in which they lie, and what takes these back; else the same spaces, open on both sides
+-- if all scenarios go one way, spaces in which they lie, and what takes these back; else the same spaces, open on both sides
 abbrev pub IsWay : Rooms → Rooms → ℕ → ℕ → Way → Type 0
 IsWay old new v cut (Below highs) = IsInner old (λ s. number_of s v ≤ cut) new × (lowered new v highs ≡ old)
 IsWay old new v cut (Above lows) = IsInner old (λ s. cut < number_of s v) new × (raised_back new v lows ≡ old)

@@ -17,7 +17,7 @@ bounds_in number (Fork' v cut p below above) = bounds_in number below ++ bounds_
   forks = length (bounds_in number below);
 } ∷ [])
 
--- the bounds of the side below, where those of a fork are told
+-- the bounds of the side below, if those of a fork are told
 abbrev pub AreBelow : List Bound → List Bound → Type 0
 AreBelow bounds below = (front back : List Bound) (fork : Bound) → bounds ≡ front ++ back ++ (fork ∷ []) → fork.forks ≡ length front → below ≡ front
 

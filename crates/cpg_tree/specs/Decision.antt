@@ -16,7 +16,7 @@ low_at (Leaf x) s v = 0
 low_at (Fork' u cut p below above) s v = if nat_le (number_of s u) cut then low_at below s v else
     if u == v then max (cut + 1) (low_at above s v) else low_at above s v
 
--- and the greatest
+-- the greatest number of a variable that goes the scenario's way
 abbrev pub high_at : {T : Type 0} → ℕ → Node T → Scenario → ℕ → ℕ
 high_at k (Leaf x) s v = top k v
 high_at k (Fork' u cut p below above) s v = if nat_le (number_of s u) cut
@@ -28,7 +28,7 @@ IsFit room (Leaf x) = Unit {0}
 IsFit room (Fork' v cut p below above) = (v < 256) × (is_open_below room v cut ≡ true) × (is_open_above room v cut ≡ true) ×
     IsFit (below_cut room v cut) below × IsFit (above_cut room v cut) above
 
--- so in the space of all scenarios of at most k faults
+-- each side of each fork is met by some scenario of at most k faults that comes there
 abbrev pub IsGood : {T : Type 0} → ℕ → Node T → Type 0
 IsGood k node = (room : Space) × IsWhole k room × IsFit room node
 

@@ -13,6 +13,6 @@ read_by number (Fork' v cut p below above) = Fork' v cut p (read_by number below
 abbrev pub later_path : ℕ → Path (Option ℕ) → Path ℕ
 later_path delay path = (path.0, time_later delay path.1)
 
--- the times of a tree, 0 where there are none, later by a delay
+-- the times of a tree, 0 if there are none, later by a delay
 abbrev pub later_by : ℕ → TreeState (Option ℕ) → TreeState ℕ
 later_by delay t = record { faults = t.faults; paths = map (later_path delay) t.paths }

@@ -34,7 +34,7 @@ pub record IsMade {T : Type 0} (domain : Scenario → Type 0) (fact : Scenario �
 abbrev pub IsMapOf : {T U : Type 0} → (T → U → Type 0) → Node T → Node U → Type 0
 IsMapOf answers a r = IsMade (λ s. ⊤) (λ s z. answers (value_at a s) z) (low_at a) (λ k. high_at k a) r
 
--- the same tree for the scenarios of a space
+-- a tree that has the values of another for the scenarios of a space, with ranges that contain those of the other
 abbrev pub IsWithin : {T : Type 0} → Space → Node T → Node T → Type 0
 IsWithin room a r = IsMade (Lies room) (λ s z. z ≡ value_at a s) (low_at a) (λ k. high_at k a) r
 

@@ -45,7 +45,7 @@ pub record IsAsWide (k : ℕ) (wide : List Literal) (a : List Literal) : Type 0 
   pub low : (v : ℕ) → low_in wide v ≤ low_in a v
   pub high : (v : ℕ) → high_in k a v ≤ high_in k wide v
 
--- it contains what the ranges of two cubes have in common
+-- a cube's range of each variable contains what the ranges of two cubes have in common
 pub record IsAsWideAsBoth (k : ℕ) (wide : List Literal) (a b : List Literal) : Type 0 where
   pub low : (v : ℕ) → low_in wide v ≤ max (low_in a v) (low_in b v)
   pub high : (v : ℕ) → min (high_in k a v) (high_in k b v) ≤ high_in k wide v

@@ -12,7 +12,7 @@ pub record ForksOnly {T : Type 0} (v : ℕ) (node : Node T) : Type 0 where
   pub low : (s : Scenario) (u : ℕ) → u ≢ v → low_at node s u ≤ 0
   pub high : (k : ℕ) (s : Scenario) (u : ℕ) → u ≢ v → top k u ≤ high_at k node s u
 
--- the count of a process where it is the first or more
+-- the count of a process if it is the first or more
 pub record AreCountsFrom (p first k : ℕ) (node : Node ℕ) : Type 0 where
   pub value : (s : Scenario) → first ≤ number_of s p → number_of s p ≤ k → value_at node s ≡ number_of s p
   pub only : ForksOnly p node

@@ -135,7 +135,7 @@ impl Rooms {
         }
     }
 
-    /// Where the scenarios asked for go at a fork. Where they all go one way, only those that go there are walked from now on.
+    /// Where the scenarios asked for go at a fork. If they all go one way, only those that go there are walked from now on.
     pub(crate) fn way(&mut self, variable: u8, cut: u8) -> Way
         ensures { IsWay self.old self.new variable cut result }
     {

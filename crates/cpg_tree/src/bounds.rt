@@ -87,7 +87,7 @@ impl<T: Copy> Node<T> {
         self.push_fork_bounds(read, bounds)
     }
 
-    /// The same of a tree that is a fork: a function of its own, since a call of it takes longer than a leaf.
+    /// As `push_bounds`, of a tree that is a fork: a function of its own, since a call of it takes longer than a leaf.
     #[cycle(push_bounds)]
     #[inline(never)]
     fn push_fork_bounds<R: Reading<T>>(

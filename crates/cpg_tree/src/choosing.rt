@@ -88,7 +88,7 @@ impl Node<bool> {
 
 impl Tree<bool> {
     /// What a function makes in each scenario of the greater number of two trees whose leaves are read as numbers where this
-    /// one is true, and one value elsewhere: nothing is made of what is left out. The one error is want of memory.
+    /// one is true, and one value elsewhere: nothing is made of what is left out. The one error is `OutOfMemory`.
     pub fn greater_where<
         T: Copy,
         U: Copy,

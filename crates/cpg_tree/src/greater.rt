@@ -56,7 +56,7 @@ impl<T: Copy> Node<T> {
         }
     }
 
-    /// The same part without bounds.
+    /// As `part`, without bounds.
     pub fn part_in(&self, space: &Space) -> &Node<T>
         ensures value { (s : Scenario) → Lies space.now s → value_at result.now s ≡ value_at self.now s }
         ensures same { IsWithin space.now self.now result.now }
@@ -112,7 +112,7 @@ impl<T: Copy> Node<T> {
         )
     }
 
-    /// In each scenario of two spaces what is made of the greater number of two trees with the bounds of their forks. Where one
+    /// In each scenario of two spaces what is made of the greater number of two trees with the bounds of their forks. If one
     /// is at least the other everywhere, nothing of the other is tested. What is asked for is the first space alone: the second
     /// is what the forks on the way have left, so that the answer has the forks that it has in the whole space.
     pub(crate) fn greater_by<U: Copy, V: Copy + Eq, R: Reading<T>, S: Reading<U>, F: Fn(u64) -> V>(

@@ -141,7 +141,7 @@ impl<T: Copy + Eq> Node<T> {
         }
     }
 
-    /// A fork, or one tree where both sides are equal. Where the side above is a fork on the same variable with an equal
+    /// A fork, or one tree if both sides are equal. If the side above is a fork on the same variable with an equal
     /// side below, the first cut is left out.
     pub(crate) fn fork(
         alloc: Global,
@@ -162,7 +162,7 @@ impl<T: Copy + Eq> Node<T> {
         Node::fork_by_sides(alloc, variable, cut, below, above)
     }
 
-    /// The same, by a look at the whole of both sides.
+    /// As `fork`, by a look at the whole of both sides.
     #[inline(never)]
     fn fork_by_sides(
         alloc: Global,
@@ -205,7 +205,7 @@ impl<T: Copy + Eq> Node<T> {
         }
     }
 
-    /// The same tree for the scenarios of a space.
+    /// This tree for the scenarios of a space.
     #[cycle(within)]
     #[inline]
     pub(crate) fn within(&self, alloc: Global, space: &mut Space) -> Result<Node<T>, OutOfMemory>
@@ -221,7 +221,7 @@ impl<T: Copy + Eq> Node<T> {
         self.fork_within(alloc, space)
     }
 
-    /// The same of a tree that is a fork: a function of its own, since a call of it takes longer than a leaf.
+    /// As `within`, of a tree that is a fork: a function of its own, since a call of it takes longer than a leaf.
     #[cycle(within)]
     #[inline(never)]
     fn fork_within(&self, alloc: Global, space: &mut Space) -> Result<Node<T>, OutOfMemory>
@@ -278,7 +278,7 @@ impl<T: Copy> Node<T> {
         self.map_fork(alloc, f)
     }
 
-    /// The same of a tree that is a fork: a function of its own, since a call of it takes longer than a leaf.
+    /// As `map`, of a tree that is a fork: a function of its own, since a call of it takes longer than a leaf.
     #[cycle(map)]
     #[inline(never)]
     fn map_fork<U: Copy + Eq, F: Fn(T) -> U>(
@@ -330,7 +330,7 @@ impl<T: Copy> Node<T> {
         self.fill_fork(alloc, space, value, f)
     }
 
-    /// The same of a tree that is a fork: a function of its own, since a call of it takes longer than a leaf.
+    /// As `fill`, of a tree that is a fork: a function of its own, since a call of it takes longer than a leaf.
     #[cycle(fill)]
     #[inline(never)]
     fn fill_fork<U: Copy, V: Copy + Eq, F: Fn(U, T) -> V>(
@@ -395,7 +395,7 @@ impl<T: Copy> Node<T> {
         self.join_fork(alloc, space, other, f)
     }
 
-    /// The same of a tree that is a fork: a function of its own, since a call of it takes longer than a leaf.
+    /// As `join`, of a tree that is a fork: a function of its own, since a call of it takes longer than a leaf.
     #[cycle(join)]
     #[inline(never)]
     fn join_fork<U: Copy, V: Copy + Eq, F: Fn(T, U) -> V>(

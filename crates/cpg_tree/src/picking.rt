@@ -64,7 +64,7 @@ impl Node<bool> {
 }
 
 impl Tree<bool> {
-    /// In each scenario the number of one of two trees: where this one is true the time of the first, 0 where that has none,
+    /// In each scenario the number of one of two trees: where this one is true the time of the first, 0 if that has none,
     /// later by a delay.
     pub fn pick_later(
         &self,

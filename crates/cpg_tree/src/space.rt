@@ -117,7 +117,7 @@ impl Space {
         }
     }
 
-    /// Leaves the numbers up to the cut, where there are others; the high of before, for `reopen_above`.
+    /// Leaves the numbers up to the cut, if there are others; the high of before, for `reopen_above`.
     pub fn close_above(&mut self, variable: u8, cut: u8) -> u8
         ensures is { self.new ≡ below_cut self.old variable cut }
         ensures back { below_cut self.new variable result ≡ self.old }
@@ -135,7 +135,7 @@ impl Space {
         self.high[variable as usize] = high;
     }
 
-    /// Leaves the numbers above the cut, where there are others; what was before, for `reopen_below`.
+    /// Leaves the numbers above the cut, if there are others; what was before, for `reopen_below`.
     pub fn close_below(&mut self, variable: u8, cut: u8) -> Lifted
         requires below { is_open_below self.old variable cut ≡ true }
         requires above { is_open_above self.old variable cut ≡ true }
@@ -156,7 +156,7 @@ impl Space {
         self.left = was.left;
     }
 
-    /// Leaves the scenarios in which a number is at least so great; false only where there are none.
+    /// Leaves the scenarios in which a number is at least so great; false only if there are none.
     fn lift(&mut self, variable: u8, low: u8) -> bool
         ensures lies { OnTrue result ((s : Scenario) → Lies self.old s → low ≤ number_of s variable → Lies self.new s) }
         ensures none { OnFalse result ((s : Scenario) → Lies self.old s → number_of s variable < low) }
@@ -175,7 +175,7 @@ impl Space {
         true
     }
 
-    /// Leaves the scenarios in which a number is at most so great; false only where there are none.
+    /// Leaves the scenarios in which a number is at most so great; false only if there are none.
     fn lower(&mut self, variable: u8, high: u8) -> bool
         ensures lies { OnTrue result ((s : Scenario) → Lies self.old s → number_of s variable ≤ high → Lies self.new s) }
         ensures none { OnFalse result ((s : Scenario) → Lies self.old s → high < number_of s variable) }
@@ -190,7 +190,7 @@ impl Space {
         true
     }
 
-    /// Leaves the scenarios in which a literal holds; false only where there are none.
+    /// Leaves the scenarios in which a literal holds; false only if there are none.
     fn narrow(&mut self, literal: Literal) -> bool
         ensures lies { OnTrue result ((s : Scenario) → Lies self.old s → holds s literal ≡ true → Lies self.new s) }
         ensures none { OnFalse result ((s : Scenario) → Lies self.old s → holds s literal ≡ false) }
@@ -201,7 +201,7 @@ impl Space {
         self.lower(literal.variable, literal.high)
     }
 
-    /// Leaves the scenarios with a number above the cut, where there are others.
+    /// Leaves the scenarios with a number above the cut, if there are others.
     fn raise(&mut self, variable: u8, cut: u8)
         requires below { is_open_below self.old variable cut ≡ true }
         requires above { is_open_above self.old variable cut ≡ true }
@@ -246,7 +246,7 @@ impl Space {
         true
     }
 
-    /// Leaves the scenarios that literals match; false only where there are none, and then it is any space.
+    /// Leaves the scenarios that literals match; false only if there are none, and then it is any space.
     pub fn narrow_to(&mut self, literals: &[Literal]) -> bool
         ensures lies { OnTrue result ((s : Scenario) → Lies self.old s → matches literals.now s ≡ true → Lies self.new s) }
         ensures none { OnFalse result ((s : Scenario) → Lies self.old s → matches literals.now s ≡ false) }
@@ -259,7 +259,7 @@ impl Space {
         true
     }
 
-    /// The scenarios of the space that literals match; `None` only where there are none.
+    /// The scenarios of the space that literals match; `None` only if there are none.
     pub fn within(&self, literals: &[Literal]) -> Option<Space>
         ensures lies { IfSome result (λ r. (s : Scenario) → Lies self.now s → matches literals.now s ≡ true → Lies r s) }
         ensures none { IfNone result ((s : Scenario) → Lies self.now s → matches literals.now s ≡ false) }
@@ -271,7 +271,7 @@ impl Space {
         Some(space)
     }
 
-    /// The scenarios of at most `k` faults that literals match; `None` only where there are none.
+    /// The scenarios of at most `k` faults that literals match; `None` only if there are none.
     pub fn of(k: u8, literals: &[Literal]) -> Option<Space>
         ensures lies { IfSome result (λ r. (s : Scenario) → HasFew k s → matches literals.now s ≡ true → Lies r s) }
         ensures none { IfNone result ((s : Scenario) → HasFew k s → matches literals.now s ≡ false) }

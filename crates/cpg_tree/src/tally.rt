@@ -22,7 +22,7 @@ pub struct Parting {
     cost: u64,
 }
 
-/// That of a fork with so many columns on the low side alone, and so many on the high side alone.
+/// How well a fork parts `count` columns if `below` of them go below it and `above` of them above it.
 fn rated(variable: u8, most: u8, count: u32, below: u32, above: u32) -> Parting {
     let low = u64::from(count.saturating_sub(above));
     let high = u64::from(count.saturating_sub(below));
@@ -38,7 +38,7 @@ fn rated(variable: u8, most: u8, count: u32, below: u32, above: u32) -> Parting 
 
 impl Parting {
     /// Whether a fork is better than another: one that no column stands on both sides of, and of such the one that parts
-    /// more evenly. Where columns stand as the leaves of some tree, so do those on each side of such a fork.
+    /// more evenly. If columns stand as the leaves of some tree, so do those on each side of such a fork.
     fn is_better(&self, other: &Parting) -> bool {
         if self.is_shared != other.is_shared {
             return other.is_shared;
@@ -186,8 +186,8 @@ impl Tally {
         best
     }
 
-    /// The same, by the literals of one of the columns: a fork that no column stands on both sides of is on one of their
-    /// variables.
+    /// As `best`, by the literals of one of the columns: a fork that no column stands on both sides of is on one of
+    /// their variables.
     pub fn best_by(&self, literals: &[Literal], count: u32) -> Option<Parting> {
         let best = self.best_among(literals, count);
         if count <= FEW {

@@ -126,7 +126,7 @@ impl<T: Copy> Tree<T> {
         })
     }
 
-    /// How many paths there are, and `None` exactly where a number of 64 bits can't tell it.
+    /// How many paths there are, and `None` exactly if a number of 64 bits can't tell it.
     pub fn leaves(&self) -> Option<u64>
         ensures some { IfSome result (λ n. n ≡ length self.now.paths) }
         ensures none { IfNone result (2 ^ 64 ≤ length self.now.paths) }
@@ -153,9 +153,9 @@ impl<T: Copy> Tree<T> {
         Tree::of(self.alloc, self.faults, root)
     }
 
-    /// What a function makes in each scenario of the greater number of two trees whose leaves are read as numbers. Where one
+    /// What a function makes in each scenario of the greater number of two trees whose leaves are read as numbers. If one
     /// tree's numbers are at least the other's everywhere, nothing of the other is tested, which no clause asks for. The one
-    /// error is want of memory.
+    /// error is `OutOfMemory`.
     pub fn greater<U: Copy, V: Copy + Eq, R: Reading<T>, S: Reading<U>, F: Fn(u64) -> V>(
         &self,
         read: &R,
@@ -218,7 +218,7 @@ impl<T: Copy + Eq> Tree<T> {
 }
 
 impl Tree<bool> {
-    /// Whether it is true in every scenario, as far as a look at the first fork tells.
+    /// Whether the tree is true in every scenario, as far as a look at the first fork tells.
     pub fn is_true(&self) -> bool
         ensures { OnTrue result (IsConstant true self.now.faults self.now) }
     {
@@ -229,7 +229,7 @@ impl Tree<bool> {
     }
 }
 
-/// Whether it is a time of at least this.
+/// Whether a time is there and is at least this.
 fn is_time_from(time: Option<u64>, least: u64) -> bool
     ensures { OnTrue result (time ≡ Some (max (time_later 0 time) least)) }
 {
@@ -257,7 +257,7 @@ impl Node<Option<u64>> {
     }
 }
 
-/// A time, 0 where there is none, or another, whichever is later.
+/// A time, 0 if there is none, or another, whichever is later.
 fn time_or(time: Option<u64>, least: u64) -> u64
     ensures { result ≡ max (time_later 0 time) least }
 {
@@ -272,7 +272,7 @@ impl Tree<Option<u64>> {
         self.root.is_at_least(least)
     }
 
-    /// The times, 0 where there are none, or another, whichever is later, as times in all scenarios.
+    /// The times, 0 if there are none, or another, whichever is later, as times in all scenarios.
     fn raised(&self, least: u64) -> Result<Tree<Option<u64>>, OutOfMemory>
         ensures is { IfOk result (λ t. IsMap (λ x z. z ≡ Some (max (time_later 0 x) least)) self.now t) }
         ensures each { IfOk result (λ t. HasOnePathEach t.faults t.paths) }
@@ -282,7 +282,7 @@ impl Tree<Option<u64>> {
         self.map(&|time: Option<u64>| Some(time_or(time, least)))
     }
 
-    /// The times, 0 where there are none, or another, whichever is later, as times in all scenarios. A tree that has no
+    /// The times, 0 if there are none, or another, whichever is later, as times in all scenarios. A tree that has no
     /// other values is shared.
     pub fn no_earlier(&self, least: u64) -> Result<Tree<Option<u64>>, OutOfMemory>
         ensures is { IfOk result (λ t. IsMap (λ x z. z ≡ Some (max (time_later 0 x) least)) self.now t) }
@@ -310,7 +310,7 @@ impl Tree<u64> {
         self.greater(&AsIs, other, &AsIs, &|number: u64| number)
     }
 
-    /// In each scenario the greater of this tree's number and another's, 0 where that has none, later by a delay.
+    /// In each scenario the greater of this tree's number and another's, 0 if that has none, later by a delay.
     pub fn max_later(&self, other: &Tree<Option<u64>>, delay: u64) -> Result<Tree<u64>, OutOfMemory>
         requires same { self.now.faults ≡ other.now.faults }
         ensures is { IfOk result (IsJoin (λ x y z. z ≡ max x (time_later delay y)) self.now other.now) }

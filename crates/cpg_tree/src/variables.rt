@@ -12,7 +12,7 @@ use crate::space::Space;
 use cpg_base::{FIRST_VALUE, OutOfMemory};
 use std::alloc::Global;
 
-/// The count of a process, where it is `first` or more.
+/// The count of a process, if it is `first` or more.
 fn counts_from(alloc: Global, process: u8, first: u8, k: u8) -> Result<Node<u8>, OutOfMemory>
     requires process { process < 128 }
     requires first { first ≤ k }

@@ -70,7 +70,7 @@ retuned_within g parts faults w a few = record {
     name_at : (i : ℕ) (d : Process) → i < length g.processes → (get_or (in_parts_each g.processes parts) i d).name ≡ (get_or g.processes i d).name
     name_at i d l = ap (λ (p : Process). p.name) (each_at g.processes parts i d a.one_each l)
 
--- so does each without its order
+-- a graph stays within the limits without its order
 pub orderless_within : (g : Graph) → IsWithinLimits g → IsWithinLimits (record g { order = None })
 orderless_within g w = record {
   faults = w.faults;

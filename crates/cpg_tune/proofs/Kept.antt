@@ -135,7 +135,7 @@ module _ (g : Graph) (parts : List ℕ) (faults : ℕ) (one_each : length parts 
   cycle_same : HasCycle h → HasCycle g
   cycle_same (walk, c) = (walk, record { some = c.some; apart = c.apart; least = c.least; next = c.next; back = c.back })
 
-  -- so is the order that the graph gives
+  -- a topological order of the graph is one of the other
   topological_same : (order : List ℕ) → IsTopological g order → IsTopological h order
   topological_same order top = record { all = subst (λ n. IsPermutation (numbers_below n) order) (sym processes_same) top.all; forward = top.forward }
 
@@ -166,6 +166,6 @@ no_fault g h order guards is keeps (BadOrder p) shows =
     absurd (none_bad h bad.order (subst (λ o. IfSome o (IsTopological h)) bad.given (keeps.given is.given)) p bad.bad)
 no_fault g h order guards is keeps OutOfMemory shows = refl
 
--- so it is with the best parts
+-- no fault is shown with the best parts but that memory runs out
 pub tuned_no_fault : (g : Graph) (order : List ℕ) (guards : Guards) → IsAdmitted g order guards → (faults : ℕ) → ShowsNoFault (row_graph g faults)
 tuned_no_fault g order guards is faults = no_fault g (row_graph g faults) order guards is (keeps_rules g (best_parts g) faults (best_parts_of g).one_each)

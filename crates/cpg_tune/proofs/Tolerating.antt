@@ -3,7 +3,7 @@ use Rattle.std.proofs.Common.{ℕ, zero, suc, ◌+◌, ◌<◌, ◌≡◌, ◌�
 use Rattle.cpg_tune.specs.declared.judge.Judged.{Judged}
 use Rattle.cpg_tune.specs.Tuned.{is_accepted, row_at, tolerated_from, tolerated, IsGreatestAccepted}
 
--- counted from a place, where what came before is settled
+-- counted from a place, if what came before is settled
 abbrev IsLastFrom : ℕ → Option ℕ → List Judged → Option ℕ → Type 0
 IsLastFrom from found rows last =
     ((last ≡ found) × ((k : ℕ) → k < length rows → is_accepted (row_at rows k) ≡ false))

@@ -13,7 +13,7 @@ use Rattle.cpg_tune.specs.Tuned.{tolerated, IsGreatestAccepted}
 abbrev pub BestPartsAreBest : Type 0
 BestPartsAreBest = (p : Process) (faults : ℕ) → IsBest p faults (best_of p faults)
 
--- so each process of the tuned graph lasts at most as long as in the graph in any other parts
+-- each process of the tuned graph lasts at most as long as in the graph in any other parts
 abbrev pub TunedLastLeast : Type 0
 TunedLastLeast = (g : Graph) (parts : List ℕ) → ArePartsOf g parts → (p : ℕ) → p < process_count g →
     duration (row_graph g g.faults) p g.faults ≤ duration (retuned g parts g.faults) p g.faults

@@ -25,7 +25,7 @@ pub fn tuned_last_least()
     ensures { TunedLastLeast }
 {}
 
-/// The faults that are tolerated are the greatest number whose row is accepted, and `None` exactly where no row is.
+/// The faults that are tolerated are the greatest number whose row is accepted, and `None` exactly if no row is.
 pub fn tolerated_is_greatest()
     ensures { ToleratedIsGreatest }
 {}
@@ -35,12 +35,12 @@ pub fn retuned_keep_rules()
     ensures { RetunedKeepRules }
 {}
 
-/// An admitted graph shows no fault but want of memory with other parts and another fault number.
+/// With other parts and another fault number an admitted graph shows no fault but that memory runs out.
 pub fn retuned_show_no_fault()
     ensures { RetunedShowNoFault }
 {}
 
-/// Nor does it with its best parts.
+/// With its best parts and another fault number an admitted graph shows no fault but that memory runs out.
 pub fn tuned_show_no_fault()
     ensures { TunedShowNoFault }
 {}

@@ -131,7 +131,7 @@ impl Tuned {
         self.rows.as_slice()
     }
 
-    /// The greatest fault number whose row is accepted, and `None` exactly where no row is.
+    /// The greatest fault number whose row is accepted, and `None` exactly if no row is.
     pub fn tolerates(&self) -> Option<u8>
         ensures tolerates { result ≡ self.now.tolerates }
         ensures greatest { IsGreatestAccepted self.now.rows result }

@@ -9,7 +9,7 @@ use Rattle.cpg_cube.specs.declared.literal.Literal.{Literal}
 use Rattle.cpg_cube.specs.Column.{Column, column_at}
 
 module _ (columns : List Column) (cube : List Literal) (places : List ℕ) where
-  -- of the places so far those are there whose columns match together with the cube
+  -- those of the places so far are there whose columns match together with the cube
   abbrev pub MeetsFirst : ℕ → List ℕ → Type 0
   MeetsFirst n kept = (s : Scenario) (i : ℕ) → Contains (take n places) i → i < length columns → matches (column_at columns i).cube s ≡ true → matches cube s ≡ true → Contains kept i
 

@@ -19,7 +19,7 @@ use Rattle.cpg_violation.specs.Sources.{is_active_by}
 use Rattle.cpg_violation.specs.declared.sources.ItemSource.{ItemSource}
 use Rattle.cpg_violation.proofs.ActiveWhere.{value_holds}
 
--- a test comes to nothing wanted where the sides that are open do
+-- a test comes to nothing wanted if the sides that are open do
 module _ (wanted : Bool) (c : ℕ) (off on : Guard) (s : Scenario) where
   arms : (v : Bool) → get_or s.values c false ≡ v → (v ≡ false → comes_to off wanted s ≡ false) → (v ≡ true → comes_to on wanted s ≡ false) → comes_to (Test c off on) wanted s ≡ false
   arms true e low high = rw e (high refl)

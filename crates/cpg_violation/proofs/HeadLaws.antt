@@ -14,7 +14,7 @@ use Rattle.cpg_violation.specs.Heads.{IsHeadFor}
 use Rattle.std.specs.List.{list_all}
 use Rattle.std.specs.Prelude.{IfSome, List, None, Some}
 
--- but for what version 2 says beside, it is the graph's
+-- a head for a graph is the graph's, but for what version 2 says beside
 same_but_extras : (g : Graph) (h : Head) → IsHeadFor g h → record h { extras = extras_of g } ≡ head_of g
 same_but_extras g h k = rw (k.faults, k.nodes, k.processes.processes, k.edges) refl
 

@@ -1,4 +1,4 @@
--- Items that are marked keep a rule, and all do where all are marked.
+-- Items that are marked keep a rule, and all do if all are marked.
 use Rattle.std.proofs.Common.{ℕ, ◌+◌, ◌<◌, ◌≡◌, true, false, Bool, List, Option, get_or, arith, subst, inl, inr}
 use Rattle.std.proofs.lemmas.Bool.{cases_lt}
 use Rattle.cpg_base.specs.Graph.{Graph, item_count}
@@ -10,7 +10,7 @@ use Rattle.cpg_violation.specs.Sure.{AreSure}
 use Rattle.cpg_violation.specs.Violation.{Holds}
 
 module _ (g : Graph) (tables : List NodeTable) (rule : Rule) (marks : List Bool) (sure : AreSure g tables rule marks) where
-  -- a rule holds where all items are marked
+  -- a rule holds if all items are marked
   pub holds_all : ((x : ℕ) → x < item_count g → get_or marks x false ≡ true) → Holds g tables rule
   holds_all all x column s i l = sure x l (all x l) column s i
 

@@ -1,4 +1,4 @@
--- What V1 to V3 say of columns that match: where one does, its item and the processes of its literals are active, and an
+-- What V1 to V3 say of columns that match: if one does, its item and the processes of its literals are active, and an
 -- active item has one.
 use Rattle.std.proofs.Common.{ℕ, ◌<◌, ◌≡◌, true, false, not, ◌||◌, List, length, get_or, take, Contains, None, Some, sym, ap, ◌∙◌}
 use Rattle.std.specs.List.{list_any}

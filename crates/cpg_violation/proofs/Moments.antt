@@ -31,7 +31,7 @@ module _ (g : Graph) (s : Scenario) (x : ℕ) (l : x < item_count g) (send : pro
     | inr (inr b) ↦ ap (breaks_inputs_of g tables s time) b.3 ∙ sym (ap (λ i. not (is_by time (ends_of g tables s (producer_of_item g i)))) b.3)
   ]
 
-  -- which is active where the item is
+  -- which is active if the item is
   pub made : item_active g s.values (item_at g x) ≡ true → active g s.values (producer g x) ≡ true
   made a = elim (item_cases g x l) [
     | inl start ↦ absurd (omega (arith, start.0))

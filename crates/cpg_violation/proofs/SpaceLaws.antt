@@ -16,7 +16,7 @@ module _ (g : Graph) (k : ℕ) (faults : k ≡ g.faults) (s : Scenario) (law : I
   few_of = subst (λ k. HasFew k s) (sym faults) (scenario_few g s law)
 
   module _ (cube literals : List Literal) (same : literals ≡ cube) (m : matches cube s ≡ true) (o : Option Space) where
-    -- there is one where a scenario matches
+    -- there is one if a scenario matches
     pub not_none : o ≡ None → IfNone o ((s : Scenario) → HasFew k s → matches literals s ≡ false) → ⊥
     not_none e none = go o e none
       where

@@ -21,7 +21,7 @@ pub on_le : {P : Type 0} (a b : ℕ) → (a ≤ b → P) → OnTrue (nat_le a b)
 on_le {P} a b f = OnTrue_from (nat_le a b) P (λ e. f (leb-true a b e))
 
 module _ (g : Graph) (tables : List NodeTable) (rule : Rule) (x : ℕ) where
-  -- no column breaks the rule where it matches
+  -- no column breaks the rule if it matches
   pub sure_of : asks_for_one rule ≡ false
       → ((s : Scenario) (c : Column) (earlier : List Column) → IsScenario g s → Contains (columns_of tables x) c → matches c.cube s ≡ true → breaks_rule rule g tables s x earlier c ≡ false)
       → IsSure g tables rule x

@@ -6,12 +6,12 @@ pub with_true : (m b : Bool) → b ≡ true → m ≡ (m && b)
 with_true true b e = sym e
 with_true false b e = refl
 
--- where the first one passes, the second ones are equal
+-- if the first one passes, the second ones are equal
 pub same_where : (m a b : Bool) → (m ≡ true → a ≡ b) → (m && a) ≡ (m && b)
 same_where true a b h = h refl
 same_where false a b h = refl
 
--- where the first one passes, the second doesn't
+-- if the first one passes, the second doesn't
 pub off_where : (m b : Bool) → (m ≡ true → b ≡ false) → (m && b) ≡ false
 off_where true b h = h refl
 off_where false b h = refl

@@ -1,4 +1,4 @@
--- Rows that are at one time keep V8, and V9 where each end is early enough.
+-- Rows that are at one time keep V8, and V9 if each end is early enough.
 use Rattle.std.proofs.Common.{ℕ, ◌+◌, ◌-◌, ◌^◌, ◌≤◌, ◌≡◌, true, false, not, ◌&&◌, List, Option, None, Some, Contains, All, find, min, arith, refl, sym, ap, ◌∙◌, le-ltb}
 use Rattle.std.specs.Prelude.{nat_lt}
 use Rattle.std.proofs.Math.Bool.{and-false}
@@ -25,7 +25,7 @@ due_le g p = go (process_at g p).deadline
     go None = omega arith
     go (Some own) = omega arith
 
--- an end that is capped is in time where the end is
+-- an end that is capped is in time if the end is
 pub by_due : (g : Graph) → IsWithinLimits g → (p end capped limit : ℕ) → capped ≡ min end (2 ^ 64 - 1) → limit ≡ due g p → capped ≤ limit → end ≤ limit
 by_due g within p end capped limit is by h = omega (arith, is, by, h, due_le g p, within.deadline)
 

@@ -8,7 +8,7 @@ use Rattle.cpg_base.specs.Scenario.{Scenario, IsScenario}
 abbrev pub IsAlways : Graph → ℕ → Type 0
 IsAlways g p = (s : Scenario) → IsScenario g s → active g s.values p ≡ true
 
--- and so are all that are marked
+-- all processes that are marked are active in every scenario
 abbrev pub AreAlways : Graph → List Bool → Type 0
 AreAlways g marks = (p : ℕ) → p < process_count g → get_or marks p false ≡ true → IsAlways g p
 

@@ -6,11 +6,11 @@ use Rattle.cpg_cube.specs.Column.{Column}
 use Rattle.cpg_violation.specs.Sieves.{IsSieveOf}
 use Rattle.cpg_violation.specs.declared.lines.Line.{Line}
 
--- the least time of columns; the greatest number where there is none
+-- the least time of columns; the greatest number if there is none
 abbrev pub first_time : List Column → ℕ
 first_time columns = fold (λ time d. min time d.time) (2 ^ 64 - 1) columns
 
--- the greatest time of columns; 0 where there is none
+-- the greatest time of columns; 0 if there is none
 abbrev pub last_time : List Column → ℕ
 last_time columns = fold (λ time d. max time d.time) 0 columns
 

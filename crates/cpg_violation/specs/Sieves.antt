@@ -19,10 +19,10 @@ places_in (Cut v most below above) s = if nat_le (number_of s v) most then place
 abbrev pub is_at : List Column → Scenario → ℕ → Bool
 is_at columns s i = nat_lt i (length columns) && matches (column_at columns i).cube s
 
--- a scenario that a column matches comes to its place, where that is one of these
+-- a scenario that a column matches comes to its place, if that is one of these
 pub record Sifts (columns : List Column) (places : List ℕ) (parted : Parted) : Type 0 where
   pub found : (s : Scenario) (i : ℕ) → Contains places i → i < length columns → matches (column_at columns i).cube s ≡ true → Contains (places_in parted s) i
 
--- and so it does for each column
+-- a scenario that a column matches comes to its place
 pub record IsSieveOf (columns : List Column) (parted : Parted) : Type 0 where
   pub found : (s : Scenario) (i : ℕ) → i < length columns → matches (column_at columns i).cube s ≡ true → Contains (places_in parted s) i

@@ -10,7 +10,7 @@ is_active_by g values ItemSource.Nothing = false
 is_active_by g values (ItemSource.Process p) = active g values p
 is_active_by g values (ItemSource.Edge e) = live g values e
 
--- it is a process or an edge of the graph
+-- the source of an item is a process or an edge of the graph, if there is one
 abbrev pub IsSourceIn : Graph → ItemSource → Type 0
 IsSourceIn g ItemSource.Nothing = ⊤
 IsSourceIn g (ItemSource.Process p) = p < process_count g

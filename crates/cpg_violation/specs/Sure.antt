@@ -12,7 +12,7 @@ use Rattle.cpg_violation.specs.declared.marks.TimeMarks.{TimeMarks}
 abbrev pub IsSure : Graph → List NodeTable → Rule → ℕ → Type 0
 IsSure g tables rule x = (column : Option ℕ) (s : Scenario) → IsScenario g s → breaks rule g tables s x column ≡ false
 
--- nor at any item that is marked
+-- no scenario breaks the rule at any item that is marked
 abbrev pub AreSure : Graph → List NodeTable → Rule → List Bool → Type 0
 AreSure g tables rule marks = (x : ℕ) → x < item_count g → get_or marks x false ≡ true → IsSure g tables rule x
 

@@ -28,7 +28,8 @@ pub fn value_literal(condition: u32, value: bool) -> Literal
     }
 }
 
-/// The same where a literal holds too.
+/// The least scenario in which a guard comes to what is wanted and a literal holds, of those that a cube matches and
+/// others don't.
 #[cycle(activity)]
 fn least_where(
     alloc: Global,

@@ -14,7 +14,7 @@ fn touch(first: &Literal, second: &Literal) -> bool
     first.low <= second.high && second.low <= first.high
 }
 
-/// Whether a scenario may match two lists of literals, both by rising variables: not where they ask for other numbers of a
+/// Whether a scenario may match two lists of literals, both by rising variables: not if they ask for other numbers of a
 /// variable.
 pub(crate) fn may_meet(first: &[Literal], second: &[Literal]) -> bool
     ensures { OnFalse result ((s : Scenario) → (matches first.now s && matches second.now s) ≡ false) }

@@ -59,7 +59,7 @@ pub fn is_running(admitted: &Admitted, process: u32, space: &Space) -> bool
     is_never(admitted.guards().guard_of(process), false, space)
 }
 
-/// Which processes are known to be active in every scenario: what isn't marked may be. The one error is want of memory.
+/// Which processes are known to be active in every scenario: what isn't marked may be. The one error is `OutOfMemory`.
 pub fn always_active(alloc: Global, admitted: &Admitted) -> Result<Vec<bool>, OutOfMemory>
     ensures { IfOk result (λ marks. AreAlways admitted.now.graph marks.items) }
 {

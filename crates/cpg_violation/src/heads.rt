@@ -82,7 +82,7 @@ fn are_same_extras(problem: &Problem, head: &Head) -> bool
     ensures { IsTrue result ↔ IfSome head.now.extras (λ extras. extras ≡ map extra_of problem.now.processes) }
 {
     let processes = problem.processes();
-    // for `within`: where the head says more of the processes, it does of each
+    // for `within`: if the head says more of the processes, it does of each
     let _described = head.processes();
     for process in 0..processes.len() {
         let Some(extra) = head.extra(process as u32) else {
@@ -106,7 +106,7 @@ fn are_processes_of(problem: &Problem, own: &Head, head: &Head) -> bool
     are_same_extras(problem, head)
 }
 
-/// The first part in which a head differs from the graph's, and `None` exactly where it is the graph's.
+/// The first part in which a head differs from the graph's, and `None` exactly if it is the graph's.
 pub fn first_difference(
     alloc: Global,
     problem: &Problem,

@@ -21,7 +21,7 @@ pub struct Line<'a> {
     pub last: u64,
 }
 
-/// The least time of these columns; the greatest number where there is none.
+/// The least time of these columns; the greatest number if there is none.
 pub fn first_time(columns: &[Entry]) -> u64
     ensures first { result ≡ first_time columns.now }
     ensures all { All (λ d. result ≤ d.time) columns.now }
@@ -33,7 +33,7 @@ pub fn first_time(columns: &[Entry]) -> u64
     first
 }
 
-/// The greatest time of these columns; 0 where there is none.
+/// The greatest time of these columns; 0 if there is none.
 pub fn last_time(columns: &[Entry]) -> u64
     ensures last { result ≡ last_time columns.now }
     ensures all { All (λ d. d.time ≤ result) columns.now }

@@ -9,8 +9,8 @@ ghost use Rattle.cpg_violation.specs.Room.{HasRoom};
 use cpg_base::{OutOfMemory, Problem, Scenario};
 use cpg_cube::Cube;
 
-/// The least scenario that two cubes match, if there is one. `room` is that scenario then, also where no memory is
-/// left for its copy; where there is none, `room` stays as it was.
+/// The least scenario that two cubes match, if there is one. `room` is that scenario then, also if no memory is
+/// left for its copy; if there is none, `room` stays as it was.
 pub fn met(
     problem: &Problem,
     cube: &Cube,

@@ -62,7 +62,7 @@ fn is_sure(problem: &Problem, tables: &Tables, item: u32) -> bool
     all_end_in_time(problem, item, tables.columns_of(item))
 }
 
-/// Items whose executions all end by their dues; one that isn't marked may be one. The one error is want of memory.
+/// Items whose executions all end by their dues; one that isn't marked may be one. The one error is `OutOfMemory`.
 pub fn due_marks(
     alloc: Global,
     admitted: &Admitted,

@@ -16,15 +16,15 @@ use cpg_tree::Tally;
 use std::alloc::Global;
 use std::marker::Model;
 
-/// How many times places are parted at most.
+/// The most times that places are parted.
 const DEPTH: u32 = 160;
-/// So many places aren't parted.
+/// A list of at most this many places isn't parted.
 const FEW: usize = 24;
 /// How many places are looked at to choose a cut.
 const SAMPLE: usize = 8;
 
 /// The places of the columns of a row, parted by whether a variable may be at most a number: seen as a tree of such cuts.
-/// A place stands on both sides where its column may match on both.
+/// A place stands on both sides if its column may match on both.
 #[cycle(sieve)]
 #[derive(Drop)]
 pub struct Sieve {
@@ -90,7 +90,7 @@ fn goes(cube: &Cube, variable: u8, most: u8, below: bool) -> bool
     true
 }
 
-/// Whether the column at a place lets a variable be at most a number, or else above it; not where there is no column.
+/// Whether the column at a place lets a variable be at most a number, or else above it; not if there is no column.
 fn column_goes(columns: &[Entry], place: u32, variable: u8, most: u8, below: bool) -> bool
     ensures { OnFalse result ((s : Scenario) → place < length columns.now → matches (column_at columns.now place).cube s ≡ true →
         nat_le (number_of s variable) most ≡ not below) }
@@ -119,7 +119,7 @@ struct Cut {
     most: u8,
 }
 
-/// Whether a cut parts so many places of which so many go below and so many above, with few on both sides.
+/// Whether a cut parts `all` places, with few on both sides, if `below` of them go below it and `above` of them above it.
 fn is_parted(all: usize, below: usize, above: usize) -> bool {
     if below >= all {
         return false;
@@ -334,7 +334,7 @@ fn sides_of(
     Ok(sides)
 }
 
-/// These places, parted so many times at most.
+/// These places, parted at most `depth` times.
 fn sifted(
     alloc: Global,
     columns: &[Entry],
@@ -369,7 +369,7 @@ fn sifted(
     })
 }
 
-/// Whether the column at a place may match some scenario together with a cube; not where there is no column.
+/// Whether the column at a place may match some scenario together with a cube; not if there is no column.
 fn column_may_meet(columns: &[Entry], place: u32, cube: &Cube) -> bool
     ensures { OnFalse result ((s : Scenario) → place < length columns.now → (matches cube.now s && matches (column_at columns.now place).cube s) ≡ false) }
 {
@@ -461,8 +461,8 @@ impl Sieve {
         }
     }
 
-    /// Of the row's columns the places among which each is that matches some scenario together with a cube. Some may stand
-    /// there that don't, for want of faults, and some twice.
+    /// The places of a row's columns, among which is each that matches some scenario together with a cube. Some may
+    /// stand there that don't, as the faults don't suffice, and some twice.
     pub fn candidates(
         &self,
         alloc: Global,

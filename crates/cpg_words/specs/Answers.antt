@@ -4,7 +4,7 @@ use Rattle.cpg_words.specs.declared.command.Command.{Command}
 use Rattle.cpg_words.specs.declared.fault.WordsFault.{WordsFault}
 use Rattle.cpg_words.specs.declared.fault.WordsFault.TheVariants.{Bad, OutOfMemory}
 
--- A command is the one that is asked for, and Bad comes only where none is.
+-- A command is the one that is asked for, and Bad comes only if none is.
 abbrev pub Answers : Option Command → Result Command WordsFault → Type 0
 Answers asked (Ok command) = asked ≡ Some command
 Answers asked (Err Bad) = asked ≡ None

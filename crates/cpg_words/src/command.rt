@@ -105,7 +105,7 @@ impl Model for Pairs {
 }
 
 impl Pairs {
-    /// Takes one to four pairs. None exactly where they're fewer or more.
+    /// Takes one to four pairs. None exactly if they're fewer or more.
     pub(crate) fn new(pairs: Vec<Pair>) -> Option<Pairs>
         ensures { result ≡ one_to_four pairs.items }
     {

@@ -9,7 +9,7 @@ pub enum WordsFault {
     /// They have no form of the command line.
     #[error("the words have no form")]
     Bad,
-    /// Want of memory.
+    /// Out of memory.
     #[error("out of memory")]
     OutOfMemory,
 }

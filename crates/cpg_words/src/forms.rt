@@ -1,4 +1,4 @@
-//! The form of each command: from its positionals and the values of `--turns` to the command, and `Bad` where they
+//! The form of each command: from its positionals and the values of `--turns` to the command, and `Bad` if they
 //! aren't just those that it has.
 ghost use Rattle.std.specs.Prelude.{◌≡◌, IfOk, Err, Some, None};
 ghost use Rattle.cpg_words.specs.Answers.{Answers};
@@ -157,7 +157,7 @@ fn hyper(alloc: Global, words: &[&str], turns: &[&str]) -> Result<Command, Words
     }
 }
 
-/// The command of this name, where it takes these positionals and these values of `--turns`; else `Bad`.
+/// The command of this name, if it takes these positionals and these values of `--turns`; else `Bad`.
 pub fn command(
     alloc: Global,
     name: &str,

@@ -79,7 +79,7 @@ fn with_forms<'a>(
     Ok(line)
 }
 
-/// The command line with all its subcommands. Fails for want of memory alone.
+/// The command line with all its subcommands. Fails only if memory runs out.
 pub fn line<'a>(alloc: Global) -> Result<Command<'a>, AllocError>
     ensures { IfOk result (λ c. app_of c ≡ line_app) }
 {

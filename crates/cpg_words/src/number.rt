@@ -13,7 +13,7 @@ fn is_digits(text: &str) -> bool
     text.bytes().all(|b| b.is_ascii_digit())
 }
 
-/// The number that 1 to 20 decimal digits write, where it is below 2^64; None for every other text.
+/// The number that 1 to 20 decimal digits write, if it is below 2^64; None for every other text.
 pub fn number(text: &str) -> Option<u64>
     ensures { result ≡ number_of text.now }
 {

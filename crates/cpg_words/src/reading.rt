@@ -23,7 +23,7 @@ fn asked(alloc: Global, name: &str, found: &ArgMatches<'_>) -> Result<Command, W
     command(alloc, name, words, turns)
 }
 
-// Where `clap` refuses the words, and not for want of memory, they have no form.
+// If `clap` refuses the words, and memory hasn't run out, they have no form.
 fn fault_of(kind: ErrorKind) -> WordsFault
     ensures { result ≡ WordsFault.Bad ↔ kind ≢ ErrorKind.OutOfMemory }
 {
@@ -46,7 +46,7 @@ fn matches<'a>(alloc: Global, words: &'a [String]) -> Result<ArgMatches<'a>, Wor
 }
 
 /// The command that the words ask for, by the rule of this crate. The words are those after
-/// the program's name. Fails with `Bad` exactly where they have no form.
+/// the program's name. Fails with `Bad` exactly if they have no form.
 pub fn read_words(alloc: Global, words: &[String]) -> Result<Command, WordsFault>
     ensures command { IfOk result (λ c. command_of (map string_bytes words.now) ≡ Some c) }
     ensures bad { result ≡ Err WordsFault.Bad → command_of (map string_bytes words.now) ≡ None }

@@ -26,7 +26,7 @@ impl Debug for Word {
 }
 
 impl Word {
-    /// Copies a text into a word of its own. Fails for want of memory alone.
+    /// Copies a text into a word of its own. Fails only if memory runs out.
     pub(crate) fn new(alloc: Global, text: &str) -> Result<Word, AllocError>
         ensures { IfOk result (λ w. w ≡ text.now) }
     {

@@ -3,7 +3,7 @@ use Rattle.cpg_order.specs.Urgency.{first_order}
 use Rattle.cpg_reach.specs.Wide.{IsNarrow}
 use Rattle.cpg_app.proofs.tuning.wide_as_given.Goals as goal
 
--- what holds where there is nothing may be weakened
+-- what holds if there is nothing may be weakened
 if_none : (r : Option ℕ) (P Q : Type 0) → (P → Q) → IfNone r P → IfNone r Q
 if_none None P Q f h = f h
 if_none (Some x) P Q f h = h

@@ -23,7 +23,7 @@ pub tracks-requires : goal.tracks-requires
 tracks-requires c = rw (c.as_slice-2.ensures.value, c.in_ok-choosing.ensures, c.as_slice.ensures.value, c.in_ok-steps.ensures)
     (all_rested (IsStepBelow 128) Conditions _ (steps_below c.args.problem.now c.args.order.now c.requires 128 c.processes-count.ensures.within.few_processes))
 
--- the number of tracks, where it is not past the most that are counted
+-- the number of tracks, if it is not past the most that are counted
 counted : (steps whole : List Step) (result all : ℕ) → result ≡ min 16385 (tracks_from steps (replicate 128 None)) → steps ≡ rested Conditions whole → tracks_from whole (replicate 128 None) ≡ all
     → result ≡ min 16385 all
 counted steps whole result all is along are = is ∙ ap (λ s. min 16385 (tracks_from s (replicate 128 None))) along ∙ ap (min 16385) (tracks_rested whole (replicate 128 None) ∙ are)
