@@ -35,7 +35,7 @@ fn end_past(due: u64, excess: u64, worst: u64) -> u64
 }
 
 /// That a process ends past its due under the first order, by the greatest excess, with its end in the scenario of that.
-fn late(admitted: &Admitted, first: Grown) -> CompileFault
+pub(crate) fn late(admitted: &Admitted, first: Grown) -> CompileFault
     requires grown { IsGrownFor admitted.now.graph admitted.now.order (first_order admitted.now.graph admitted.now.order) first }
     requires narrow { admitted.now.graph.order ≡ None → IsNarrow admitted.now.graph (first_order admitted.now.graph admitted.now.order) }
     requires late { 0 < first.excess.time }
@@ -55,7 +55,7 @@ fn late(admitted: &Admitted, first: Grown) -> CompileFault
 }
 
 /// Whether two orders are equal.
-fn are_same(first: &Order, second: &Order) -> bool
+pub(crate) fn are_same(first: &Order, second: &Order) -> bool
     ensures { OnTrue result (first.now ≡ second.now) }
 {
     first.processes() == second.processes()
@@ -148,7 +148,7 @@ fn grow_urgent(alloc: Global, admitted: &Admitted, order: Order) -> Result<Grown
 }
 
 /// What is found under the first order.
-fn grow_first(alloc: Global, admitted: &Admitted) -> Result<Grown, CompileFault>
+pub(crate) fn grow_first(alloc: Global, admitted: &Admitted) -> Result<Grown, CompileFault>
     ensures grown { IfOk result (IsGrownFor admitted.now.graph admitted.now.order (first_order admitted.now.graph admitted.now.order)) }
     ensures narrow { IfOk result (λ _. admitted.now.graph.order ≡ None → IsNarrow admitted.now.graph (first_order admitted.now.graph admitted.now.order)) }
     ensures fault { IfErr result (ShowsCompileFault admitted.now.graph admitted.now.order) }

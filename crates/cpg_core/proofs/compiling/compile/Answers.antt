@@ -1,7 +1,5 @@
-use Rattle.std.proofs.Common.{◌≡◌, ◌∙◌, None, sym, arith, inl, inr}
+use Rattle.std.proofs.Common.{◌≡◌, arith, inl, inr}
 use Rattle.cpg_order.specs.Urgency.{IsTopological, first_order}
-use Rattle.cpg_expand.specs.GrownFor.{IsGrownFor}
-use Rattle.cpg_reach.specs.Wide.{IsNarrow}
 use Rattle.cpg_core.specs.Compilation.{IsPreferredTo, HasNoBetter}
 use Rattle.cpg_core.proofs.Compilations.{late_too, compiled_by_tracks, compiled_by_first}
 use Rattle.cpg_core.proofs.compiling.compile.Goals as goal
