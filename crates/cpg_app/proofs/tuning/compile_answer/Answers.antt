@@ -1,4 +1,4 @@
-use Rattle.std.proofs.Common.{rules, ◌≡◌, None, inl, inr}
+use Rattle.std.proofs.Common.{inl, inr}
 use Rattle.cpg_order.specs.Urgency.{first_order}
 use Rattle.cpg_reach.specs.Wide.{IsNarrow}
 use Rattle.cpg_core.specs.declared.fault.CompileFault.{CompileFault}

@@ -1,7 +1,7 @@
 use Rattle.std.proofs.Common.{◌≡◌, ℕ, Option, Some, None, IfNone, subst}
 use Rattle.cpg_order.specs.Urgency.{first_order}
 use Rattle.cpg_reach.specs.Wide.{IsNarrow}
-use Rattle.cpg_core.proofs.worst.wide_if_urgent.Goals as goal
+use Rattle.cpg_core.proofs.choosing.wide_if_urgent.Goals as goal
 
 -- what holds where there is nothing may be weakened
 if_none : (r : Option ℕ) (P Q : Type 0) → (P → Q) → IfNone r P → IfNone r Q
