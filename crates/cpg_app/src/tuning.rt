@@ -12,7 +12,7 @@ ghost use Rattle.cpg_outputs.specs.Tunes.{IsNamedRow};
 
 use crate::output::Output;
 use cpg_base::{OutOfMemory, Problem};
-use cpg_core::{CompileFault, compile};
+use cpg_core::{CompileFault, greatest_finish};
 use cpg_outputs::tuning_text;
 use cpg_reach::too_wide;
 use cpg_refusal::Halt;
@@ -56,8 +56,8 @@ fn compile_answer(alloc: Global, admitted: &Admitted) -> Result<Judged, OutOfMem
     if let Some(item) = wide_as_given(alloc, admitted)? {
         return Ok(Judged::Wide(item));
     }
-    match compile(alloc, admitted) {
-        Ok(compiled) => Ok(Judged::Worst(compiled.built.worst)),
+    match greatest_finish(alloc, admitted) {
+        Ok(finish) => Ok(Judged::Worst(finish)),
         Err(CompileFault::TooWide(item)) => Ok(Judged::Wide(item)),
         Err(CompileFault::Late { finish, .. }) => Ok(Judged::Late(finish)),
         Err(CompileFault::OutOfMemory) => Err(OutOfMemory),

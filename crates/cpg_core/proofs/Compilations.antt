@@ -1,6 +1,6 @@
 -- What builders answer under both orders is a compilation if nothing is late, and else shows what is.
 use Rattle.std.proofs.Common.{◌≡◌, ◌+◌, ◌-◌, ◌<◌, ◌≤◌, ◌∙◌, ℕ, zero, suc, List, [], ◌∷◌, Option, Some, None, Contains, unwrap_or, option_to_list, flat_map, length, get_or, refl, sym, ap, subst, inl, inr, arith}
-use Rattle.std.proofs.lemmas.Bool.{cases_eq, cases_lt}
+use Rattle.std.proofs.lemmas.Bool.{cases_lt}
 use Rattle.std.proofs.lemmas.List.{get_or_past}
 use Rattle.std.proofs.lemmas.List.Elements.{Contains-append_left, Contains-append_right}
 use Rattle.std.proofs.lemmas.List.FromFn.{length-map-range_with_len}
@@ -13,11 +13,9 @@ use Rattle.cpg_table.specs.declared.rule.Rule.{Rule}
 use Rattle.cpg_base.specs.WellFormed.{WellFormed, HasSingleJoins}
 use Rattle.cpg_order.specs.Urgency.{IsTopological, IsUrgencyOrder, first_order}
 use Rattle.cpg_reach.specs.Wide.{IsNarrow}
-use Rattle.cpg_tracks.specs.Tracks.{HasTrackOrder}
 use Rattle.cpg_core.specs.declared.compiling.Compiled.{Compiled}
-use Rattle.cpg_core.specs.Compiled.{IsCompileOrder, IsMeasured, IsLateUnder, IsInTimeUnder, IsBetter, IsHelpless}
-use Rattle.cpg_core.specs.Compilation.{IsCompilation, HasNoTables, IsMadeOf, IsPreferredTo, HasNoBetter}
-use Rattle.cpg_core.proofs.CompiledLaws.{not_preferred_given, not_preferred_many, not_preferred_wide, not_preferred_worse, preferred}
+use Rattle.cpg_core.specs.Compiled.{IsCompileOrder, IsMeasured, IsLateUnder, IsInTimeUnder}
+use Rattle.cpg_core.specs.Compilation.{IsCompilation, IsMadeOf}
 use Rattle.cpg_core.proofs.Local.{know_locally}
 use Rattle.cpg_expand.specs.declared.expanding.Grown.{Grown}
 use Rattle.cpg_expand.specs.declared.measuring.Peak.{Peak}
@@ -127,79 +125,20 @@ in_time_under g urgency order b is e = (b.worst, subst (λ n. IsMeasured g urgen
 pub some_shown : (g : Graph) (urgency order : List ℕ) (t : Grown) → IsGrownFor g urgency order t → 0 < t.excess.time → t.excess.process ≡ None → ⊥
 some_shown g urgency order t is l e = omega (arith, nothing_late g urgency order t.trees.frozen t.excess is.excess e)
 
+-- nothing is late under the order that compiles the graph
 module _ (g : Graph) (w : WellFormed g) (urgency : List ℕ) (top : IsTopological g urgency) (first_top : IsTopological g (first_order g urgency)) (narrow : g.order ≡ None → IsNarrow g (first_order g urgency))
-    (first : Grown) (is : IsGrownFor g urgency (first_order g urgency) first) where
-  -- no order is better than the first if the track order has no tables
-  pub no_tables : HasNoTables g → HasNoBetter g urgency first
-  no_tables h = elim h [
-    | inl given ↦ record {
-      none = not_preferred_given g w urgency top first_top narrow first.excess.time first.worst.time (found_measured g urgency (first_order g urgency) first is) given;
-      late = inl (inl given);
-    }
-    | inr (inl many) ↦ record {
-      none = not_preferred_many g w urgency top first_top narrow first.excess.time first.worst.time (found_measured g urgency (first_order g urgency) first is) many;
-      late = inl (inr (inl many));
-    }
-    | inr (inr x) ↦ record {
-      none = not_preferred_wide g w urgency top first_top narrow first.excess.time first.worst.time (found_measured g urgency (first_order g urgency) first is) x.0 x.1 x.2 x.3;
-      late = inl (inr (inr (x.0, x.1, inl (x.2, x.3))));
-    }
-  ]
-
-  -- no order is better than the first if the track order's measures are no better
-  pub no_better : (order : List ℕ) → HasTrackOrder g order → IsNarrow g order → (excess worst : ℕ) → IsMeasured g urgency order excess worst → (IsBetter excess worst first.excess.time first.worst.time → ⊥) → HasNoBetter g urgency first
-  no_better order track own_narrow excess worst own worse = record {
-    none = not_preferred_worse g w urgency top first_top narrow first.excess.time first.worst.time (found_measured g urgency (first_order g urgency) first is) order track own_narrow excess worst own worse;
-    late = elim (cases_eq first.excess.time 0) [
-      | inl e ↦ inr e
-      | inr some ↦ inl (inr (inr (
-        order,
-        track,
-        inr (
-          excess,
-          worst,
-          own,
-          elim (cases_lt excess first.excess.time) [
-            | inl less ↦ absurd (worse (inl less))
-            | inr more ↦ omega (arith, some)
-          ],
-        ),
-      )))
-    ];
+    (joins : HasSingleJoins g) (by : IsUrgencyOrder g urgency) where
+  compilation : (order : List ℕ) → IsCompileOrder g urgency order → (b : Built) → IsBuiltFor g urgency order b → DoTablesFit g b.tables.nodes → b.excess ≡ 0 →
+      IsCompilation g urgency (record { built = b; order = order })
+  compilation order taken b built fit e = record {
+    compiled = record { narrow = narrow; taken = taken; in_time = in_time_under g urgency order b built e };
+    built = built;
+    in_time = e;
+    valid = built_valid g urgency order b built e;
+    fit = fit;
+    local = know_locally g w joins urgency by top first_top order taken b built;
   }
 
-  -- no order is better than the first if the track order is the first order
-  pub same_order : g.order ≡ None → (order : List ℕ) → HasTrackOrder g order → order ≡ first_order g urgency → HasNoBetter g urgency first
-  same_order ungiven order track same = no_better (first_order g urgency) (subst (HasTrackOrder g) same track) (narrow ungiven) first.excess.time first.worst.time (found_measured g urgency (first_order g urgency) first is)
-      (λ better. elim better [ inl less ↦ omega (arith, less) | inr earlier ↦ omega (arith, earlier.1) ])
-
-  -- if the better ones are late, so are the others, and nothing helps
-  pub late_too : (t : Grown) → IsPreferredTo g urgency first t → 0 < t.excess.time → (0 < first.excess.time) × IsHelpless g urgency
-  late_too t h l = (
-    elim h.better [ inl less ↦ omega arith | inr same ↦ omega (arith, same.0) ],
-    inr (inr (t.order, h.tracked.track, inr (late_under g urgency t.order t h.tracked.grown l))),
-  )
-
-  -- nothing is late
-  module _ (joins : HasSingleJoins g) (by : IsUrgencyOrder g urgency) where
-    compilation : (order : List ℕ) → IsCompileOrder g urgency order → (b : Built) → IsBuiltFor g urgency order b → DoTablesFit g b.tables.nodes → b.excess ≡ 0 →
-        IsCompilation g urgency (record { built = b; order = order })
-    compilation order taken b built fit e = record {
-      compiled = record { narrow = narrow; taken = taken; in_time = in_time_under g urgency order b built e };
-      built = built;
-      in_time = e;
-      valid = built_valid g urgency order b built e;
-      fit = fit;
-      local = know_locally g w joins urgency by top first_top order taken b built;
-    }
-
-    -- the tables of what is found under an order that compiles the graph
-    made : (t : Grown) (c : Compiled) → IsMadeOf g urgency t c → t.excess.time ≡ 0 → IsCompileOrder g urgency c.order → IsCompilation g urgency c
-    made t c is_made e taken = compilation c.order taken c.built (subst (λ o. IsBuiltFor g urgency o c.built) (sym is_made.order) is_made.built) is_made.fit (is_made.excess ∙ e)
-
-    pub compiled_by_tracks : (t : Grown) → IsPreferredTo g urgency first t → t.excess.time ≡ 0 → (c : Compiled) → IsMadeOf g urgency t c → IsCompilation g urgency c
-    compiled_by_tracks t h e c is_made = made t c is_made e (subst (IsCompileOrder g urgency) (sym is_made.order)
-        (inl (preferred g w urgency top first_top narrow first.excess.time first.worst.time (found_measured g urgency (first_order g urgency) first is) t.order h.tracked.track h.tracked.narrow t.excess.time t.worst.time (found_measured g urgency t.order t h.tracked.grown) h.tracked.ungiven h.better)))
-
-    pub compiled_by_first : HasNoBetter g urgency first → first.excess.time ≡ 0 → (c : Compiled) → IsMadeOf g urgency first c → IsCompilation g urgency c
-    compiled_by_first h e c is_made = made first c is_made e (inr (is_made.order ∙ is.same, h.none))
+  -- the tables of what is found under it
+  pub made : (t : Grown) (c : Compiled) → IsMadeOf g urgency t c → t.excess.time ≡ 0 → IsCompileOrder g urgency t.order → IsCompilation g urgency c
+  made t c is_made e taken = compilation c.order (subst (IsCompileOrder g urgency) (sym is_made.order) taken) c.built (subst (λ o. IsBuiltFor g urgency o c.built) (sym is_made.order) is_made.built) is_made.fit (is_made.excess ∙ e)

@@ -1,7 +1,7 @@
 -- What a compile answers: tables for the compile's order, or why there are none.
 use Rattle.std.specs.Prelude.{ℕ, ◌≡◌, ◌≢◌, ◌⊎◌, List, None, ⊤}
 use Rattle.cpg_base.specs.Graph.{Graph}
-use Rattle.cpg_order.specs.Urgency.{IsTopological, first_order}
+use Rattle.cpg_order.specs.Urgency.{first_order}
 use Rattle.cpg_table.specs.Valid.{IsValid}
 use Rattle.cpg_expand.specs.declared.expanding.Grown.{Grown}
 use Rattle.cpg_expand.specs.GrownFor.{IsGrownFor}
@@ -12,9 +12,8 @@ use Rattle.cpg_run.specs.Knowledge.{KnowLocally}
 use Rattle.cpg_core.specs.declared.compiling.Compiled.{Compiled}
 use Rattle.cpg_core.specs.declared.fault.CompileFault.{CompileFault}
 use Rattle.cpg_core.specs.declared.fault.CompileFault.TheVariants.{TooWide, Late, OutOfMemory}
-use Rattle.cpg_reach.specs.Wide.{IsWide, IsNarrow, IsLeastWide}
-use Rattle.cpg_tracks.specs.Tracks.{HasTrackOrder, HasManyTracks}
-use Rattle.cpg_core.specs.Compiled.{IsCompiled, IsLate, IsShownLate, IsBetter, IsPreferred, IsHelpless}
+use Rattle.cpg_reach.specs.Wide.{IsLeastWide}
+use Rattle.cpg_core.specs.Compiled.{IsCompiled, IsLate, IsShownLate}
 
 -- The tables for the compile's order are exact and keep all ten rules, and `c` has their greatest finish. No row has too many
 -- columns, nor have all rows together. Nothing is late, and no node knows more than it has seen.
@@ -46,28 +45,6 @@ ShowsCompileFault g urgency (Late scenario process finish) = IsLate g urgency ×
 ShowsCompileFault g urgency OutOfMemory = ⊤
 
 -- ---- steps of the compile
-
--- what is found under the track order, if the graph gives no order and nothing is too wide under this one
-pub record IsTracked (g : Graph) (urgency : List ℕ) (t : Grown) : Type 0 where
-  pub ungiven : g.order ≡ None
-  pub track : HasTrackOrder g t.order
-  pub topological : IsTopological g t.order
-  pub narrow : IsNarrow g t.order
-  pub grown : IsGrownFor g urgency t.order t
-
--- the graph gives an order, or it has no track order, or an item is too wide under the track order
-abbrev pub HasNoTables : Graph → Type 0
-HasNoTables g = (g.order ≢ None) ⊎ (HasManyTracks g ⊎ ((order : List ℕ) × HasTrackOrder g order × (x : ℕ) × IsWide g order x))
-
--- what is found under the track order is better than under the first order
-pub record IsPreferredTo (g : Graph) (urgency : List ℕ) (first : Grown) (t : Grown) : Type 0 where
-  pub tracked : IsTracked g urgency t
-  pub better : IsBetter t.excess.time t.worst.time first.excess.time first.worst.time
-
--- no order is preferred to the first order; if the first is late, no other helps
-pub record HasNoBetter (g : Graph) (urgency : List ℕ) (first : Grown) : Type 0 where
-  pub none : (other : List ℕ) → IsPreferred g urgency other → ⊥
-  pub late : IsHelpless g urgency ⊎ (first.excess.time ≡ 0)
 
 -- the tables of what was found under an order
 pub record IsMadeOf (g : Graph) (urgency : List ℕ) (grown : Grown) (c : Compiled) : Type 0 where

@@ -1,20 +1,20 @@
 //! From an admitted graph to its tables.
-ghost use Rattle.std.specs.Prelude.{◌≡◌, ◌≤◌, ◌<◌, ◌+◌, ◌↔◌, IfOk, IfErr, IfSome, IfNone, IsTrue, None, Some};
-ghost use Rattle.std.specs.Bool.{OnTrue};
+ghost use Rattle.std.specs.Prelude.{◌≡◌, ◌≤◌, ◌<◌, ◌+◌, IfOk, IfErr, IfSome, None};
 ghost use Rattle.cpg_order.specs.Urgency.{IsTopological, first_order};
 ghost use Rattle.cpg_reach.specs.Wide.{IsNarrow};
 ghost use Rattle.cpg_expand.specs.GrownFor.{IsGrownFor};
-ghost use Rattle.cpg_run.specs.Built.{IsBuiltFor};
-ghost use Rattle.cpg_tracks.specs.Tracks.{HasTrackOrder};
-ghost use Rattle.cpg_core.specs.Compiled.{IsHelpless};
-ghost use Rattle.cpg_core.specs.Compilation.{IsCompilation, IsMadeOf, IsPreferredTo, HasNoBetter, ShowsCompileFault};
+ghost use Rattle.cpg_tracks.specs.Tracks.{HasManyTracks};
+ghost use Rattle.cpg_core.specs.Accepted.{order_taken};
+ghost use Rattle.cpg_core.specs.Compiled.{IsCompileOrder, IsHelpless, IsInTimeUnder, IsLateUnder};
+ghost use Rattle.cpg_core.specs.Compilation.{IsCompilation, IsMadeOf, ShowsCompileFault};
 
 use crate::CompileFault;
+use crate::choosing::{choose, wide_if_urgent};
 use cpg_base::{Order, OutOfMemory};
 use cpg_expand::{Grown, grow, grow_bounded};
 use cpg_rules::Admitted;
 use cpg_run::{BuildFault, Built};
-use cpg_tracks::merged_order;
+use cpg_tracks::track_outcomes;
 use std::alloc::Global;
 
 /// The tables of a graph, and the order that they were built under.
@@ -35,7 +35,7 @@ fn end_past(due: u64, excess: u64, worst: u64) -> u64
 }
 
 /// That a process ends past its due under the first order, by the greatest excess, with its end in the scenario of that.
-fn late(admitted: &Admitted, first: Grown) -> CompileFault
+pub(crate) fn late(admitted: &Admitted, first: Grown) -> CompileFault
     requires grown { IsGrownFor admitted.now.graph admitted.now.order (first_order admitted.now.graph admitted.now.order) first }
     requires narrow { admitted.now.graph.order ≡ None → IsNarrow admitted.now.graph (first_order admitted.now.graph admitted.now.order) }
     requires late { 0 < first.excess.time }
@@ -52,69 +52,6 @@ fn late(admitted: &Admitted, first: Grown) -> CompileFault
         process,
         finish: end_past(problem.due(process), excess.time, worst.time),
     }
-}
-
-/// Whether two orders are equal.
-fn are_same(first: &Order, second: &Order) -> bool
-    ensures { OnTrue result (first.now ≡ second.now) }
-{
-    first.processes() == second.processes()
-}
-
-/// What is found under the track order of a graph that gives none, if no item is too wide under it and it is better than the first
-/// order.
-fn better(
-    alloc: Global,
-    admitted: &Admitted,
-    order: Order,
-    first: &Grown,
-) -> Result<Option<Grown>, OutOfMemory>
-    requires ungiven { admitted.now.graph.order ≡ None }
-    requires track { HasTrackOrder admitted.now.graph order }
-    requires topological { IsTopological admitted.now.graph order }
-    requires grown { IsGrownFor admitted.now.graph admitted.now.order (first_order admitted.now.graph admitted.now.order) first.now }
-    requires narrow { admitted.now.graph.order ≡ None → IsNarrow admitted.now.graph (first_order admitted.now.graph admitted.now.order) }
-    ensures better { IfOk result (λ found. IfSome found (IsPreferredTo admitted.now.graph admitted.now.order first.now)) }
-    ensures none { IfOk result (λ found. IfNone found (HasNoBetter admitted.now.graph admitted.now.order first.now)) }
-{
-    // its clause tells that the graph is admitted
-    let _order = admitted.first_order();
-    match grow(alloc, admitted, order) {
-        Ok(grown) => {
-            if grown.is_better(first) {
-                Ok(Some(grown))
-            } else {
-                Ok(None)
-            }
-        }
-        Err(BuildFault::TooWide(_)) => Ok(None),
-        Err(BuildFault::OutOfMemory) => Err(OutOfMemory),
-    }
-}
-
-/// What is found under the track order, if the graph gives no order and the track order is better than the first.
-fn preferred(
-    alloc: Global,
-    admitted: &Admitted,
-    first: &Grown,
-) -> Result<Option<Grown>, OutOfMemory>
-    requires grown { IsGrownFor admitted.now.graph admitted.now.order (first_order admitted.now.graph admitted.now.order) first.now }
-    requires narrow { admitted.now.graph.order ≡ None → IsNarrow admitted.now.graph (first_order admitted.now.graph admitted.now.order) }
-    ensures better { IfOk result (λ found. IfSome found (IsPreferredTo admitted.now.graph admitted.now.order first.now)) }
-    ensures none { IfOk result (λ found. IfNone found (HasNoBetter admitted.now.graph admitted.now.order first.now)) }
-{
-    let first_order = admitted.first_order();
-    if admitted.given().is_some() {
-        return Ok(None);
-    }
-    let Some(order) = merged_order(alloc, admitted)? else {
-        return Ok(None);
-    };
-    if are_same(&order, first_order) {
-        return Ok(None);
-    }
-    let found = better(alloc, admitted, order, first)?;
-    Ok(found)
 }
 
 /// What is found under the order that a graph gives. `TooWide` shows that a tree on the way is too large.
@@ -148,7 +85,7 @@ fn grow_urgent(alloc: Global, admitted: &Admitted, order: Order) -> Result<Grown
 }
 
 /// What is found under the first order.
-fn grow_first(alloc: Global, admitted: &Admitted) -> Result<Grown, CompileFault>
+pub(crate) fn grow_first(alloc: Global, admitted: &Admitted) -> Result<Grown, CompileFault>
     ensures grown { IfOk result (IsGrownFor admitted.now.graph admitted.now.order (first_order admitted.now.graph admitted.now.order)) }
     ensures narrow { IfOk result (λ _. admitted.now.graph.order ≡ None → IsNarrow admitted.now.graph (first_order admitted.now.graph admitted.now.order)) }
     ensures fault { IfErr result (ShowsCompileFault admitted.now.graph admitted.now.order) }
@@ -199,28 +136,124 @@ fn tables_of_first(
     }
 }
 
-/// The tables of a graph under the order that compiles it: the order that the graph gives; else the track order if it gives a lesser
-/// greatest excess than the urgency order, or an equal one and an earlier greatest finish; and else the urgency order. Under it every
-/// process ends by its due in every scenario, and each node starts and sends the same if it has seen the same.
-pub fn compile(alloc: Global, admitted: &Admitted) -> Result<Compiled, CompileFault>
+/// What is found under a track order under which no item is too wide.
+fn grow_tracks(alloc: Global, admitted: &Admitted, order: Order) -> Result<Grown, OutOfMemory>
+    requires topological { IsTopological admitted.now.graph order }
+    requires narrow { IsNarrow admitted.now.graph order }
+    ensures { IfOk result (IsGrownFor admitted.now.graph admitted.now.order order) }
+{
+    match grow(alloc, admitted, order) {
+        Ok(grown) => Ok(grown),
+        Err(BuildFault::TooWide(_)) => unreachable!(),
+        Err(BuildFault::OutOfMemory) => Err(OutOfMemory),
+    }
+}
+
+/// That a process ends past its due, of a graph that is late.
+pub(crate) fn shown_late(alloc: Global, admitted: &Admitted) -> CompileFault
+    requires late { IsLateUnder admitted.now.graph admitted.now.order (first_order admitted.now.graph admitted.now.order) }
+    requires helpless { IsHelpless admitted.now.graph admitted.now.order }
+    ensures { ShowsCompileFault admitted.now.graph admitted.now.order result }
+{
+    // its clause tells that the graph is admitted
+    let _order = admitted.first_order();
+    match grow_first(alloc, admitted) {
+        Ok(first) => late(admitted, first),
+        Err(fault) => fault,
+    }
+}
+
+/// The tables of the first order, if nothing is late under it.
+fn compile_first(alloc: Global, admitted: &Admitted) -> Result<Compiled, CompileFault>
+    requires taken { IsCompileOrder admitted.now.graph admitted.now.order (first_order admitted.now.graph admitted.now.order) }
+    requires in_time { IsInTimeUnder admitted.now.graph admitted.now.order (first_order admitted.now.graph admitted.now.order) }
     ensures compiled { IfOk result (IsCompilation admitted.now.graph admitted.now.order) }
     ensures fault { IfErr result (ShowsCompileFault admitted.now.graph admitted.now.order) }
 {
     // its clause tells that the graph is admitted
     let _order = admitted.first_order();
     let first = grow_first(alloc, admitted)?;
-    // tables are made of the better one's trees alone
-    if let Some(tracked) = preferred(alloc, admitted, &first)? {
-        if tracked.excess.time > 0 {
-            return Err(late(admitted, first));
-        }
-        drop(first);
-        let compiled = tables_of_tracks(alloc, admitted, tracked)?;
-        return Ok(compiled);
-    }
+    let compiled = tables_of_first(alloc, admitted, first)?;
+    Ok(compiled)
+}
+
+/// The tables of the first order of a graph that has no track order.
+fn compile_untracked(alloc: Global, admitted: &Admitted) -> Result<Compiled, CompileFault>
+    requires { HasManyTracks admitted.now.graph }
+    ensures compiled { IfOk result (IsCompilation admitted.now.graph admitted.now.order) }
+    ensures fault { IfErr result (ShowsCompileFault admitted.now.graph admitted.now.order) }
+{
+    // its clause tells that the graph is admitted
+    let _order = admitted.first_order();
+    let first = grow_first(alloc, admitted)?;
     if first.excess.time > 0 {
         return Err(late(admitted, first));
     }
     let compiled = tables_of_first(alloc, admitted, first)?;
+    Ok(compiled)
+}
+
+/// The tables of a track order that is taken, if nothing is late under it.
+fn compile_tracks(alloc: Global, admitted: &Admitted, order: Order) -> Result<Compiled, OutOfMemory>
+    requires first { admitted.now.graph.order ≡ None → IsNarrow admitted.now.graph (first_order admitted.now.graph admitted.now.order) }
+    requires topological { IsTopological admitted.now.graph order }
+    requires narrow { IsNarrow admitted.now.graph order }
+    requires taken { IsCompileOrder admitted.now.graph admitted.now.order order }
+    requires in_time { IsInTimeUnder admitted.now.graph admitted.now.order order }
+    ensures { IfOk result (IsCompilation admitted.now.graph admitted.now.order) }
+{
+    // its clause tells that the graph is admitted
+    let _order = admitted.first_order();
+    let grown = grow_tracks(alloc, admitted, order)?;
+    let compiled = tables_of_tracks(alloc, admitted, grown)?;
+    Ok(compiled)
+}
+
+/// The tables of the order that is taken, the track order or else the first one, if nothing is late under it.
+fn compile_taken(
+    alloc: Global,
+    admitted: &Admitted,
+    order: Option<Order>,
+) -> Result<Compiled, CompileFault>
+    requires first { admitted.now.graph.order ≡ None → IsNarrow admitted.now.graph (first_order admitted.now.graph admitted.now.order) }
+    requires topological { IfSome order (IsTopological admitted.now.graph) }
+    requires narrow { IfSome order (IsNarrow admitted.now.graph) }
+    requires taken { IsCompileOrder admitted.now.graph admitted.now.order (order_taken (first_order admitted.now.graph admitted.now.order) order) }
+    requires in_time { IsInTimeUnder admitted.now.graph admitted.now.order (order_taken (first_order admitted.now.graph admitted.now.order) order) }
+    ensures compiled { IfOk result (IsCompilation admitted.now.graph admitted.now.order) }
+    ensures fault { IfErr result (ShowsCompileFault admitted.now.graph admitted.now.order) }
+{
+    match order {
+        Some(order) => {
+            let compiled = compile_tracks(alloc, admitted, order)?;
+            Ok(compiled)
+        }
+        None => {
+            let compiled = compile_first(alloc, admitted)?;
+            Ok(compiled)
+        }
+    }
+}
+
+/// The tables of a graph under the order that compiles it: the order that the graph gives; else the track order if it gives a lesser
+/// greatest excess than the urgency order, or an equal one and an earlier greatest finish; and else the urgency order. Under it every
+/// process ends by its due in every scenario, and each node starts and sends the same if it has seen the same. The latest times of at
+/// most 256 tracks tell which order that is; the trees of the other aren't made.
+pub fn compile(alloc: Global, admitted: &Admitted) -> Result<Compiled, CompileFault>
+    ensures compiled { IfOk result (IsCompilation admitted.now.graph admitted.now.order) }
+    ensures fault { IfErr result (ShowsCompileFault admitted.now.graph admitted.now.order) }
+{
+    let Some(tracks) = track_outcomes(alloc, admitted)? else {
+        let compiled = compile_untracked(alloc, admitted)?;
+        return Ok(compiled);
+    };
+    if let Some(item) = wide_if_urgent(alloc, admitted)? {
+        return Err(CompileFault::TooWide(item));
+    }
+    let taken = choose(alloc, admitted, tracks.as_slice())?;
+    if taken.figures.excess > 0 {
+        return Err(shown_late(alloc, admitted));
+    }
+    let compiled = compile_taken(alloc, admitted, taken.order)?;
     Ok(compiled)
 }

@@ -183,6 +183,19 @@ fn tracks_of(
     Ok(tracks)
 }
 
+/// The outcomes of the tracks of a graph, in order, without faults. `None` exactly where there are more than 256.
+pub fn track_outcomes(
+    alloc: Global,
+    admitted: &Admitted,
+) -> Result<Option<Vec<Scenario>>, OutOfMemory>
+    ensures tracks { IfOk result (λ found. IfSome found (λ scenarios. AreTracks admitted.now.graph (outcomes_of scenarios.items))) }
+    ensures many { IfOk result (λ found. IfNone found (HasManyTracks admitted.now.graph)) }
+{
+    let (problem, guards) = (admitted.problem(), admitted.guards());
+    let found = outcomes(alloc, problem, guards, admitted.order())?;
+    Ok(found)
+}
+
 /// The tracks of a graph, in the order of outcomes: at the first condition in urgency order at which two differ, the first
 /// is false. `None` exactly if there are more than 256.
 pub fn tracks(alloc: Global, admitted: &Admitted) -> Result<Option<Vec<Track>>, OutOfMemory>

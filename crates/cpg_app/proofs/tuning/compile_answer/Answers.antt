@@ -1,4 +1,4 @@
-use Rattle.std.proofs.Common.{rules, inl, inr}
+use Rattle.std.proofs.Common.{inl, inr}
 use Rattle.cpg_order.specs.Urgency.{first_order}
 use Rattle.cpg_reach.specs.Wide.{IsNarrow}
 use Rattle.cpg_core.specs.declared.fault.CompileFault.{CompileFault}
@@ -11,10 +11,10 @@ returns-in-Ok c =
     let g = c.args.admitted.now.graph in
     let urgency = c.args.admitted.now.order in
     let narrow : IsNarrow g (first_order g urgency) = elim (none_or_some g.order) [
-      | inl ungiven ↦ c.in-Ok.ensures.compiled.compiled.narrow ungiven
+      | inl ungiven ↦ c.in-Ok.ensures.accepted.compiled.narrow ungiven
       | inr given ↦ (rw c.in_default.is at c.in_ok-item.ensures.none) given
     ] in
-    (narrow, c.in-Ok.compiled, c.in-Ok.ensures.compiled, search rules)
+    (narrow, c.in-Ok.ensures.accepted)
 
 pub returns-in-Err-Late : goal.returns-in-Err-Late
 returns-in-Err-Late c =

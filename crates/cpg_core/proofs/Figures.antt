@@ -1,0 +1,135 @@
+-- The figures of the compile's order.
+use Rattle.std.proofs.Common.{◌≡◌, ◌≢◌, ◌<◌, ◌∙◌, ℕ, List, Some, None, refl, subst, inl, inr, arith}
+use Rattle.std.proofs.lemmas.Bool.{cases_lt}
+use Rattle.cpg_base.specs.Graph.{Graph}
+use Rattle.cpg_base.specs.WellFormed.{WellFormed}
+use Rattle.cpg_order.specs.Urgency.{IsTopological, first_order}
+use Rattle.cpg_reach.specs.Wide.{IsNarrow, IsWide}
+use Rattle.cpg_tracks.specs.Tracks.{HasManyTracks, HasTrackOrder}
+use Rattle.cpg_expand.specs.GrownFor.{IsGrownFor}
+use Rattle.cpg_expand.specs.declared.expanding.Grown.{Grown}
+use Rattle.cpg_latest.specs.Laws.{HasFigures}
+use Rattle.cpg_core.specs.Accepted.{IsAccepted, IsTaken, order_taken}
+use Rattle.cpg_core.specs.Compiled.{IsBetter, IsLateUnder, IsMeasured}
+use Rattle.cpg_core.specs.declared.choosing.Taken.{Taken}
+use Rattle.cpg_core.proofs.Compilations.{found_measured}
+use Rattle.cpg_core.proofs.CompiledLaws.{not_preferred_given, not_preferred_many, not_preferred_wide, not_preferred_worse, one_measure, preferred}
+use Rattle.cpg_core.proofs.MeasuredFrom.{measured_from}
+
+pub figures_measure : (g : Graph) → WellFormed g → (urgency order : List ℕ) → IsTopological g order → (excess worst : ℕ) → HasFigures g order excess worst → IsMeasured g urgency order excess worst
+figures_measure g w urgency order top excess worst h = measured_from g w urgency order top h.frozen h.times excess worst h.greatest
+
+module _ (g : Graph) (w : WellFormed g) (urgency : List ℕ) (top : IsTopological g urgency) (first_top : IsTopological g (first_order g urgency)) where
+  module _ (narrow : g.order ≡ None → IsNarrow g (first_order g urgency)) (e v : ℕ) (first : HasFigures g (first_order g urgency) e v) where
+    own : IsMeasured g urgency (first_order g urgency) e v
+    own = figures_measure g w urgency (first_order g urgency) first_top e v first
+
+    -- the first order is taken
+    abbrev pub by_first : Taken
+    by_first = record { figures = record { excess = e; worst = v }; order = None }
+
+    pub first_given : g.order ≢ None → IsTaken g urgency by_first
+    first_given given = record {
+      taken = inr (refl, not_preferred_given g w urgency top first_top narrow e v own given);
+      measured = own;
+      topological = tt;
+      narrow = tt;
+      late = λ l. ((e, v, own, l), inl given);
+    }
+
+    pub first_many : HasManyTracks g → IsTaken g urgency by_first
+    first_many many = record {
+      taken = inr (refl, not_preferred_many g w urgency top first_top narrow e v own many);
+      measured = own;
+      topological = tt;
+      narrow = tt;
+      late = λ l. ((e, v, own, l), inr (inl many));
+    }
+
+    pub first_wide : (order : List ℕ) → HasTrackOrder g order → (x : ℕ) → IsWide g order x → IsTaken g urgency by_first
+    first_wide order track x wide = record {
+      taken = inr (refl, not_preferred_wide g w urgency top first_top narrow e v own order track x wide);
+      measured = own;
+      topological = tt;
+      narrow = tt;
+      late = λ l. ((e, v, own, l), inr (inr (order, track, inl (x, wide))));
+    }
+
+    module _ (order : List ℕ) (track : HasTrackOrder g order) (order_top : IsTopological g order) (own_narrow : IsNarrow g order) (f u : ℕ) (figures : HasFigures g order f u) where
+      other : IsMeasured g urgency order f u
+      other = figures_measure g w urgency order order_top f u figures
+
+      pub first_better : (IsBetter f u e v → ⊥) → IsTaken g urgency by_first
+      first_better worse = record {
+        taken = inr (refl, not_preferred_worse g w urgency top first_top narrow e v own order track own_narrow f u other worse);
+        measured = own;
+        topological = tt;
+        narrow = tt;
+        late = λ l. (
+          (e, v, own, l),
+          inr (inr (
+            order,
+            track,
+            inr (
+              f,
+              u,
+              other,
+              elim (cases_lt f e) [
+                | inl less ↦ absurd (worse (inl less))
+                | inr more ↦ omega (arith, l, more)
+              ],
+            ),
+          )),
+        );
+      }
+
+      -- the track order is
+      pub tracks_better : g.order ≡ None → IsBetter f u e v → IsTaken g urgency (record { figures = record { excess = f; worst = u }; order = Some order })
+      tracks_better ungiven better = record {
+        taken = inl (preferred g w urgency top first_top narrow e v own order track own_narrow f u other ungiven better);
+        measured = other;
+        topological = order_top;
+        narrow = own_narrow;
+        late = λ l. (
+          (e, v, own, elim better [ inl less ↦ omega (arith, less) | inr same ↦ omega (arith, same.0, l) ]),
+          inr (inr (order, track, inr (f, u, other, l))),
+        );
+      }
+
+    -- the track order is the first one
+    pub first_same : g.order ≡ None → (order : List ℕ) → HasTrackOrder g order → order ≡ first_order g urgency → IsTaken g urgency by_first
+    first_same ungiven order track same = first_better (first_order g urgency) (subst (HasTrackOrder g) same track) first_top (narrow ungiven) e v first
+        (λ better. elim better [ inl less ↦ omega (arith, less) | inr earlier ↦ omega (arith, earlier.1) ])
+
+  -- ---- what is found by the trees of the first order
+
+  module _ (first : Grown) (is : IsGrownFor g urgency (first_order g urgency) first) where
+    -- has the figures that it has
+    pub grown_late : IsLateUnder g urgency (first_order g urgency) → 0 < first.excess.time
+    grown_late h = let same = one_measure g w urgency (first_order g urgency) first_top first.excess.time first.worst.time h.0 h.1 (found_measured g urgency (first_order g urgency) first is) h.2 in omega (arith, same.0, h.3)
+
+    pub grown_in_time : (e v : ℕ) → IsMeasured g urgency (first_order g urgency) e v → e ≡ 0 → first.excess.time ≡ 0
+    grown_in_time e v m z = (one_measure g w urgency (first_order g urgency) first_top first.excess.time first.worst.time e v (found_measured g urgency (first_order g urgency) first is) m).0 ∙ z
+
+    -- without a track order
+    pub grown_many : (g.order ≡ None → IsNarrow g (first_order g urgency)) → HasManyTracks g → IsTaken g urgency (record { figures = record { excess = first.excess.time; worst = first.worst.time }; order = None })
+    grown_many narrow many =
+        let found = found_measured g urgency (first_order g urgency) first is in
+        record {
+          taken = inr (refl, not_preferred_many g w urgency top first_top narrow first.excess.time first.worst.time found many);
+          measured = found;
+          topological = tt;
+          narrow = tt;
+          late = λ l. ((first.excess.time, first.worst.time, found, l), inr (inl many));
+        }
+
+  -- what is found by those of the order that is taken
+  pub tracked_in_time : (order : List ℕ) → IsTopological g order → (t : Grown) → IsGrownFor g urgency order t → (e v : ℕ) → IsMeasured g urgency order e v → e ≡ 0 → t.excess.time ≡ 0
+  tracked_in_time order order_top t is e v m z = (one_measure g w urgency order order_top t.excess.time t.worst.time e v (found_measured g urgency order t is) m).0 ∙ z
+
+-- a graph under whose compile's order nothing is late is accepted
+pub accepted : (g : Graph) (urgency : List ℕ) (t : Taken) → (g.order ≡ None → IsNarrow g (first_order g urgency)) → IsTaken g urgency t → t.figures.excess ≡ 0 → IsAccepted g urgency t.figures.worst
+accepted g urgency t narrow a e =
+    let order = order_taken (first_order g urgency) t.order in
+    let is : IsMeasured g urgency order 0 t.figures.worst = subst (λ n. IsMeasured g urgency order n t.figures.worst) e a.measured in
+    record { order = order; compiled = record { narrow = narrow; taken = a.taken; in_time = (t.figures.worst, is) }; measured = is }

@@ -1,0 +1,16 @@
+use Rattle.std.proofs.Common.{◌≡◌, ℕ, Option, Some, None, IfNone, subst}
+use Rattle.cpg_order.specs.Urgency.{first_order}
+use Rattle.cpg_reach.specs.Wide.{IsNarrow}
+use Rattle.cpg_core.proofs.choosing.wide_if_urgent.Goals as goal
+
+-- what holds where there is nothing may be weakened
+if_none : (r : Option ℕ) (P Q : Type 0) → (P → Q) → IfNone r P → IfNone r Q
+if_none None P Q f h = f h
+if_none (Some x) P Q f h = h
+
+pub returns-clause-none : goal.returns-clause-none
+returns-clause-none c =
+    let g = c.args.admitted.now.graph in
+    let first = first_order g c.args.admitted.now.order in
+    if_none c.in_ok-found.found (IsNarrow g c.first_order.result.now) (g.order ≡ None → IsNarrow g first)
+    (λ narrow ungiven. subst (IsNarrow g) c.first_order.ensures.order narrow) c.in_ok-found.ensures.none

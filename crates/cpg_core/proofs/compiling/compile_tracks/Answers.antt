@@ -1,0 +1,28 @@
+use Rattle.std.proofs.Common.{refl, sym, subst}
+use Rattle.cpg_order.specs.Urgency.{IsTopological, first_order}
+use Rattle.cpg_reach.specs.Wide.{IsNarrow}
+use Rattle.cpg_expand.specs.GrownFor.{IsGrownFor}
+use Rattle.cpg_core.specs.Compiled.{IsCompileOrder}
+use Rattle.cpg_core.proofs.Compilations.{made}
+use Rattle.cpg_core.proofs.Figures.{tracked_in_time}
+use Rattle.cpg_core.proofs.compiling.compile_tracks.Goals as goal
+
+pub tables_of_tracks-requires-clause-topological : goal.tables_of_tracks-requires-clause-topological
+tables_of_tracks-requires-clause-topological c = subst (IsTopological c.args.admitted.now.graph) (sym c.in_ok-grown.ensures.same) c.requires.topological
+
+pub tables_of_tracks-requires-clause-narrow : goal.tables_of_tracks-requires-clause-narrow
+tables_of_tracks-requires-clause-narrow c = subst (IsNarrow c.args.admitted.now.graph) (sym c.in_ok-grown.ensures.same) c.requires.narrow
+
+pub tables_of_tracks-requires-clause-grown : goal.tables_of_tracks-requires-clause-grown
+tables_of_tracks-requires-clause-grown c =
+    subst (λ order. IsGrownFor c.args.admitted.now.graph c.args.admitted.now.order order c.in_ok-grown.grown) (sym c.in_ok-grown.ensures.same) c.in_ok-grown.ensures
+
+pub returns : goal.returns
+returns c =
+    let g = c.args.admitted.now.graph in
+    let urgency = c.args.admitted.now.order in
+    let a = c.first_order-order.ensures.admitted in
+    let top : IsTopological g (first_order g urgency) = rw c.first_order-order.ensures.order at c.first_order-order.ensures.topological in
+    let zero = tracked_in_time g a.well_formed urgency a.topological top c.args.order c.requires.topological c.in_ok-grown.grown c.in_ok-grown.ensures 0 c.requires.in_time.0 c.requires.in_time.1 refl in
+    made g a.well_formed urgency a.topological top c.requires.first a.joins a.urgency c.in_ok-grown.grown c.in_ok-compiled.compiled c.in_ok-compiled.ensures zero
+    (subst (IsCompileOrder g urgency) (sym c.in_ok-grown.ensures.same) c.requires.taken)

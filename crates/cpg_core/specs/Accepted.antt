@@ -1,0 +1,27 @@
+-- The compile's order by its figures, and what is said of a graph whose compile succeeds without its tables.
+use Rattle.std.specs.Prelude.{ℕ, ◌<◌, List, Option, Some, None, IfSome}
+use Rattle.cpg_base.specs.Graph.{Graph}
+use Rattle.cpg_order.specs.Urgency.{IsTopological, first_order}
+use Rattle.cpg_reach.specs.Wide.{IsNarrow}
+use Rattle.cpg_core.specs.Compiled.{IsCompileOrder, IsCompiled, IsHelpless, IsLateUnder, IsMeasured}
+use Rattle.cpg_core.specs.declared.choosing.Taken.{Taken}
+
+-- the track order where that is taken, and else the first order
+abbrev pub order_taken : List ℕ → Option (List ℕ) → List ℕ
+order_taken first None = first
+order_taken first (Some order) = order
+
+-- the compile's order with its greatest excess and greatest finish; if something is late under it, something is under the first order,
+-- and nothing helps
+pub record IsTaken (g : Graph) (urgency : List ℕ) (t : Taken) : Type 0 where
+  pub taken : IsCompileOrder g urgency (order_taken (first_order g urgency) t.order)
+  pub measured : IsMeasured g urgency (order_taken (first_order g urgency) t.order) t.figures.excess t.figures.worst
+  pub topological : IfSome t.order (IsTopological g)
+  pub narrow : IfSome t.order (IsNarrow g)
+  pub late : 0 < t.figures.excess → IsLateUnder g urgency (first_order g urgency) × IsHelpless g urgency
+
+-- the graph is compiled, with this greatest finish
+pub record IsAccepted (g : Graph) (urgency : List ℕ) (worst : ℕ) : Type 0 where
+  pub order : List ℕ
+  pub compiled : IsCompiled g urgency order
+  pub measured : IsMeasured g urgency order 0 worst

@@ -1,0 +1,126 @@
+//! The order that a compile takes, by its figures.
+ghost use Rattle.std.specs.Prelude.{◌≡◌, ◌↔◌, IfNone, IfOk, IfSome, IsTrue, None};
+ghost use Rattle.std.specs.Bool.{OnTrue};
+ghost use Rattle.cpg_core.specs.Accepted.{IsTaken};
+ghost use Rattle.cpg_core.specs.Compilation.{ShowsCompileFault};
+ghost use Rattle.cpg_core.specs.Compiled.{IsBetter};
+ghost use Rattle.cpg_core.specs.declared.fault.CompileFault.{CompileFault};
+ghost use Rattle.cpg_latest.specs.Course.{outcomes_of};
+ghost use Rattle.cpg_latest.specs.Laws.{HasFigures};
+ghost use Rattle.cpg_order.specs.Track.{AreTracks};
+ghost use Rattle.cpg_order.specs.Urgency.{IsTopological, first_order};
+ghost use Rattle.cpg_reach.specs.Wide.{IsNarrow};
+ghost use Rattle.cpg_tracks.specs.Tracks.{HasTrackOrder};
+
+use crate::CompileFault;
+use cpg_base::{Order, OutOfMemory, Scenario};
+use cpg_latest::{Figures, latest};
+use cpg_reach::too_wide;
+use cpg_rules::Admitted;
+use cpg_tracks::merged_order;
+use std::alloc::Global;
+
+/// The compile's order with its figures.
+#[derive(Drop)]
+pub(crate) struct Taken {
+    /// The greatest excess and the greatest finish under it.
+    pub(crate) figures: Figures,
+    /// The track order, and `None` if the first order is taken.
+    pub(crate) order: Option<Order>,
+}
+
+impl Taken {
+    /// The first order is taken.
+    fn first(figures: Figures) -> Taken
+        ensures { result ≡ record { figures = figures; order = None } }
+    {
+        Taken {
+            figures,
+            order: None,
+        }
+    }
+}
+
+/// Whether two orders are equal.
+fn are_same(first: &Order, second: &Order) -> bool
+    ensures { OnTrue result (first.now ≡ second.now) }
+{
+    first.processes() == second.processes()
+}
+
+/// Whether the excess is less, or as much and the finish earlier.
+fn is_better(figures: &Figures, other: &Figures) -> bool
+    ensures { IsTrue result ↔ IsBetter figures.now.excess figures.now.worst other.now.excess other.now.worst }
+{
+    if figures.excess == other.excess {
+        return figures.worst < other.worst;
+    }
+    figures.excess < other.excess
+}
+
+/// The least item that is too wide by its views under the urgency order of a graph that gives no order.
+pub(crate) fn wide_if_urgent(alloc: Global, admitted: &Admitted) -> Result<Option<u32>, OutOfMemory>
+    ensures some { IfOk result (λ found. IfSome found (λ x. ShowsCompileFault admitted.now.graph admitted.now.order (CompileFault.TooWide x))) }
+    ensures none { IfOk result (λ found. IfNone found
+        (admitted.now.graph.order ≡ None → IsNarrow admitted.now.graph (first_order admitted.now.graph admitted.now.order))) }
+{
+    if admitted.given().is_some() {
+        return Ok(None);
+    }
+    let found = too_wide(alloc, admitted, admitted.first_order())?;
+    Ok(found)
+}
+
+/// What is taken, given the figures of the first order and the track order of a graph that gives none.
+fn taken_of_tracks(
+    alloc: Global,
+    admitted: &Admitted,
+    tracks: &[Scenario],
+    first: Figures,
+    order: Order,
+) -> Result<Taken, OutOfMemory>
+    requires tracks { AreTracks admitted.now.graph (outcomes_of tracks.now) }
+    requires narrow { admitted.now.graph.order ≡ None → IsNarrow admitted.now.graph (first_order admitted.now.graph admitted.now.order) }
+    requires ungiven { admitted.now.graph.order ≡ None }
+    requires first { HasFigures admitted.now.graph (first_order admitted.now.graph admitted.now.order) first.excess first.worst }
+    requires track { HasTrackOrder admitted.now.graph order }
+    requires topological { IsTopological admitted.now.graph order }
+    ensures { IfOk result (IsTaken admitted.now.graph admitted.now.order) }
+{
+    let first_order = admitted.first_order();
+    if are_same(&order, first_order) {
+        return Ok(Taken::first(first));
+    }
+    if let Some(_) = too_wide(alloc, admitted, &order)? {
+        return Ok(Taken::first(first));
+    }
+    let figures = latest(alloc, admitted, &order, tracks)?;
+    if is_better(&figures, &first) {
+        return Ok(Taken {
+            figures,
+            order: Some(order),
+        });
+    }
+    Ok(Taken::first(first))
+}
+
+/// The compile's order with its figures, given the outcomes of a graph's tracks.
+pub(crate) fn choose(
+    alloc: Global,
+    admitted: &Admitted,
+    tracks: &[Scenario],
+) -> Result<Taken, OutOfMemory>
+    requires tracks { AreTracks admitted.now.graph (outcomes_of tracks.now) }
+    requires narrow { admitted.now.graph.order ≡ None → IsNarrow admitted.now.graph (first_order admitted.now.graph admitted.now.order) }
+    ensures { IfOk result (IsTaken admitted.now.graph admitted.now.order) }
+{
+    let first = latest(alloc, admitted, admitted.first_order(), tracks)?;
+    if admitted.given().is_some() {
+        return Ok(Taken::first(first));
+    }
+    let Some(order) = merged_order(alloc, admitted)? else {
+        return Ok(Taken::first(first));
+    };
+    let taken = taken_of_tracks(alloc, admitted, tracks, first, order)?;
+    Ok(taken)
+}

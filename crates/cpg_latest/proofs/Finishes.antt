@@ -1,0 +1,32 @@
+-- The finish is the greatest of the ends.
+use Rattle.std.proofs.Common.{◌≡◌, ℕ, zero, suc, ◌<◌, ◌≤◌, ◌⊎◌, max, List, [], ◌∷◌, ◌++◌, flat_map, length, get_or, Option, Some, None, option_to_list, unwrap_or, arith, refl, ap, inl, inr}
+use Rattle.std.proofs.lemmas.Bool.{cases_lt}
+use Rattle.std.proofs.lemmas.List.{get_or_past}
+use Rattle.cpg_base.specs.Numbers.{greatest}
+use Rattle.cpg_base.proofs.Lists.{greatest-cons}
+
+abbrev at : List (Option ℕ) → ℕ → ℕ
+at os p = unwrap_or (get_or os p None) 0
+
+first_of : (o : Option ℕ) (ys : List ℕ) → greatest (option_to_list o ++ ys) ≡ max (unwrap_or o 0) (greatest ys)
+first_of None ys = omega arith
+first_of (Some n) ys = greatest-cons n ys
+
+past : (os : List (Option ℕ)) (p : ℕ) → length os ≤ p → at os p ≡ 0
+past os p l = ap (λ o. unwrap_or o 0) (get_or_past os p None l)
+
+pub at_most_finish : (os : List (Option ℕ)) (p : ℕ) → unwrap_or (get_or os p None) 0 ≤ greatest (flat_map option_to_list os)
+at_most_finish [] p = omega (arith, past [] p (omega arith))
+at_most_finish (o ∷ os) zero = omega (arith, first_of o (flat_map option_to_list os))
+at_most_finish (o ∷ os) (suc p) = omega (arith, first_of o (flat_map option_to_list os), at_most_finish os p)
+
+-- it is 0 or one of them
+pub finish_at : (os : List (Option ℕ)) → (greatest (flat_map option_to_list os) ≡ 0) ⊎ ((p : ℕ) × (p < length os) × (unwrap_or (get_or os p None) 0 ≡ greatest (flat_map option_to_list os)))
+finish_at [] = inl refl
+finish_at (o ∷ os) = elim (cases_lt (greatest (flat_map option_to_list os)) (unwrap_or o 0)) [
+  | inl l ↦ inr (0, omega arith, omega (arith, l, first_of o (flat_map option_to_list os)))
+  | inr l ↦ elim (finish_at os) [
+    | inl e ↦ inl (omega (arith, l, e, first_of o (flat_map option_to_list os)))
+    | inr r ↦ inr (suc r.0, omega (arith, r.1), omega (arith, l, r.2, first_of o (flat_map option_to_list os)))
+  ]
+]

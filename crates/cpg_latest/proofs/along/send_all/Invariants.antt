@@ -1,0 +1,6 @@
+use Rattle.cpg_latest.specs.Course.{outcomes_asked}
+use Rattle.cpg_latest.specs.Lanes.{AreSending}
+use Rattle.cpg_latest.proofs.along.send_all.Given as goal
+
+abbrev pub invariant-loop-at : goal.invariant-loop-at
+invariant-loop-at l = AreSending l.setting (outcomes_asked l.asked) l.process l.at l.frozen l.lanes.items

@@ -1,0 +1,128 @@
+use Rattle.std.proofs.Common.{◌≡◌, ◌∙◌, ◌+◌, ◌<◌, length, get_or, Contains, None, refl, sym, ap, subst, arith}
+use Rattle.std.proofs.lemmas.List.Elements.{Contains-get_or}
+use Rattle.cpg_base.specs.Graph.{is_frozen, item_count}
+use Rattle.cpg_bus.specs.Plan.{queue_of}
+use Rattle.cpg_run.specs.Latest.{IsUnfrozenTime}
+use Rattle.cpg_latest.specs.Course.{IsDone, outcomes_asked}
+use Rattle.cpg_latest.specs.Lanes.{IsSettledBy, queued}
+use Rattle.cpg_latest.specs.Over.{IsLatestSend}
+use Rattle.cpg_latest.proofs.Found.{on_graph}
+use Rattle.cpg_latest.proofs.OverAll.{send_over, tell_sends}
+use Rattle.cpg_latest.proofs.Settling.{early_of, here_within, not_yet, send_grows, send_later, send_one, send_only, settled_idle, settled_more}
+use Rattle.cpg_latest.proofs.along.settle_send.Goals as goal
+
+pub is_frozen-requires : goal.is_frozen-requires
+is_frozen-requires c =
+    let g = c.args.setting.now.problem.now in
+    let order = c.args.setting.now.order.now in
+    let p = c.args.process in
+    let frozen = c.args.frozen.now in
+    let top = c.requires.setting.topological in
+    let limits = c.requires.setting.admitted.1.limits in
+    let k = c.args.at in
+    let x = queued g p k in
+    let here : get_or c.queue.result.now k 0 ≡ x = ap (λ xs. get_or xs k 0) c.queue.ensures in
+    subst (λ y. y < item_count g) (sym here) (here_within g order top p c.requires.process k c.requires.at)
+
+pub returns-then-not-is_frozen-clause-settled : goal.returns-then-not-is_frozen-clause-settled
+returns-then-not-is_frozen-clause-settled c =
+    let g = c.args.setting.now.problem.now in
+    let order = c.args.setting.now.order.now in
+    let p = c.args.process in
+    let frozen = c.args.frozen.now in
+    let top = c.requires.setting.topological in
+    let limits = c.requires.setting.admitted.1.limits in
+    let k = c.args.at in
+    let x = queued g p k in
+    let here : get_or c.queue.result.now k 0 ≡ x = ap (λ xs. get_or xs k 0) c.queue.ensures in
+    settled_idle g order top limits (IsDone g order p k) (IsDone g order p (k + 1)) frozen c.requires.sending.settled x (here_within g order top p c.requires.process k c.requires.at) (send_later g order top p c.requires.process k c.requires.at) (send_grows g order top p c.requires.process k c.requires.at) (send_one g order top p c.requires.process k c.requires.at) (send_only g order top p c.requires.process k c.requires.at) (ap (is_frozen g) (sym here) ∙ sym c.is_frozen.ensures ∙ c.if-not-is_frozen.true)
+
+pub returns-then-not-is_frozen-clause-others : goal.returns-then-not-is_frozen-clause-others
+returns-then-not-is_frozen-clause-others c = record { others = λ y other. refl; count = refl }
+
+pub latest_send-latest-requires-clause-item : goal.latest_send-latest-requires-clause-item
+latest_send-latest-requires-clause-item c =
+    let g = c.args.setting.now.problem.now in
+    let order = c.args.setting.now.order.now in
+    let p = c.args.process in
+    let frozen = c.args.frozen.now in
+    let top = c.requires.setting.topological in
+    let limits = c.requires.setting.admitted.1.limits in
+    let k = c.args.at in
+    let x = queued g p k in
+    let here : get_or c.queue.result.now k 0 ≡ x = ap (λ xs. get_or xs k 0) c.queue.ensures in
+    subst (Contains (queue_of g p)) (sym here) (Contains-get_or (queue_of g p) k 0 c.requires.at)
+
+pub latest_send-latest-requires-clause-lanes : goal.latest_send-latest-requires-clause-lanes
+latest_send-latest-requires-clause-lanes c =
+    let g = c.args.setting.now.problem.now in
+    let order = c.args.setting.now.order.now in
+    let p = c.args.process in
+    let frozen = c.args.frozen.now in
+    let top = c.requires.setting.topological in
+    let limits = c.requires.setting.admitted.1.limits in
+    let k = c.args.at in
+    let x = queued g p k in
+    let here : get_or c.queue.result.now k 0 ≡ x = ap (λ xs. get_or xs k 0) c.queue.ensures in
+    tell_sends g c.requires.setting.admitted.0 order frozen (outcomes_asked c.args.asked.now) c.requires.setting.admitted.1.urgency c.requires.setting.admitted.1.topological top c.requires.tracks
+    p c.requires.process (on_graph g limits p c.requires.process) k c.requires.at limits (early_of g order top limits (IsDone g order p k) frozen c.requires.sending.settled) (not_yet g order top limits (IsDone g order p k) (IsDone g order p (k + 1)) frozen c.requires.sending.settled x (here_within g order top p c.requires.process k c.requires.at) (send_later g order top p c.requires.process k c.requires.at) (send_grows g order top p c.requires.process k c.requires.at) (send_one g order top p c.requires.process k c.requires.at) (send_only g order top p c.requires.process k c.requires.at))
+    c.args.lanes.now c.requires.sending.known
+
+pub settle-requires-clause-item : goal.settle-requires-clause-item
+settle-requires-clause-item c =
+    let g = c.args.setting.now.problem.now in
+    let order = c.args.setting.now.order.now in
+    let p = c.args.process in
+    let frozen = c.args.frozen.now in
+    let top = c.requires.setting.topological in
+    let limits = c.requires.setting.admitted.1.limits in
+    let k = c.args.at in
+    let x = queued g p k in
+    let here : get_or c.queue.result.now k 0 ≡ x = ap (λ xs. get_or xs k 0) c.queue.ensures in
+    omega (arith, here, here_within g order top p c.requires.process k c.requires.at, c.requires.sending.settled.count)
+
+pub settle-requires-clause-unset : goal.settle-requires-clause-unset
+settle-requires-clause-unset c =
+    let g = c.args.setting.now.problem.now in
+    let order = c.args.setting.now.order.now in
+    let p = c.args.process in
+    let frozen = c.args.frozen.now in
+    let top = c.requires.setting.topological in
+    let limits = c.requires.setting.admitted.1.limits in
+    let k = c.args.at in
+    let x = queued g p k in
+    let here : get_or c.queue.result.now k 0 ≡ x = ap (λ xs. get_or xs k 0) c.queue.ensures in
+    subst (λ y. get_or frozen y None ≡ None) (sym here) (not_yet g order top limits (IsDone g order p k) (IsDone g order p (k + 1)) frozen c.requires.sending.settled x (here_within g order top p c.requires.process k c.requires.at) (send_later g order top p c.requires.process k c.requires.at) (send_grows g order top p c.requires.process k c.requires.at) (send_one g order top p c.requires.process k c.requires.at) (send_only g order top p c.requires.process k c.requires.at))
+
+pub returns-clause-settled : goal.returns-clause-settled
+returns-clause-settled c =
+    let g = c.args.setting.now.problem.now in
+    let order = c.args.setting.now.order.now in
+    let p = c.args.process in
+    let frozen = c.args.frozen.now in
+    let top = c.requires.setting.topological in
+    let limits = c.requires.setting.admitted.1.limits in
+    let k = c.args.at in
+    let x = queued g p k in
+    let here : get_or c.queue.result.now k 0 ≡ x = ap (λ xs. get_or xs k 0) c.queue.ensures in
+    let by = subst (λ y. IsSettledBy y frozen c.settle.new.frozen) here c.settle.ensures.others in
+    settled_more g order top limits (IsDone g order p k) (IsDone g order p (k + 1)) frozen c.requires.sending.settled x (here_within g order top p c.requires.process k c.requires.at) (send_later g order top p c.requires.process k c.requires.at) (send_grows g order top p c.requires.process k c.requires.at) (send_one g order top p c.requires.process k c.requires.at) (send_only g order top p c.requires.process k c.requires.at) (ap (is_frozen g) (sym here) ∙ sym c.is_frozen.ensures ∙ c.if-not-is_frozen.false) c.settle.new.frozen
+    (subst (IsUnfrozenTime g order frozen x) (sym (ap (λ y. get_or c.settle.new.frozen y None) (sym here) ∙ c.settle.ensures.time))
+    (send_over g c.requires.setting.admitted.0 order frozen (outcomes_asked c.args.asked.now) c.requires.setting.admitted.1.urgency c.requires.setting.admitted.1.topological top c.requires.tracks
+    p c.requires.process (on_graph g limits p c.requires.process) k c.requires.at limits (early_of g order top limits (IsDone g order p k) frozen c.requires.sending.settled) (not_yet g order top limits (IsDone g order p k) (IsDone g order p (k + 1)) frozen c.requires.sending.settled x (here_within g order top p c.requires.process k c.requires.at) (send_later g order top p c.requires.process k c.requires.at) (send_grows g order top p c.requires.process k c.requires.at) (send_one g order top p c.requires.process k c.requires.at) (send_only g order top p c.requires.process k c.requires.at))
+    c.args.lanes.now c.requires.sending.known c.latest_send-latest.result
+    (subst (λ y. IsLatestSend g (outcomes_asked c.args.asked.now) p y c.args.lanes.now (length c.args.lanes.now) c.latest_send-latest.result) here c.latest_send-latest.ensures)))
+    by.others by.count
+
+pub returns-clause-others : goal.returns-clause-others
+returns-clause-others c =
+    let g = c.args.setting.now.problem.now in
+    let order = c.args.setting.now.order.now in
+    let p = c.args.process in
+    let frozen = c.args.frozen.now in
+    let top = c.requires.setting.topological in
+    let limits = c.requires.setting.admitted.1.limits in
+    let k = c.args.at in
+    let x = queued g p k in
+    let here : get_or c.queue.result.now k 0 ≡ x = ap (λ xs. get_or xs k 0) c.queue.ensures in
+    subst (λ y. IsSettledBy y frozen c.settle.new.frozen) here c.settle.ensures.others

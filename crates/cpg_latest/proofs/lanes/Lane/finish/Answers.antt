@@ -1,0 +1,9 @@
+use Rattle.std.proofs.Common.{◌∙◌, max, ap}
+use Rattle.cpg_run.specs.Run.{end_in}
+use Rattle.cpg_latest.proofs.Found.{greatest_below}
+use Rattle.cpg_latest.proofs.lanes.Lane.finish.Goals as goal
+
+pub loop-process-preserved : goal.loop-process-preserved
+loop-process-preserved c =
+    greatest_below (λ p. end_in c.index-course.result.now.known p) c.loop-process.process c.loop-process.latest c.max-latest.result c.loop-process.invariant
+    (c.max-latest.ensures ∙ ap (λ v. max c.loop-process.latest v) c.end.ensures)

@@ -1,0 +1,7 @@
+pub mod Latest
+pub mod Tracks
+pub mod Laws
+pub mod Timed
+pub mod Course
+pub mod Lanes
+pub mod Over

@@ -1,0 +1,46 @@
+-- The latest times of all tracks along an order, the frozen times that they give, and what is greatest in them.
+use Rattle.std.specs.Prelude.{ℕ, ◌≡◌, ◌≤◌, ◌<◌, Bool, true, false, List, [], Option, Some, None, length, get_or, map}
+use Rattle.cpg_base.specs.Numbers.{numbers_below, greatest}
+use Rattle.cpg_base.specs.Graph.{Graph, item_count, item_at, is_frozen}
+use Rattle.cpg_base.specs.Activity.{item_active}
+use Rattle.cpg_order.specs.Track.{AreTracks}
+use Rattle.cpg_run.specs.Finish.{excess_in_run}
+use Rattle.cpg_run.specs.Run.{Times, unfrozen_time}
+use Rattle.cpg_latest.specs.Latest.{AreLatest, with_faults}
+
+-- the outcome of the track at a place
+abbrev pub track_at : List (List Bool) → ℕ → List Bool
+track_at tracks i = get_or tracks i []
+
+-- of each track those of each number of faults, under the same frozen times
+pub record AreLatestOf (g : Graph) (order : List ℕ) (frozen : List (Option ℕ)) (tracks : List (List Bool)) (lates : ℕ → ℕ → Times) : Type 0 where
+  pub all : AreTracks g tracks
+  pub each : (i : ℕ) → i < length tracks → AreLatest g order frozen (track_at tracks i) (lates i)
+
+-- whether an item is active in a track
+abbrev pub acts_in : Graph → List (List Bool) → ℕ → ℕ → Bool
+acts_in g tracks x i = item_active g (track_at tracks i) (item_at g x)
+
+-- the time that it would have there with all the faults if it were not frozen
+abbrev pub unfrozen_in : Graph → List ℕ → List (List Bool) → (ℕ → ℕ → Times) → ℕ → ℕ → ℕ
+unfrozen_in g order tracks lates x i = unfrozen_time g order (with_faults (track_at tracks i) []) (lates i g.faults) x
+
+-- a frozen item has the latest of these, or no time where it is active in no track
+pub record IsLatestFrozen (g : Graph) (order : List ℕ) (tracks : List (List Bool)) (lates : ℕ → ℕ → Times) (x : ℕ) (frozen : Option ℕ) : Type 0 where
+  pub reached : (time : ℕ) → frozen ≡ Some time → (i : ℕ) × (i < length tracks) × (acts_in g tracks x i ≡ true) × (unfrozen_in g order tracks lates x i ≡ time)
+  pub greatest : (time i : ℕ) → frozen ≡ Some time → i < length tracks → acts_in g tracks x i ≡ true → unfrozen_in g order tracks lates x i ≤ time
+  pub none : frozen ≡ None → (i : ℕ) → i < length tracks → acts_in g tracks x i ≡ false
+
+-- it rests on earlier items alone, so that the latest times and these are found along the order together
+pub record AreLatestFrozen (g : Graph) (order : List ℕ) (tracks : List (List Bool)) (lates : ℕ → ℕ → Times) (frozen : List (Option ℕ)) : Type 0 where
+  pub count : length frozen ≡ item_count g
+  pub each : (x : ℕ) → x < item_count g → is_frozen g x ≡ true → IsLatestFrozen g order tracks lates x (get_or frozen x None)
+  pub others : (x : ℕ) → is_frozen g x ≡ false → get_or frozen x None ≡ None
+
+-- the greatest finish of the tracks
+abbrev pub latest_finish : Graph → List (List Bool) → (ℕ → ℕ → Times) → ℕ
+latest_finish g tracks lates = greatest (map (λ i. (lates i g.faults).finish) (numbers_below (length tracks)))
+
+-- and how far an end in them is past its due
+abbrev pub latest_excess : Graph → List (List Bool) → (ℕ → ℕ → Times) → ℕ
+latest_excess g tracks lates = greatest (map (λ i. excess_in_run g (lates i g.faults)) (numbers_below (length tracks)))

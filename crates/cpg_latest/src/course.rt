@@ -1,0 +1,121 @@
+//! What is known of the latest times of a track with so many faults.
+ghost use Rattle.std.specs.Prelude.{◌≡◌, ◌<◌, IfOk, Some, get_or, length, replicate, slice_set};
+ghost use Rattle.cpg_run.specs.Known.{no_times};
+ghost use Rattle.cpg_run.specs.Run.{time_in, end_in};
+
+use cpg_base::{OutOfMemory, Problem};
+use std::alloc::Global;
+use std::marker::Model;
+
+/// The times and ends that are known so far, by node when it is ready for its next process but for what decides that one, and
+/// by node from when on its slots are free, in time units.
+#[derive(Drop)]
+pub(crate) struct Course {
+    times: Vec<Option<u64>>,
+    ends: Vec<Option<u64>>,
+    ready: Vec<u64>,
+    free: Vec<u64>,
+}
+
+impl Model for Course {
+    ghost use Rattle.cpg_run.specs.Progress.{ProgressState};
+
+    ghost Value = { ProgressState };
+
+    ghost view = { λ c. record { known = record { times = c.times.items; ends = c.ends.items; finish = 0 }; ready = c.ready.items; free = c.free.items } };
+}
+
+impl Course {
+    /// Nothing is known.
+    pub(crate) fn none(alloc: Global, problem: &Problem) -> Result<Course, OutOfMemory>
+        ensures { IfOk result (λ course. course ≡
+            record { known = no_times problem.now; ready = replicate (length problem.now.nodes) 0; free = replicate (length problem.now.nodes) 0 }) }
+    {
+        let processes = problem.processes().len();
+        let items = processes + problem.edges().len() + problem.conditions() as usize;
+        let nodes = problem.nodes().len();
+        Ok(Course {
+            times: vec![in alloc; None; items]?,
+            ends: vec![in alloc; None; processes]?,
+            ready: vec![in alloc; 0u64; nodes]?,
+            free: vec![in alloc; 0u64; nodes]?,
+        })
+    }
+
+    /// The time of an item, or 0 where none is known.
+    pub(crate) fn time(&self, item: u32) -> u64
+        ensures { result ≡ time_in self.now.known item }
+    {
+        match self.times.get(item as usize) {
+            Some(time) => time.unwrap_or(0),
+            None => 0,
+        }
+    }
+
+    /// The end of a process, or 0 where none is known.
+    pub(crate) fn end(&self, process: u32) -> u64
+        ensures { result ≡ end_in self.now.known process }
+    {
+        match self.ends.get(process as usize) {
+            Some(end) => end.unwrap_or(0),
+            None => 0,
+        }
+    }
+
+    /// When a node is ready for its next process, but for what decides that one.
+    pub(crate) fn ready(&self, node: u32) -> u64
+        requires { node < length self.now.ready }
+        ensures { result ≡ get_or self.now.ready node 0 }
+    {
+        self.ready[node as usize]
+    }
+
+    /// From when on the slots of a node are free.
+    pub(crate) fn free(&self, node: u32) -> u64
+        requires { node < length self.now.free }
+        ensures { result ≡ get_or self.now.free node 0 }
+    {
+        self.free[node as usize]
+    }
+
+    /// Sets the start and the end of a process. Its node is ready then.
+    pub(crate) fn begin(&mut self, process: u32, node: u32, start: u64, end: u64)
+        requires start { process < length self.old.known.times }
+        requires end { process < length self.old.known.ends }
+        requires node { node < length self.old.ready }
+        ensures { self.new ≡ record {
+          known = record self.old.known {
+            times = slice_set self.old.known.times process (Some start);
+            ends = slice_set self.old.known.ends process (Some end);
+          };
+          ready = slice_set self.old.ready node end;
+          free = self.old.free;
+        } }
+    {
+        self.times[process as usize] = Some(start);
+        self.ends[process as usize] = Some(end);
+        self.ready[node as usize] = end;
+    }
+
+    /// Sets when a node is ready.
+    pub(crate) fn wait(&mut self, node: u32, ready: u64)
+        requires { node < length self.old.ready }
+        ensures { self.new ≡ record self.old { ready = slice_set self.old.ready node ready } }
+    {
+        self.ready[node as usize] = ready;
+    }
+
+    /// Sets the time of an item that a node sends, and from when on its slots are free.
+    pub(crate) fn send(&mut self, item: u32, node: u32, time: u64, free: u64)
+        requires item { item < length self.old.known.times }
+        requires node { node < length self.old.free }
+        ensures { self.new ≡ record {
+          known = record self.old.known { times = slice_set self.old.known.times item (Some time) };
+          ready = self.old.ready;
+          free = slice_set self.old.free node free;
+        } }
+    {
+        self.times[item as usize] = Some(time);
+        self.free[node as usize] = free;
+    }
+}

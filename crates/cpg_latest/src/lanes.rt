@@ -1,0 +1,202 @@
+//! The courses of the tracks.
+ghost use Rattle.std.specs.Prelude.{◌≡◌, ◌<◌, ◌+◌, ◌^◌, ℕ, true, false, IfOk, Some, None, Contains, length};
+ghost use Rattle.cpg_base.specs.Activity.{active, item_active};
+ghost use Rattle.cpg_base.specs.Graph.{process_count, item_count, item_at, node_of};
+ghost use Rattle.cpg_bus.specs.Plan.{queue_of};
+ghost use Rattle.cpg_latest.specs.Course.{IsAsked, IsLane};
+ghost use Rattle.cpg_latest.specs.Lanes.{CanBegin, HasSentTo, IsUnfrozenStart, excess_of_course, finish_of, last_course, no_lane, unfrozen_send};
+ghost use Rattle.cpg_run.specs.Known.{AreEarly, AreSmall};
+ghost use Rattle.cpg_run.specs.Run.{end_in};
+ghost use Rattle.cpg_run.specs.Setting.{IsSetting};
+
+use crate::asking::{Asked, is_item_active};
+use crate::course::Course;
+use crate::stepping::{begin, send, unfrozen_send};
+use crate::waiting::{ready, start};
+use cpg_base::{OutOfMemory, Problem};
+use cpg_run::{Frozen, Setting};
+use std::alloc::Global;
+use std::marker::Model;
+
+/// The courses of a track, by the number of faults.
+#[derive(Drop)]
+pub(crate) struct Lane {
+    courses: Vec<Course>,
+}
+
+impl Model for Lane {
+    ghost use Rattle.std.specs.Prelude.{List};
+    ghost use Rattle.cpg_run.specs.Progress.{ProgressState};
+
+    ghost Value = { List ProgressState };
+
+    ghost view = { λ l. l.courses.items };
+}
+
+/// Whether a track sends an item of a process.
+fn is_sent(setting: &Setting<'_>, asked: &Asked<'_>, process: u32, item: u32) -> bool
+    requires setting { IsSetting setting.now }
+    requires process { process < process_count setting.now.problem.now }
+    requires asked { IsAsked setting.now.problem.now setting.now.guards.now process asked.now }
+    requires item { Contains (queue_of setting.now.problem.now process) item }
+    ensures sent { result ≡ true → (active setting.now.problem.now asked.now.scenario.now.values process ≡ true)
+        × (item_active setting.now.problem.now asked.now.scenario.now.values (item_at setting.now.problem.now item) ≡ true) }
+    ensures unsent { result ≡ false → active setting.now.problem.now asked.now.scenario.now.values process ≡ true
+        → item_active setting.now.problem.now asked.now.scenario.now.values (item_at setting.now.problem.now item) ≡ false }
+{
+    if !asked.acts {
+        return false;
+    }
+    is_item_active(
+        setting.problem,
+        setting.guards,
+        asked.scenario,
+        process,
+        item,
+    )
+}
+
+impl Lane {
+    /// Nothing is known.
+    pub(crate) fn none(alloc: Global, problem: &Problem) -> Result<Lane, OutOfMemory>
+        ensures { IfOk result (λ lane. lane ≡ no_lane problem.now) }
+    {
+        let mut courses = Vec::new(alloc);
+        for _ in 0..problem.faults() as usize + 1 {
+            courses.push(Course::none(alloc, problem)?)?;
+        }
+        Ok(Lane { courses })
+    }
+
+    /// When a process could start with all the faults if it isn't frozen, and `None` exactly if it is inactive.
+    pub(crate) fn start(
+        &self,
+        setting: &Setting<'_>,
+        asked: &Asked<'_>,
+        process: u32,
+    ) -> Option<u64>
+        requires setting { IsSetting setting.now }
+        requires process { process < process_count setting.now.problem.now }
+        requires asked { IsAsked setting.now.problem.now setting.now.guards.now process asked.now }
+        requires count { length self.now ≡ setting.now.problem.now.faults + 1 }
+        requires ready { length (last_course setting.now.problem.now self.now).ready ≡ length setting.now.problem.now.nodes }
+        requires small { AreSmall (last_course setting.now.problem.now self.now).known }
+        ensures idle { asked.now.acts ≡ false → result ≡ None }
+        ensures acts { asked.now.acts ≡ true → (time : ℕ) × (result ≡ Some time)
+            × IsUnfrozenStart setting.now.problem.now asked.now.scenario.now.values process (last_course setting.now.problem.now self.now) time }
+    {
+        if !asked.acts {
+            return None;
+        }
+        let course = &self.courses[setting.problem.faults() as usize];
+        let ready = ready(setting, course, asked, process);
+        Some(start(setting, course, asked, process, ready))
+    }
+
+    /// When an item of a process could be sent with all the faults if it isn't frozen, and `None` exactly if it is inactive.
+    pub(crate) fn send_time(
+        &self,
+        setting: &Setting<'_>,
+        asked: &Asked<'_>,
+        process: u32,
+        item: u32,
+    ) -> Option<u64>
+        requires setting { IsSetting setting.now }
+        requires process { process < process_count setting.now.problem.now }
+        requires asked { IsAsked setting.now.problem.now setting.now.guards.now process asked.now }
+        requires item { Contains (queue_of setting.now.problem.now process) item }
+        requires count { length self.now ≡ setting.now.problem.now.faults + 1 }
+        requires free { length (last_course setting.now.problem.now self.now).free ≡ length setting.now.problem.now.nodes }
+        requires early { active setting.now.problem.now asked.now.scenario.now.values process ≡ true
+            → end_in (last_course setting.now.problem.now self.now).known process < 2 ^ 59 }
+        ensures idle { (active setting.now.problem.now asked.now.scenario.now.values process ≡ true
+            → item_active setting.now.problem.now asked.now.scenario.now.values (item_at setting.now.problem.now item) ≡ false) → result ≡ None }
+        ensures acts { active setting.now.problem.now asked.now.scenario.now.values process ≡ true
+            → item_active setting.now.problem.now asked.now.scenario.now.values (item_at setting.now.problem.now item) ≡ true
+            → result ≡ Some (unfrozen_send setting.now.problem.now process (last_course setting.now.problem.now self.now)) }
+    {
+        if !is_sent(setting, asked, process, item) {
+            return None;
+        }
+        let course = &self.courses[setting.problem.faults() as usize];
+        Some(unfrozen_send(setting, course, process))
+    }
+
+    /// Starts a process if it is active, and else lets its node wait for what decides it.
+    pub(crate) fn begin(
+        &mut self,
+        setting: &Setting<'_>,
+        frozen: &Frozen,
+        asked: &Asked<'_>,
+        process: u32,
+    )
+        requires setting { IsSetting setting.now }
+        requires frozen { length frozen.now ≡ item_count setting.now.problem.now }
+        requires early { AreEarly frozen.now }
+        requires process { process < process_count setting.now.problem.now }
+        requires asked { IsAsked setting.now.problem.now setting.now.guards.now process asked.now }
+        requires lane { IsLane setting.now.problem.now (CanBegin setting.now frozen.now process asked.now.scenario.now.values) self.old }
+        ensures { IsLane setting.now.problem.now (HasSentTo setting.now frozen.now process 0 0 asked.now.scenario.now.values) self.new }
+    {
+        let mut last = 0;
+        for faults in 0..self.courses.len() {
+            let course = &mut self.courses[faults];
+            last = begin(setting, frozen, asked, course, process, faults, last);
+        }
+    }
+
+    /// Sends the item at a place of what a process sends, if it is active.
+    pub(crate) fn send(
+        &mut self,
+        setting: &Setting<'_>,
+        frozen: &Frozen,
+        asked: &Asked<'_>,
+        process: u32,
+        at: usize,
+    )
+        requires setting { IsSetting setting.now }
+        requires frozen { length frozen.now ≡ item_count setting.now.problem.now }
+        requires early { AreEarly frozen.now }
+        requires process { process < process_count setting.now.problem.now }
+        requires at { at < length (queue_of setting.now.problem.now process) }
+        requires asked { IsAsked setting.now.problem.now setting.now.guards.now process asked.now }
+        requires lane { IsLane setting.now.problem.now (HasSentTo setting.now frozen.now process (at + 1) at asked.now.scenario.now.values) self.old }
+        ensures { IsLane setting.now.problem.now (HasSentTo setting.now frozen.now process (at + 1) (at + 1) asked.now.scenario.now.values) self.new }
+    {
+        let item = setting.plan.queue(setting.problem, process)[at];
+        if !is_sent(setting, asked, process, item) {
+            return;
+        }
+        for faults in 0..self.courses.len() {
+            let course = &mut self.courses[faults];
+            send(setting, frozen, course, process, item);
+        }
+    }
+
+    /// The greatest end with all the faults, in time units.
+    pub(crate) fn finish(&self, problem: &Problem) -> u64
+        requires count { length self.now ≡ problem.now.faults + 1 }
+        ensures { result ≡ finish_of problem.now (last_course problem.now self.now) }
+    {
+        let course = &self.courses[problem.faults() as usize];
+        let mut latest = 0u64;
+        for process in 0..problem.processes().len() as u32 {
+            latest = latest.max(course.end(process));
+        }
+        latest
+    }
+
+    /// How far an end with all the faults is past its due at most, in time units.
+    pub(crate) fn excess(&self, problem: &Problem) -> u64
+        requires count { length self.now ≡ problem.now.faults + 1 }
+        ensures { result ≡ excess_of_course problem.now (last_course problem.now self.now) }
+    {
+        let course = &self.courses[problem.faults() as usize];
+        let mut most = 0u64;
+        for process in 0..problem.processes().len() as u32 {
+            let end = course.end(process);
+            most = most.max(end.saturating_sub(problem.due(process)));
+        }
+        most
+    }
+}
