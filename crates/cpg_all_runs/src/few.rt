@@ -11,8 +11,8 @@ pub const MOST_SCENARIOS: u64 = 16_384;
 /// Each condition doubles the scenarios, so more conditions make too many.
 const MOST_DOUBLINGS: u32 = 14;
 
-/// In how many ways counts of faults add up to at most so many faults: the binomial coefficient of both together over
-/// the faults.
+/// In how many ways `counts` counts of faults add up to at most `faults` faults: the binomial coefficient of both
+/// together over the faults.
 fn ways(counts: u64, faults: u8) -> u64
     requires counts { counts ≤ MOST_PROCESSES }
     requires faults { faults ≤ MOST_FAULTS }

@@ -27,7 +27,7 @@ pub(crate) struct Rank {
     item: u32,
 }
 
-/// Of some bounds those that these columns may leave open somewhere that a column matches.
+/// Those of some bounds that these columns may leave open somewhere that a column matches.
 fn left_open(
     alloc: Global,
     problem: &Problem,
@@ -78,7 +78,7 @@ impl Hearing<'_> {
         Ok(ranks)
     }
 
-    /// Of some bounds those that single frames may leave open at a column's time, somewhere that the column matches.
+    /// Those of some bounds that single frames may leave open at a column's time, somewhere that the column matches.
     pub(crate) fn unframed(
         &self,
         alloc: Global,

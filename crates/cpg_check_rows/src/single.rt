@@ -92,7 +92,7 @@ fn shared_before(
     Ok(found)
 }
 
-/// Whether so many first columns of a row have a tree, so that no two of them match together.
+/// Whether the first `count` columns of a row have a tree, so that no two of them match together.
 fn have_tree(
     alloc: Global,
     problem: &Problem,

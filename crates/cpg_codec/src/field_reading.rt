@@ -30,7 +30,7 @@ pub fn small_of(bytes: &[u8], low: u8, high: u8) -> Result<(u8, &[u8]), ReadErro
     }
 }
 
-/// A number of so many bytes from low to high.
+/// A number of `width` bytes from `low` to `high`.
 pub fn number_of(bytes: &[u8], width: u32, low: u64, high: u64) -> Result<(u64, &[u8]), ReadError>
     requires narrow { width ≤ 8 }
     requires some { low ≤ high }

@@ -21,7 +21,7 @@ use std::alloc::{AllocError, Global};
 /// The text CPGT.
 const MAGIC: u64 = 0x43504754;
 
-/// The greatest condition flag behind so many processes with a condition.
+/// The greatest condition flag behind `ones` processes with a condition.
 fn flag_end(ones: u32) -> u8
     ensures { result ≡ (if nat_lt ones MOST_CONDITIONS then 1 else 0) }
 {
@@ -168,7 +168,7 @@ fn are_ends(from: u8, to: u8, processes: u8) -> bool
     from < processes && to < processes
 }
 
-/// An edge between two of so many processes.
+/// An edge between two of `processes` processes.
 fn edge_of(bytes: &[u8], processes: u8) -> Result<((u32, u32), &[u8]), ReadError>
     requires { 0 < processes }
     ensures { Gives (λ x. (x.0, x.1.now)) result (edge_at processes bytes.now) }

@@ -172,7 +172,7 @@ fn take_columns<'a>(
     Ok((columns, rest))
 }
 
-/// A row of at most so many columns, each lawful.
+/// A row of at most `most` columns, each lawful.
 fn take_row<'a>(
     alloc: Global,
     held: &mut Vec<Literal>,

@@ -207,7 +207,8 @@ fn fewest_of_joined(
     Ok(few)
 }
 
-/// At most so many faults as a scenario has that none of the cubes matches, and as many if they are within the room.
+/// A number that is no greater than the faults of any scenario that none of the cubes matches. It is the least of
+/// these if that is within the room, and the search isn't cut short.
 #[cycle(fewest)]
 pub(crate) fn fewest(
     alloc: Global,

@@ -15,7 +15,7 @@ use cpg_run::BuildFault;
 use cpg_tree::Tree;
 use std::alloc::Global;
 
-/// Of so many parts of a guard at most the trees are kept, in case that an equal part comes again.
+/// The trees of at most this many parts of a guard are kept, in case that an equal part comes again.
 const KEPT: usize = 64;
 
 /// What the tree of a guard tells, and how it is made of those of its sides.

@@ -94,7 +94,7 @@ fn is_conditional(edges: &[Edge], process: u32) -> bool
         .any(|edge| edge.from == process && edge.when.is_some())
 }
 
-/// How many of so many processes have a condition.
+/// How many of the first `processes` processes have a condition.
 pub fn condition_total(edges: &[Edge], processes: u32) -> u32
     ensures { result ≡ length (filter (has_conditional_output edges.now) (numbers_below processes)) }
 {

@@ -11,7 +11,7 @@ use crate::text::{write_both, write_number};
 use cpg_base::{Item, Problem};
 use std::alloc::AllocError;
 
-/// The item with this number, if there are so many processes and edges.
+/// The item with this number in a graph with `processes` processes and `edges` edges.
 pub fn item_among(processes: usize, edges: usize, number: u32) -> Item
     ensures { result ≡ item_among processes edges number }
 {

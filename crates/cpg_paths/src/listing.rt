@@ -77,7 +77,7 @@ pub(crate) fn room_for(tree: &Tree<Option<u64>>) -> usize {
     tree.leaves().unwrap_or(0) as usize
 }
 
-/// The paths with a number, each with its own cube, from the left to the right. Room is taken for so many at once.
+/// The paths with a number, each with its own cube, from the left to the right. Room is taken for `room` of them at once.
 pub(crate) fn listed(
     tree: &Tree<Option<u64>>,
     problem: &Problem,

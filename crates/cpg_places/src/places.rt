@@ -146,7 +146,7 @@ pub(crate) fn open_value(space: &Space, literals: &[Literal]) -> Option<Literal>
     None
 }
 
-/// How many of the first literals hold in the whole space, so many being known to, up to the first that doesn't.
+/// How many of the first literals hold in the whole space, up to the first that doesn't. The first `held` are known to.
 fn held_on(space: &Space, literals: &[Literal], held: usize) -> usize {
     for at in held..literals.len() {
         if !space.tells(&literals[at]) {
@@ -192,7 +192,7 @@ fn said_by(literal: Literal, is_first: bool) -> Said
     }
 }
 
-/// What literals say of a variable, but for the first, so many of which hold in the whole space.
+/// What literals say of a variable, but for the first `held`, which hold in the whole space.
 fn said_on(literals: &[Literal], held: usize, variable: u8) -> Said
     ensures { IsSaid literals.now variable result }
 {
@@ -212,8 +212,8 @@ fn said_on(literals: &[Literal], held: usize, variable: u8) -> Said
     }
 }
 
-/// How many of the first literals hold in the whole space, so many being known to: counted on where one before a variable is
-/// next, so that the way to that is short.
+/// How many of the first literals are known to hold in the whole space. The first `held` are. More are counted if a
+/// literal before a variable is next, so that the way to that is short.
 fn held_at(space: &Space, literals: &[Literal], held: u16, variable: u8) -> u16 {
     match literals.get(held as usize) {
         Some(literal) if literal.variable < variable && variable < FIRST_VALUE => {
@@ -223,7 +223,8 @@ fn held_at(space: &Space, literals: &[Literal], held: u16, variable: u8) -> u16 
     }
 }
 
-/// How many of the first literals hold if a variable is in this range, so many being known to in the whole space.
+/// How many of the first literals hold if a variable is in this range. The first `held` are known to hold in the
+/// whole space.
 fn held_with(held: u16, said: Said, least: u8, greatest: u8) -> u16 {
     if said.is_first && said.low <= least && greatest <= said.high {
         held.saturating_add(1)

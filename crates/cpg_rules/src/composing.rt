@@ -107,7 +107,7 @@ fn composed(
     Ok(made)
 }
 
-/// For each of so many processes the part that says that it is inactive.
+/// For each of `count` processes the part that says that it is inactive.
 pub fn seeds(alloc: Global, parts: &mut Parts, count: usize) -> Result<Vec<usize>, OutOfMemory>
     ensures more { IfOk result (λ roots. Extends parts.old parts.new) }
     ensures roots { IfOk result (λ roots. AreRoots parts.new.parts count roots.items) }

@@ -254,7 +254,7 @@ fn is_rested(aim: Aim, step: &Step, later: &[Step]) -> bool
     are_reading(later, step.process)
 }
 
-/// Of these steps those that a walk rests on.
+/// Those of these steps that a walk rests on.
 pub fn rested(alloc: Global, aim: Aim, steps: &[Step]) -> Result<Vec<Step>, OutOfMemory>
     ensures { IfOk result (λ kept. kept.items ≡ rested aim steps.now) }
 {

@@ -154,8 +154,8 @@ fn marked_from_start(known: &[bool; VARIABLES]) -> usize
     VARIABLES
 }
 
-/// Whether all literals of a cube are, with the first so many variables marked: at once if the last literal is on one of
-/// these, as the variables rise.
+/// Whether all literals of a cube are on known variables, the first `first` variables being known. It is told at once
+/// if the last literal is on one of these, as the variables rise.
 fn is_cube_known(known: &[bool; VARIABLES], first: usize, cube: &Cube) -> bool
     requires { (v : ℕ) → v < first → get_or known.now v false ≡ true }
     ensures { OnTrue result (All (λ l. get_or known.now l.variable false ≡ true) cube.now) }
@@ -167,7 +167,7 @@ fn is_cube_known(known: &[bool; VARIABLES], first: usize, cube: &Cube) -> bool
     are_known(known, literals)
 }
 
-/// Whether all literals of all these columns are.
+/// Whether all literals of all these columns are on known variables.
 pub(crate) fn are_all_known(known: &[bool; VARIABLES], columns: &[Entry]) -> bool
     ensures { OnTrue result (All (λ c. All (λ l. get_or known.now l.variable false ≡ true) c.cube) columns.now) }
 {

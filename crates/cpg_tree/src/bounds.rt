@@ -49,7 +49,7 @@ impl Span {
     }
 }
 
-/// Of the bounds of a fork those of its side below.
+/// The bounds of a fork's side below, among those of the fork.
 pub(crate) fn bounds_below(bounds: &[Bound]) -> &[Bound]
     ensures { AreBelow bounds.now result.now }
 {
@@ -59,7 +59,7 @@ pub(crate) fn bounds_below(bounds: &[Bound]) -> &[Bound]
     sides.split_at(fork.forks.min(sides.len())).0
 }
 
-/// Of the bounds of a fork those of its side above.
+/// The bounds of a fork's side above, among those of the fork.
 pub(crate) fn bounds_above(bounds: &[Bound]) -> &[Bound]
     ensures { AreAbove bounds.now result.now }
 {

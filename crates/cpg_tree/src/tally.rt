@@ -102,7 +102,7 @@ fn table(alloc: Global) -> Result<Vec<u32>, OutOfMemory> {
 }
 
 impl Tally {
-    /// Of no columns, and without tables: it finds no fork.
+    /// A tally of no columns, and without tables: it finds no fork.
     pub fn new(alloc: Global) -> Tally {
         Tally {
             lows: Vec::new(alloc),

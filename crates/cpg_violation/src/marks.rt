@@ -36,7 +36,7 @@ pub fn is_marked(marks: &[bool], item: u32) -> bool
     marks[item as usize]
 }
 
-/// Whether each of so many items is marked.
+/// Whether each of the first `items` items is marked.
 pub fn are_all(marks: &[bool], items: u32) -> bool
     ensures { OnTrue result ((x : ℕ) → x < items → get_or marks.now x false ≡ true) }
 {
@@ -49,7 +49,7 @@ pub fn are_all(marks: &[bool], items: u32) -> bool
 }
 
 impl RowMarks {
-    /// Whether each of so many items has all marks, so that the three rules hold.
+    /// Whether each of the first `items` items has all marks, so that the three rules hold.
     pub fn are_all(&self, items: u32) -> bool
         ensures { OnTrue result ((g : Graph) (tables : List NodeTable) → items ≡ item_count g → AreRowMarks g tables self.now → AllHold g tables row_rules) }
     {
@@ -64,7 +64,7 @@ impl RowMarks {
 }
 
 impl TimeMarks {
-    /// Whether each of so many items has all marks, so that the six rules hold.
+    /// Whether each of the first `items` items has all marks, so that the six rules hold.
     pub fn are_all(&self, items: u32) -> bool
         ensures { OnTrue result ((g : Graph) (tables : List NodeTable) → items ≡ item_count g → AreTimeMarks g tables self.now →
             AllHold g tables (Rule.Heard ∷ time_rules)) }
