@@ -151,10 +151,21 @@ class Drawn:
 
     def alone(self, values: Mapping[int, bool], slot: int) -> Any:
         """The graph file of a track: what is active in it, without conditions, faults and overheads."""
-        kept = [process for process in range(len(self.arms)) if self.is_active(process, values)]
+        return self.track(values, slot, False)
+
+    def heard(self, values: Mapping[int, bool], slot: int) -> Any:
+        """The same with its conditions: they are sent, and waited for. In its other outcomes less runs, so its latest end is that of the track."""
+        return self.track(values, slot, True)
+
+    def track(self, values: Mapping[int, bool], slot: int, told: bool) -> Any:
+        kept = self.kept(values)
         number = {process: n for n, process in enumerate(kept)}
-        edges = [(number[source], number[target], None, False) for source, target, _ in self.edges if source in number and target in number]
-        return graph(self.nodes, [(self.node[p], self.wcet[p], False, False) for p in kept], edges, 0, 10**9, slot, (0, 0, 0))
+        edges = [(number[source], number[target], when if told else None, False) for source, target, when in self.edges if source in number and target in number]
+        return graph(self.nodes, [(self.node[p], self.wcet[p], False, told and p in self.joins) for p in kept], edges, 0, 10**9, slot, (0, 0, 0))
+
+    def kept(self, values: Mapping[int, bool]) -> list[int]:
+        """What is active in a track."""
+        return [process for process in range(len(self.arms)) if self.is_active(process, values)]
 
     def measures(self, values: Mapping[int, bool], slot: int) -> Any:
         """Of a track the sum of all work, the longest way, a message as one slot, and what no schedule is shorter than: the greater of

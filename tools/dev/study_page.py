@@ -2,7 +2,6 @@
 from __future__ import annotations
 
 import csv
-import itertools
 import re
 import statistics
 from collections.abc import Iterable, Mapping, Sequence
@@ -18,6 +17,8 @@ FROZEN_PUBLISHED = {20: (48, 86, 139), 40: (39, 66, 97), 60: (32, 58, 86)}  # re
 NOTHING_PUBLISHED = {20: (24, 44, 63), 40: (17, 29, 43), 60: (12, 24, 34)}  # recalled
 FROZEN = {"none": "nothing", "messages": "messages", "all": "all"}
 CUTS = {"one": "one part", "50": "parts up to 50", "34": "up to 34", "25": "up to 25", "tuned": "as tuned"}
+PRINTED = "one", "50", "25", "tuned"  # in the table of cuts
+LEAST = 10  # graphs of which a mean is printed
 FORMS = [(frozen, cut) for frozen in FROZEN for cut in CUTS if frozen != "all" or not cut.isdigit()]
 
 
@@ -30,7 +31,7 @@ class Differs(Exception):
 
 
 def number(text: str) -> Any:
-    return int(text) if text.isdigit() else text
+    return int(text) if text.removeprefix("-").isdigit() else text
 
 
 def load(top: Path, family: str) -> Lines:
@@ -48,83 +49,84 @@ def share(values: Sequence[bool]) -> str:
     return f"{100 * sum(values) / len(values):.0f}%" if values else "-"
 
 
-def spread(values: Sequence[float], unit: str = "%", digits: int = 1) -> list[str]:
-    """Mean, and the quartiles with the median between them, as two cells; quartiles of four values or more."""
-    if not values:
-        return ["-", "-"]
-    quartiles = statistics.quantiles(values, n=4, method="inclusive") if len(values) > 3 else []
-    return [f"{statistics.mean(values):,.{digits}f}{unit}", " / ".join(f"{it:,.{digits}f}" for it in quartiles) or "-"]
+def mean(values: Sequence[float], unit: str = "%", digits: int = 1) -> str:
+    return f"{rounded(statistics.mean(values), digits)}{unit}" if values else "-"
+
+
+def rounded(value: float, digits: int) -> str:
+    """Without a sign where it is 0."""
+    return f"{round(value, digits) + 0.0:,.{digits}f}"
+
+
+def quartiles(values: Sequence[float], digits: int = 1) -> str:
+    """The quartiles with the median between them, of four values or more."""
+    return "/".join(f"{it:,.{digits}f}" for it in statistics.quantiles(values, n=4, method="inclusive")) if len(values) > 3 else "-"
+
+
+def enough(values: Sequence[float], unit: str = "%", digits: int = 0) -> str:
+    """The mean, of ten values or more: fewer say too little."""
+    return mean(values, unit, digits) if len(values) >= LEAST else ""
 
 
 def table(heads: Sequence[object], rows: Iterable[Sequence[object]]) -> list[str]:
     return ["| " + " | ".join(map(str, cells)) + " |" for cells in [heads, ["---"] * len(heads), *rows]]
 
 
-# Conditions
+# Conditions. Lines are those of conditions.csv with what orders.csv and merged.csv have of the same graphs.
 
-def gains(lines: Lines) -> list[float]:
-    return [over(line["worst"], line["alone"]) for line in lines]
+def gains(lines: Lines, over_what: str = "alone", what: str = "worst") -> list[float]:
+    return [over(line[what], line[over_what]) for line in lines]
+
+
+def no_longer(lines: Lines, over_what: str = "alone", what: str = "worst") -> str:
+    return share([line[what] <= line[over_what] for line in lines])
 
 
 def tracks_table(lines: Lines) -> list[str]:
     def row(name: object, some: Lines, published: object) -> list[object]:
-        values = gains(some)
-        shares = [share([it <= most for it in values]) for most in (1, 0)]
-        return [name, len(values), *spread(values), f"{max(values):.1f}%", *shares, share([it < 0 for it in values]), published]
+        own = [cell for over_what in ("alone", "heard") for cell in (mean(gains(some, over_what)), no_longer(some, over_what))]
+        return [name, len(some), *own, no_longer(some, "track", "best"), no_longer(some, "longest", "merged"), published]
 
-    rows = [row(tracks, [line for line in lines if line["tracks"] == tracks], f"{NONE_PUBLISHED[tracks]}%") for tracks in TRACKS]
-    heads = ["tracks", "graphs", "longer by, mean", "quartiles", "most", "at most 1% longer", "no longer", "shorter", "no longer, published (recalled)"]
-    return table(heads, [*rows, row("all", lines, "")])
-
-
-def sizes_table(lines: Lines) -> list[str]:
-    def mean(size: int | None, tracks: int) -> str:
-        values = gains([line for line in lines if line["processes"] == size and tracks in (0, line["tracks"])])
-        return f"{statistics.mean(values):.1f}% ({len(values)})"
-
-    rows = [[tracks or "all", *(mean(size, tracks) for size in SIZES)] for tracks in (*TRACKS, 0)]
-    return table(["tracks", *(f"{size} processes" for size in SIZES)], rows)
+    several = [line for line in lines if line["nodes"] > 1]
+    rows = [row(tracks, [line for line in several if line["tracks"] == tracks], f"{NONE_PUBLISHED[tracks]}%") for tracks in TRACKS]
+    heads = ["tracks", "graphs", "over the longest track alone", "no longer", "over it with its broadcasts", "no longer",
+             "best orders on both sides, no longer", "merged, no longer", "published, no longer (recalled)"]
+    return table(heads, [*rows, row("all", several, ""), row("one processor", [line for line in lines if line["nodes"] == 1], "")])
 
 
-def rounds(lines: Lines) -> Any:
-    """The increases in rounds of the bus, in which each processor has a slot of 2 or 10."""
-    return [(line["worst"] - line["alone"]) / (line["nodes"] * (10 if line["slot"] == 10 else 2)) for line in lines if line["nodes"] > 1]
+def causes_table(lines: Lines) -> list[str]:
+    several = [line for line in lines if line["nodes"] > 1]
+    rows = []
+    for name, what, over_what in (
+            ("the table, over the longest track alone", "worst", "alone"), ("the same if nothing waits for a condition", "unwaited", "alone"),
+            ("the same if conditions aren't sent either", "unsent", "alone"), ("the table, over the longest track with its broadcasts", "worst", "heard"),
+            ("the best order found, over the longest track under the best one found for it", "best", "track"),
+            ("merged tables, over the longest of the schedules that they are merged of", "merged", "longest"),
+            ("the table, over the merged tables", "worst", "merged"), ("the table, over the best order found", "worst", "best"),
+            ("the best order of the rules, over the best order found", "rules", "best"), ("the best order found, over the bound", "best", "least")):
+        values = gains(several, over_what, what)
+        rows.append([name, mean(values), quartiles(values), f"{max(values):.1f}%", share([it <= 0 for it in values]), share([it < 0 for it in values])])
+    return table(["what is longer", "mean", "quartiles", "most", "no longer", "shorter"], rows)
 
 
-def depends_table(lines: Lines, by_slot: Any) -> list[str]:
-    groups = [(f"{least} to {most} processors" if most > least else "1 processor", [line for line in lines if least <= line["nodes"] <= most])
-              for least, most in ((1, 1), (2, 3), (4, 5), (6, 7), (8, 9), (10, 11))]
-    groups += [(f"{least} to {most} conditions", [line for line in lines if least <= line["conditions"] <= most]) for least, most in ((4, 5), (6, 8), (9, 18))]
-    groups += [(f"{kind} durations", [line for line in lines if line["durations"] == kind]) for kind in ("uniform", "exponential")]
+def best_table(by_slot: Mapping[str, Lines]) -> list[str]:
+    def row(name: object, some: Lines, best: str = "best") -> list[object]:
+        return [name, len(some), mean(gains(some)), mean(gains(some, "heard")), no_longer(some, "heard"), mean(gains(some, "track", best)) if best == "best" else "",
+                mean(gains(some, best)), share([it > 5 for it in gains(some, best)]), mean(gains(some, "least", best))]
+
+    several = {slot: [line for line in lines if line["nodes"] > 1] for slot, lines in by_slot.items()}
+    narrow = several["2"]
+    rows = [row(f"{size} processes", [line for line in narrow if line["processes"] == size]) for size in SIZES]
+    rows += [row(f"{least} to {most} processors", [line for line in narrow if least <= line["nodes"] <= most]) for least, most in ((2, 3), (4, 7), (8, 11))]
+    rows += [row(f"{least} to {most} conditions", [line for line in narrow if least <= line["conditions"] <= most]) for least, most in ((4, 5), (6, 8), (9, 18))]
     for slot in ("10", "0.2"):
-        same = {line["graph"] for line in by_slot[slot]}
-        groups += [(f"slots of {slot}", by_slot[slot]), ("slots of 2, the same graphs", [line for line in lines if line["graph"] in same])]
-    rows = []
-    for name, some in groups:
-        waits = rounds(some)
-        rows.append([name, len(some), *spread(gains(some)), *(share([it <= most for it in gains(some)]) for most in (1, 0)), spread(waits, "")[1]])
-    return table(["graphs with", "graphs", "longer by, mean", "quartiles", "at most 1% longer", "no longer", "rounds, quartiles"], rows)
-
-
-def bounds_table(lines: Lines) -> list[str]:
-    rows = []
-    for size in SIZES:
-        some = [line for line in lines if line["processes"] == size]
-        alone, worst = [over(line["alone"], line["bound"]) for line in some], [over(line["worst"], line["bound"]) for line in some]
-        rows.append([size, len(some), f"{statistics.mean(line['work'] / line['way'] for line in some):.1f}", *spread(alone), *spread(worst)])
-    return table(["processes", "graphs", "work by longest way", "longest track alone over the bound, mean", "quartiles",
-                  "table's worst, mean", "quartiles"], rows)
-
-
-def beside_table(lines: Lines) -> list[str]:
-    cells = [statistics.mean(gains([line for line in lines if (line["processes"], line["tracks"]) == cell])) for cell in itertools.product(SIZES, TRACKS)]
-    none = [share([it <= 0 for it in gains([line for line in lines if line["tracks"] == tracks])]) for tracks in TRACKS]
-    ours = {size: statistics.mean(gains([line for line in lines if line["processes"] == size])) for size in SIZES}
-    return table(["", "published (recalled)", "here"], [
-        ["graphs", "1,080", f"{len(lines):,}"], ["processes", "60, 80, 120", "60, 80, 120"], ["alternative tracks", "10, 12, 18, 24, 32", "10, 12, 18, 24, 32"],
-        ["longer than the longest track alone, means of the groups", "0.1% to 7.6%", f"{min(cells):.1f}% to {max(cells):.1f}%"],
-        ["by processes", "doesn't grow", ", ".join(f"{mean:.1f}%" for mean in ours.values())],
-        ["no longer, by tracks", ", ".join(f"{share}%" for share in NONE_PUBLISHED.values()), ", ".join(none)]])
+        same = {line["graph"] for line in several[slot]}
+        rows += [row(f"slots of {slot}", several[slot]), row("the same, of 2", [line for line in narrow if line["graph"] in same])]
+    longer = [line for line in narrow if line["long"] != ""]
+    rows += [row("10,000 tries", longer, "long"), row("the same, 2,000", longer)]
+    heads = ["graphs", "number", "over the longest track alone", "with its broadcasts", "no longer", "best orders on both sides", "over the best order found",
+             "by more than 5%", "best found over the bound"]
+    return table(heads, rows)
 
 
 # Orders
@@ -132,21 +134,38 @@ def beside_table(lines: Lines) -> list[str]:
 def orders_table(lines: Lines, faults: Lines) -> list[str]:
     def row(name: object, pairs: Sequence[tuple[Any, Any]]) -> list[object]:
         gained = [over(urgency, worst) for urgency, worst in pairs]
-        taken = [it for it in gained if it > 0]
-        return [name, len(pairs), share([it > 0 for it in gained]), *spread(gained), *spread(taken)]
+        return [name, len(pairs), share([it > 0 for it in gained]), mean(gained), quartiles(gained)]
 
-    rows = [row(f"k 0, {size} processes", [(line["urgency"], line["worst"]) for line in lines if line["processes"] == size]) for size in SIZES]
+    rows = [row("k 0, 60 to 120 processes", [(line["urgency"], line["worst"]) for line in lines])]
     for k in FAULTS:
         fitting = [line for line in faults if line["k"] == k and line["none one"] != "wide"]
         rows.append(row(f"k {k}, 20 to 60 processes", [(line["urgency"], line["none one"]) for line in fitting]))
-    return table(["graphs", "number", "taken", "urgency order longer by, mean", "quartiles", "where taken, mean", "quartiles"], rows)
+    return table(["graphs", "number", "track order taken", "urgency order longer by", "quartiles"], rows)
+
+
+def rates_table(lines: Lines) -> list[str]:
+    def row(name: str, some: Lines) -> list[object]:
+        late = [line for line in some if line["late"] > 0]
+        ends = [sum(line[one] <= 0 for line in late) for one in ("quick", "long")]
+        never = sum(line["least"] > 0 for line in late)
+        copies = [line["processes"] for line in some]
+        return [name, len(some), f"{min(copies)}-{max(copies)}", len(late), *ends, never, len(late) - ends[1] - never]
+
+    rows = []
+    for kind, name in (("plain", "no condition"), ("choice", "a condition in each")):
+        for k in range(3):
+            some = [line for line in lines if line["kind"] == kind and line["k"] == k]
+            if some:
+                rows.append(row(f"{name}, k {k}", some))
+    heads = ["parts", "systems", "processes", "late", "of these in time by `explore --quick`", "by a long search", "late under any order", "open"]
+    return table(heads, [*rows, row("all", lines)])
 
 
 # Faults
 
-def added(line: Line, frozen: str, cut: str = "one") -> float:
+def added(line: Line, frozen: str, cut: str = "one", base: str = "base") -> float:
     """By how many per cent the worst with faults is over that without faults and overheads."""
-    return over(line[f"{frozen} {cut}"], line["base"])
+    return over(line[f"{frozen} {cut}"], line[base])
 
 
 def fit(lines: Lines, *forms: str) -> Lines:
@@ -158,11 +177,6 @@ def at(lines: Lines, k: int, size: int | None = None) -> Lines:
     return [line for line in lines if line["k"] == k and size in (None, line["processes"])]
 
 
-def cell(values: Sequence[float], digits: int = 1) -> str:
-    """The mean, and in brackets the quartiles."""
-    return "{} ({})".format(*spread(values, digits=digits)) if values else "-"
-
-
 def faults_table(lines: Lines) -> list[str]:
     rows = []
     for size in SMALL:
@@ -170,9 +184,10 @@ def faults_table(lines: Lines) -> list[str]:
             some = at(lines, k, size)
             kept = fit(some, "none")
             ruled = [] if "" in (line["none rule"] for line in kept) else kept
-            cells = [cell([added(line, "none", cut) for line in kept]) for cut in ("one", "50", "tuned")]
-            rows.append([size, k, len(some), len(some) - len(kept), *cells, cell([added(line, "none", "rule") for line in ruled])])
-    return table(["processes", "k", "graphs", "too wide", "one part", "parts up to 50", "as tuned", "by the rule"], rows)
+            rows.append([size, k, len(kept), *(enough([added(line, "none", cut) for line in kept], digits=1) for cut in ("one", "50", "tuned")),
+                         enough([added(line, "none", "rule") for line in ruled], digits=1)])
+    heads = ["processes", "k", "graphs that fit", "one part", "parts up to 50", "as tuned", "by the rule"]
+    return table(heads, [row for row in rows if row[3]])
 
 
 def cuts_table(lines: Lines) -> list[str]:
@@ -180,66 +195,70 @@ def cuts_table(lines: Lines) -> list[str]:
     for frozen, name in FROZEN.items():
         for k in FAULTS:
             kept = fit(at(lines, k), frozen)
-            cells = [cell([added(line, frozen, cut) for line in kept], 0) if (frozen, cut) in FORMS else "" for cut in CUTS]
-            rows.append([name, k, len(kept), *cells])
-    return table(["frozen", "k", "graphs", *CUTS.values()], rows)
-
-
-def parts_table(lines: Lines) -> list[str]:
-    rows = []
-    for k in FAULTS:
-        some = at(lines, k)
-        shorter = []
-        for frozen in FROZEN:
-            kept = fit(some, frozen)
-            shorter.append(f"{share([line[f'{frozen} tuned'] < line[f'{frozen} one'] for line in kept])} of {len(kept)}")
-        rows.append([k, len(some), *spread([line["parts"] / line["processes"] for line in some], ""), *shorter])
-    return table(["k", "graphs", "parts of a process, mean", "quartiles", "nothing frozen", "messages frozen", "all frozen"], rows)
+            cells = [mean([added(line, frozen, cut) for line in kept], digits=0) if (frozen, cut) in FORMS else "" for cut in PRINTED]
+            rows.append([name, k, len(kept), *cells, share([line[f"{frozen} tuned"] < line[f"{frozen} one"] for line in kept])])
+    return table(["frozen", "k", "graphs", *(CUTS[cut] for cut in PRINTED), "tuned shorter than one part"], rows)
 
 
 def frozen_table(lines: Lines) -> list[str]:
     rows = []
-    for frozen in ("messages", "all"):
-        for k in FAULTS:
-            some = fit(at(lines, k), "none", frozen)
-            longer = [over(line[f"{frozen} one"], line["none one"]) for line in some]
-            left = [100 * line[f"{frozen} columns"] / line["none columns"] for line in some]
-            rows.append([frozen, k, len(some), *spread(longer, digits=0), *spread(left, digits=2)])
-    return table(["frozen", "k", "graphs", "worst longer by, mean", "quartiles", "columns left, mean", "quartiles"], rows)
-
-
-def columns_table(lines: Lines) -> list[str]:
-    rows = []
     for frozen, name in FROZEN.items():
         for k in FAULTS:
-            values = [line[f"{frozen} columns"] for line in fit(at(lines, k), frozen)]
-            wide = [f"{len(some) - len(fit(some, frozen))} of {len(some)}" for some in (at(lines, k, size) for size in SMALL)]
-            rows.append([name, k, len(values), *spread(values, "", 0), *wide])
-    return table(["frozen", "k", "graphs", "columns, mean", "quartiles", *(f"too wide, {size} processes" for size in SMALL)], rows)
+            fitting, both = fit(at(lines, k), frozen), fit(at(lines, k), "none", frozen)
+            longer = [over(line[f"{frozen} one"], line["none one"]) for line in both]
+            left = [100 * line[f"{frozen} columns"] / line["none columns"] for line in both]
+            wide = "/".join(str(len(some) - len(fit(some, frozen))) for some in (at(lines, k, size) for size in SMALL))
+            rows.append([name, k, mean([line[f"{frozen} columns"] for line in fitting], "", 0), wide,
+                         *([len(both), mean(longer, digits=0), mean(left, digits=2 if statistics.mean(left) < 1 else 1)] if frozen != "none" else [""] * 3)])
+    return table(["frozen", "k", "columns, mean", "too wide of 80/80/20 with 20/40/60 processes", "graphs compared", "worst longer by", "columns left"], rows)
 
 
-def places_table(lines: Lines) -> list[str]:
-    rows = []
-    for places, name in (("any", "anywhere"), ("near", "near")):
-        for k in (1, 2):
-            some = fit([line for line in at(lines, k) if line["places"] == places], "none", "messages")
-            carried = [100 * line["messages"] / line["edges"] for line in some]
-            free, frozen = ([added(line, form) for line in some] for form in ("none", "messages"))
-            rows.append([name, k, len(some), f"{statistics.mean(carried):.0f}%", *spread(free), *spread(frozen, digits=0)])
-    return table(["processes are placed", "k", "graphs", "edges that are messages, mean", "nothing frozen adds, mean", "quartiles",
-                  "messages frozen, mean", "quartiles"], rows)
-
-
-def published_table(lines: Lines) -> list[str]:
+def placed_table(lines: Lines, found: Mapping[tuple[Any, Any], Line]) -> list[str]:
+    """What is added, as placed and as found."""
     rows = []
     for size in SMALL:
         for k in (1, 2, 3):
-            means = []
-            for frozen in ("none", "messages"):
-                values = [added(line, frozen) for line in fit(at(lines, k, size), frozen)]
-                means.append(f"{statistics.mean(values):.0f}% ({len(values)})" if values else "- (0)")
-            rows.append([size, k, means[0], f"{NOTHING_PUBLISHED[size][k - 1]}%", means[1], f"{FROZEN_PUBLISHED[size][k - 1]}%"])
-    return table(["processes", "k", "nothing frozen, here", "published", "messages frozen, here", "published"], rows)
+            some = at(lines, k, size)
+            both = [{**line, **found[line["graph"], k]} for line in some if (line["graph"], k) in found]
+            cells: list[object] = [size, k]
+            for frozen, published in (("none", NOTHING_PUBLISHED), ("messages", FROZEN_PUBLISHED)):
+                for places in ("any", "near") if frozen == "messages" else ("near",):
+                    cells.append(enough([added(line, frozen) for line in fit([line for line in some if line["places"] == places], frozen)]))
+                for name in ("mapping", "both") if frozen == "messages" else ("mapping",):
+                    cells.append(enough([added(line, frozen, name, "base mapping") for line in both if line[f"{frozen} {name}"] != ""]))
+                cells.append(f"{published[size][k - 1]}%")
+            rows.append(cells)
+    return table(["processes", "k", "nothing frozen: near", "mapping found", "published", "messages frozen: anywhere", "near", "mapping found",
+                  "mapping and parts found", "published"], rows)
+
+
+def found_table(lines: Lines, found: Mapping[tuple[Any, Any], Line]) -> list[str]:
+    """How much shorter what was found is than what was placed."""
+    rows = []
+    for frozen, name in (("none", "nothing"), ("messages", "messages")):
+        for k in (0, 1, 2, 3):
+            some = [{**line, **found[line["graph"], line["k"]]} for line in fit(at(lines, max(k, 1)), frozen) if (line["graph"], line["k"]) in found]
+            if k == 0 and frozen == "none":
+                shorter = {one: [-over(line[f"base {one}"], line["base"]) for line in some] for one in ("order", "mapping")}
+            elif k and some and some[0][f"{frozen} order"] != "":
+                shorter = {one: [-over(line[f"{frozen} {one}"], line[f"{frozen} one"]) for line in some] for one in ("order", "mapping", "both")}
+            else:
+                continue
+            carried = mean([100 * line["carried"] / line["edges"] for line in some], digits=0) if frozen == "messages" else ""
+            cells = [f"{mean(shorter[one])} ({rounded(min(shorter[one]), 0)} to {rounded(max(shorter[one]), 0)})" if one in shorter else "" for one in ("order", "mapping", "both")]
+            rows.append([name, k, len(some), *cells, carried])
+    return table(["frozen", "k", "graphs", "order found", "order and mapping", "and parts", "edges that are messages"], rows)
+
+
+def parts_table(lines: Lines, found: Mapping[tuple[Any, Any], Line]) -> list[str]:
+    """Parts of a climb and of a search, as placed, with k 2 and messages frozen."""
+    rows = []
+    for size in (20, 40):
+        some = [{**line, **found[line["graph"], 2]} for line in fit(at(lines, 2, size), "messages") if (line["graph"], 2) in found]
+        shorter = [-over(line["parts"], line["climbed"]) for line in some]
+        rows.append([size, len(some), *(mean([-over(line[one], line["messages one"]) for line in some]) for one in ("messages tuned", "climbed", "parts")),
+                     share([it > 0 for it in shorter]), share([it < 0 for it in shorter]), f"{max(shorter, default=0):.1f}%"])
+    return table(["processes", "graphs", "as tuned: shorter than one part by", "by the climb", "by the search", "search shorter than climb", "longer", "shorter by, most"], rows)
 
 
 # Times
@@ -247,40 +266,45 @@ def published_table(lines: Lines) -> list[str]:
 def packs_table(times: Lines) -> list[str]:
     def row(name: object, some: Lines) -> list[object]:
         made = [line for line in some if line["compile"] != "wide"]
-        cells = [name, len(some), len(some) - len(made)]
-        for key, scale, digits in (("compile", 1000, 1), ("check", 1000, 1), ("bytes", 1000, 1)):
-            cells += spread([line[key] / scale for line in made], "", digits)
-        return cells
+        return [name, len(made), len(some) - len(made), *(mean([line[key] / 1000 for line in made], "", 1) for key in ("compile", "check", "bytes"))]
 
     conditions, faults = ([line for line in times if line["family"] == family] for family in ("conditions", "faults"))
     rows = [row(f"k 0, {size} processes, 10 to 32 tracks", [line for line in conditions if line["processes"] == size]) for size in SIZES]
-    for frozen, name in (("none", "nothing frozen"), ("messages", "messages frozen"), ("all", "all frozen")):
-        for k in FAULTS:
-            rows.append(row(f"k {k}, 20 to 60 processes, {name}", [line for line in faults if line["frozen"] == frozen and line["k"] == k]))
-    return table(["graphs", "number", "too wide", "`compile`, ms, mean", "quartiles", "`check`, ms, mean", "quartiles", "pack, kB, mean", "quartiles"], rows)
+    for frozen, name, faults_of in (("none", "nothing frozen", (1, 2, 3)), ("messages", "messages frozen", (2,)), ("all", "all frozen", (2,))):
+        for k in faults_of:
+            rows.append(row(f"k {k}, 20 to 60, {name}", [line for line in faults if line["frozen"] == frozen and line["k"] == k]))
+    return table(["graphs", "number", "too wide", "`compile`, ms", "`check`, ms", "pack, kB"], rows)
 
 
 # The page
 
 def made(top: Path) -> tuple[dict[str, list[str]], dict[str, str]]:
     """All tables by name, and all pictures by file name."""
-    conditions, faults, times = (load(top, family) for family in ("conditions", "faults", "times"))
-    by_slot = {slot: [line for line in conditions if str(line["slot"]) == slot] for slot in ("0.2", "2", "10")}
-    narrow = by_slot["2"]
+    conditions, orders, merged, faults, placed, rates, times = (load(top, it) for it in ("conditions", "orders", "merged", "faults", "placed", "rates", "times"))
+    more = [{(line["graph"], line["slot"]): line for line in lines} for lines in (orders, merged)]
+    joined = [{**line, **more[0][line["graph"], line["slot"]], **more[1][line["graph"], line["slot"]]} for line in conditions]
+    if wrong := [line for line in joined if line["compiled"] != line["worst"]]:
+        raise Differs(f"graph {wrong[0]['graph']}: reckoned {wrong[0]['compiled']}, the program says {wrong[0]['worst']}")
+    by_slot = {slot: [line for line in joined if str(line["slot"]) == slot] for slot in ("0.2", "2", "10")}
+    narrow, found = by_slot["2"], {(line["graph"], line["k"]): line for line in placed}
     tables = {
-        "tracks": tracks_table(narrow), "sizes": sizes_table(narrow), "beside": beside_table(narrow), "depends": depends_table(narrow, by_slot),
-        "bounds": bounds_table(narrow), "orders": orders_table(narrow, faults), "faults": faults_table(faults), "cuts": cuts_table(faults), "parts": parts_table(faults),
-        "frozen": frozen_table(faults), "columns": columns_table(faults), "places": places_table(faults), "published": published_table(faults),
+        "tracks": tracks_table(narrow), "causes": causes_table(narrow), "best": best_table(by_slot),
+        "orders": orders_table(narrow, faults), "rates": rates_table(rates), "faults": faults_table(faults), "cuts": cuts_table(faults),
+        "frozen": frozen_table(faults), "placed": placed_table(faults, found), "found": found_table(faults, found), "parts": parts_table(faults, found),
         "packs": packs_table(times),
     }
-    by_tracks = {tracks: gains([line for line in narrow if line["tracks"] == tracks]) for tracks in TRACKS}
+    several = [line for line in narrow if line["nodes"] > 1]
+    by_tracks = {tracks: [line for line in several if line["tracks"] == tracks] for tracks in TRACKS}
+    ways = {"longest track alone": ("alone", "worst"), "with its broadcasts": ("heard", "worst"), "best orders on both sides": ("track", "best"),
+            "merged tables": ("longest", "merged")}
+    gained = {tracks: {name: gains(some, *way) for name, way in ways.items()} for tracks, some in by_tracks.items()}
     shown = {"nothing frozen, one part": ("none", "one"), "nothing frozen, parts up to 50": ("none", "50"),
              "messages frozen, as tuned": ("messages", "tuned"), "all frozen, as tuned": ("all", "tuned")}
     by_faults = {k: {name: [added(line, *form) for line in fit(at(faults, k), *FROZEN)] for name, form in shown.items()} for k in FAULTS}
     dots = {name: [(line[f"{frozen} columns"], added(line, frozen)) for line in fit(at(faults, 2), *FROZEN)]
             for frozen, name in (("none", "nothing frozen"), ("messages", "messages frozen"), ("all", "all frozen"))}
     pictures = {
-        "study-tracks.svg": gains_by_tracks(by_tracks, NONE_PUBLISHED), "study-faults.svg": boxes_by_faults(by_faults),
+        "study-tracks.svg": gains_by_tracks(gained, NONE_PUBLISHED), "study-faults.svg": boxes_by_faults(by_faults),
         "study-frozen.svg": worst_beside_columns(dots),
     }
     return tables, pictures

@@ -72,27 +72,30 @@ def reach(values: Iterable[Any], step: float) -> float:
     return step * (int(most / step) + 1)
 
 
-def gains_by_tracks(values: Mapping[int, Sequence[float]], published: Mapping[int, float]) -> str:
-    """How much longer than the longest track, and how often no longer, by the number of tracks."""
+def gains_by_tracks(values: Mapping[int, Mapping[str, Sequence[float]]], published: Mapping[int, float]) -> str:
+    """How much longer than the longest track, and how often no longer, by the number of tracks and by what is compared."""
     canvas = Canvas()
-    low = min(statistics.quantiles(some, n=20, method="inclusive")[0] for some in values.values())
-    panel = Panel(canvas, 70, 40, 400, 280, 2 * (int(low // 2)), reach(values.values(), 2), 2, "%", "longer than the longest track alone")
-    second = Panel(canvas, 570, 40, 290, 280, 0, 100, 20, "%", "share of the graphs")
-    words(canvas, 270, 24, "the table's worst case beside the longest track alone")
-    words(canvas, 715, 24, "graphs whose table is no longer than that")
-    for place, (tracks, some) in enumerate(values.items()):
-        x, right = 70 + 400 * (place + 0.5) / len(values), 570 + 290 * (place + 0.5) / len(values)
-        panel.spread(x, 40, some, 0)
-        here = 100 * sum(value <= 0 for value in some) / len(some)
-        canvas.rect("shapes", right - 18, second.y(here), 17, second.y(0) - second.y(here), COLOURS[0], COLOURS[0])
-        canvas.rect("shapes", right + 1, second.y(published[tracks]), 17, second.y(0) - second.y(published[tracks]), "#fff", SOFT)
+    every = [some for by_way in values.values() for some in by_way.values()]
+    low = min(statistics.quantiles(some, n=20, method="inclusive")[0] for some in every)
+    panel = Panel(canvas, 70, 40, 420, 280, 2 * math.floor(low / 2), reach(every, 2), 2, "%", "longer than the longest track")
+    second = Panel(canvas, 590, 40, 270, 280, 0, 100, 20, "%", "share of the graphs")
+    words(canvas, 280, 24, "the table's worst case beside the longest track")
+    words(canvas, 725, 24, "graphs whose table is no longer")
+    for place, (tracks, by_way) in enumerate(values.items()):
+        x, right = 70 + 420 * (place + 0.5) / len(values), 590 + 270 * (place + 0.5) / len(values)
+        for number, some in enumerate(by_way.values()):
+            panel.spread(x + 20 * (number - 1.5), 16, some, number)
+            here = 100 * sum(value <= 0 for value in some) / len(some)
+            canvas.rect("shapes", right + 10 * (number - 2.5), second.y(here), 9, second.y(0) - second.y(here), PALE[number], COLOURS[number], 1)
+        canvas.rect("shapes", right + 15, second.y(published[tracks]), 9, second.y(0) - second.y(published[tracks]), "#fff", SOFT)
         for at in (x, right):
             words(canvas, at, 338, str(tracks))
-    for at in (270, 715):
+    for at in (280, 725):
         words(canvas, at, 358, "alternative tracks")
-    words(canvas, 270, 380, "box: quartiles and median; lines: 5% to 95%; diamond: mean", 11)
-    legend(canvas, boxes(canvas, [(COLOURS[0], COLOURS[0], "here"), ("#fff", SOFT, "published (recalled)")]), 575, WIDTH, 376)
-    return whole(canvas, 390, "What one table adds to the longest track scheduled alone")
+    names = next(iter(values.values()))
+    legend(canvas, boxes(canvas, [*zip(PALE, COLOURS, names), ("#fff", SOFT, "published (recalled)")]), 70, WIDTH, 377)
+    words(canvas, 440, 402, "box: quartiles and median; lines: 5% to 95%; diamond: mean; graphs with more than one processor", 11)
+    return whole(canvas, 410, "What one table adds to the longest track")
 
 
 def boxes_by_faults(values: Mapping[int, Mapping[str, Sequence[float]]]) -> str:
