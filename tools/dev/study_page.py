@@ -103,7 +103,7 @@ def causes_table(lines: Lines) -> list[str]:
             ("the best order found, over the longest track under the best one found for it", "best", "track"),
             ("merged tables, over the longest of the schedules that they are merged of", "merged", "longest"),
             ("the table, over the merged tables", "worst", "merged"), ("the table, over the best order found", "worst", "best"),
-            ("the best order of the rules, over the best order found", "rules", "best"), ("the best order found, over the bound", "best", "least")):
+            ("the best order of the rules, over the best order found", "rules", "best")):
         values = gains(several, over_what, what)
         rows.append([name, mean(values), quartiles(values), f"{max(values):.1f}%", share([it <= 0 for it in values]), share([it < 0 for it in values])])
     return table(["what is longer", "mean", "quartiles", "most", "no longer", "shorter"], rows)
@@ -118,10 +118,9 @@ def best_table(by_slot: Mapping[str, Lines]) -> list[str]:
     narrow = several["2"]
     rows = [row(f"{size} processes", [line for line in narrow if line["processes"] == size]) for size in SIZES]
     rows += [row(f"{least} to {most} processors", [line for line in narrow if least <= line["nodes"] <= most]) for least, most in ((2, 3), (4, 7), (8, 11))]
-    rows += [row(f"{least} to {most} conditions", [line for line in narrow if least <= line["conditions"] <= most]) for least, most in ((4, 5), (6, 8), (9, 18))]
-    for slot in ("10", "0.2"):
-        same = {line["graph"] for line in several[slot]}
-        rows += [row(f"slots of {slot}", several[slot]), row("the same, of 2", [line for line in narrow if line["graph"] in same])]
+    rows += [row(f"{least} to {most} conditions", [line for line in narrow if least <= line["conditions"] <= most]) for least, most in ((4, 8), (9, 18))]
+    same = {line["graph"] for line in several["10"]}
+    rows += [*(row(f"slots of {slot}", several[slot]) for slot in ("10", "0.2")), row("the first, of 2", [line for line in narrow if line["graph"] in same])]
     longer = [line for line in narrow if line["long"] != ""]
     rows += [row("10,000 tries", longer, "long"), row("the same, 2,000", longer)]
     heads = ["graphs", "number", "over the longest track alone", "with its broadcasts", "no longer", "best orders on both sides", "over the best order found",
@@ -136,10 +135,10 @@ def orders_table(lines: Lines, faults: Lines) -> list[str]:
         gained = [over(urgency, worst) for urgency, worst in pairs]
         return [name, len(pairs), share([it > 0 for it in gained]), mean(gained), quartiles(gained)]
 
-    rows = [row("k 0, 60 to 120 processes", [(line["urgency"], line["worst"]) for line in lines])]
+    rows = [row("k 0", [(line["urgency"], line["worst"]) for line in lines])]
     for k in FAULTS:
         fitting = [line for line in faults if line["k"] == k and line["none one"] != "wide"]
-        rows.append(row(f"k {k}, 20 to 60 processes", [(line["urgency"], line["none one"]) for line in fitting]))
+        rows.append(row(f"k {k}", [(line["urgency"], line["none one"]) for line in fitting]))
     return table(["graphs", "number", "track order taken", "urgency order longer by", "quartiles"], rows)
 
 
@@ -269,10 +268,10 @@ def packs_table(times: Lines) -> list[str]:
         return [name, len(made), len(some) - len(made), *(mean([line[key] / 1000 for line in made], "", 1) for key in ("compile", "check", "bytes"))]
 
     conditions, faults = ([line for line in times if line["family"] == family] for family in ("conditions", "faults"))
-    rows = [row(f"k 0, {size} processes, 10 to 32 tracks", [line for line in conditions if line["processes"] == size]) for size in SIZES]
+    rows = [row(f"k 0, {size} processes", [line for line in conditions if line["processes"] == size]) for size in SIZES[::2]]
     for frozen, name, faults_of in (("none", "nothing frozen", (1, 2, 3)), ("messages", "messages frozen", (2,)), ("all", "all frozen", (2,))):
         for k in faults_of:
-            rows.append(row(f"k {k}, 20 to 60, {name}", [line for line in faults if line["frozen"] == frozen and line["k"] == k]))
+            rows.append(row(f"k {k}, {name}", [line for line in faults if line["frozen"] == frozen and line["k"] == k]))
     return table(["graphs", "number", "too wide", "`compile`, ms", "`check`, ms", "pack, kB"], rows)
 
 
