@@ -8,7 +8,7 @@ use Rattle.std.proofs.lemmas.List.{append_cancel_left}
 use Rattle.std.proofs.lemmas.List.Sums.{fails_before_first}
 use Rattle.std.proofs.lemmas.Slice.Eq.{bytes_eq-Decides}
 use Rattle.cpg_base.specs.Graph.{Graph}
-use Rattle.cpg_tale.specs.Fetch.{Fetch}
+use Rattle.cpg_history.specs.Fetch.{Fetch}
 use Rattle.cpg_words.specs.Parts.{Text}
 use Rattle.cpg_words.specs.declared.command.Command.{Command}
 use Rattle.cpg_words.specs.declared.command.Command.TheVariants.{Show, Compile, Node}
@@ -29,7 +29,7 @@ use Rattle.cpg_order.proofs.Urgent.{one_urgency_order}
 use Rattle.cpg_order.specs.Urgency.{IsUrgencyOrder}
 use Rattle.cpg_refusal.specs.declared.halt.Halt.{Halt}
 use Rattle.cpg_refusal.specs.declared.halt.Halt.TheVariants.{Memory}
-use Rattle.cpg_inputs.specs.declared.kind.Kind.TheVariants.{GraphFile, PackFile}
+use Rattle.cpg_inputs.specs.declared.kind.FileKind.TheVariants.{GraphFile, PackFile}
 use Rattle.cpg_inputs.specs.Files.{file, files_of, limit_of}
 use Rattle.cpg_inputs.specs.Says.{Value, graph_value, tables_value}
 use Rattle.cpg_inputs.specs.Shapes.{OnGraph}

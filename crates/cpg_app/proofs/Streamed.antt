@@ -4,7 +4,7 @@ use Rattle.std.specs.Prelude.{◌⊎◌}
 use Rattle.std.proofs.lemmas.Bool.{cases_eq}
 use Rattle.std.proofs.lemmas.Option.{none-some, same_Some}
 use Rattle.cpg_io.specs.Causes.{Rose}
-use Rattle.cpg_tale.specs.Fetch.{Fetch}
+use Rattle.cpg_history.specs.Fetch.{Fetch}
 use Rattle.cpg_words.specs.Parts.{Text}
 use Rattle.cpg_words.specs.Forms.{command_of}
 use Rattle.cpg_words.specs.declared.command.Command.{Command}
@@ -15,7 +15,7 @@ use Rattle.cpg_table.specs.Lawful.{Tables}
 use Rattle.cpg_table.specs.Table.{NodeTable, table_at}
 use Rattle.cpg_refusal.specs.declared.halt.Halt.TheVariants.{Read}
 use Rattle.cpg_refusal.specs.Lines.{line_of}
-use Rattle.cpg_inputs.specs.declared.kind.Kind.TheVariants.{PackFile}
+use Rattle.cpg_inputs.specs.declared.kind.FileKind.TheVariants.{PackFile}
 use Rattle.cpg_inputs.specs.Says.{Says, tables_value}
 use Rattle.cpg_inputs.specs.Reading.{AreSound}
 use Rattle.cpg_inputs.proofs.OneReading.{says_alike}

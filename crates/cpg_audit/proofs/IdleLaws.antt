@@ -11,7 +11,7 @@ use Rattle.cpg_base.specs.Scenario.{Scenario, IsScenario}
 use Rattle.cpg_cube.specs.Column.{Column}
 use Rattle.cpg_cube.specs.Cube.{matches}
 use Rattle.cpg_cube.specs.declared.literal.Literal.{Literal}
-use Rattle.cpg_paths.specs.Columns.{column_of, columns_of_paths}
+use Rattle.cpg_tree_columns.specs.Columns.{column_of, columns_of_paths}
 use Rattle.cpg_tree.specs.Space.{HasFew}
 use Rattle.cpg_tree.specs.Tree.{Path, TreeState, IsOn, IsMap, HasOnePathEach}
 use Rattle.cpg_expand.specs.Active.{IsActivityOf}

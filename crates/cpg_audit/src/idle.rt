@@ -14,7 +14,7 @@ use cpg_base::OutOfMemory;
 use cpg_cube::Entry;
 use cpg_expand::active_item;
 use cpg_log::Logged;
-use cpg_paths::columns;
+use cpg_tree_columns::columns;
 use cpg_rules::Admitted;
 use cpg_tree::Tree;
 use std::alloc::Global;

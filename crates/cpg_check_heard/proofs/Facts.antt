@@ -20,7 +20,7 @@ use Rattle.cpg_cube.specs.Column.{Column}
 use Rattle.cpg_table.specs.Shape.{heard_by}
 use Rattle.cpg_table.specs.Heard.{exactly, value_fact, matching, facts_of_end, frame_value, facts_of_frame, facts}
 use Rattle.cpg_violation.proofs.Columnwise.{any_filter}
-use Rattle.cpg_check_heard.specs.declared.bound.Bound.{Bound}
+use Rattle.cpg_check_heard.specs.declared.bound.LiteralBound.{LiteralBound}
 use Rattle.cpg_check_heard.specs.declared.tellers.Telling.TheVariants.{End, Frame}
 use Rattle.cpg_check_heard.specs.Bounds.{tells, variable_of}
 use Rattle.cpg_check_heard.specs.Tellings.{column_tells, is_telling, row_tells, telling_of, item_telling, carried, is_value, CanTell}
@@ -64,7 +64,7 @@ frame_carried s (Start p) = refl
 frame_carried s (Message e) = refl
 frame_carried s (Broadcast c) = refl
 
-module _ (g : Graph) (tables : List NodeTable) (time : ℕ) (b : Bound) (s : Scenario) where
+module _ (g : Graph) (tables : List NodeTable) (time : ℕ) (b : LiteralBound) (s : Scenario) where
   -- ---- a process
 
   end_row : (p : ℕ) → list_any (tells b) (facts_of_end g tables s time p) ≡ row_tells g (End p) time b (columns_of tables p) s

@@ -11,7 +11,7 @@ use Rattle.cpg_base.specs.Scenario.{Scenario}
 use Rattle.cpg_table.specs.Heard.{facts}
 use Rattle.cpg_table.specs.Shape.{heard_by}
 use Rattle.cpg_table.specs.Table.{NodeTable}
-use Rattle.cpg_check_heard.specs.declared.bound.Bound.{Bound}
+use Rattle.cpg_check_heard.specs.declared.bound.LiteralBound.{LiteralBound}
 use Rattle.cpg_check_heard.specs.Bounds.{is_free, is_told, tells, variable_of}
 use Rattle.cpg_check_heard.specs.Untold.{are_told_by, item_tells, own_tells}
 use Rattle.cpg_check_heard.proofs.Facts.{facts_told}
@@ -22,7 +22,7 @@ pub heard_below : (g : Graph) (node x : ℕ) → Contains (heard_by g node) x �
 heard_below g node x among = numbers-Contains (item_count g) x (Contains-filter_parts (λ y. is_heard_by g node (item_at g y)) (numbers_below (item_count g)) x among).0
 
 -- what one row that a node hears tells is told
-pub frame_told : (g : Graph) (tables : List NodeTable) (time : ℕ) (b : Bound) (s : Scenario) → process_count g ≤ 128 → process_of_variable g (variable_of b) < process_count g
+pub frame_told : (g : Graph) (tables : List NodeTable) (time : ℕ) (b : LiteralBound) (s : Scenario) → process_count g ≤ 128 → process_of_variable g (variable_of b) < process_count g
     → (node x : ℕ) → Contains (heard_by g node) x → are_told_by g tables time b (x ∷ []) s ≡ true → not (is_told g tables node time b s) ≡ false
 frame_told g tables time b s few within node x among told =
     let one : item_tells g tables time b s x ≡ true = sym (or-false (item_tells g tables time b s x)) ∙ told in

@@ -19,8 +19,8 @@ use Rattle.cpg_cube.specs.Column.{Column, column_at}
 use Rattle.cpg_table.specs.Heard.{exactly, value_fact}
 use Rattle.cpg_violation.proofs.Tests.{with_true}
 use Rattle.cpg_violation.proofs.SieveLaws.{any_at}
-use Rattle.cpg_check_heard.specs.declared.bound.Bound.{Bound}
-use Rattle.cpg_check_heard.specs.declared.bound.Bound.TheVariants.{Low, High}
+use Rattle.cpg_check_heard.specs.declared.bound.LiteralBound.{LiteralBound}
+use Rattle.cpg_check_heard.specs.declared.bound.LiteralBound.TheVariants.{Low, High}
 use Rattle.cpg_check_heard.specs.declared.tellers.Telling.{Telling}
 use Rattle.cpg_check_heard.specs.declared.tellers.Telling.TheVariants.{End, Frame}
 use Rattle.cpg_check_heard.specs.Bounds.{tells, range_of, variable_of}
@@ -42,7 +42,7 @@ pub known_with : (g : Graph) (l : Literal) (base : List Literal) (o : Option (Li
 known_with g l base None e v k = tt
 known_with g l base (Some cube) e v k = subst (IsKnown g) (with-is l base cube (sym e)) (known-narrowed g l base v k)
 
-pub range_variable : (k : ℕ) (b : Bound) → (range_of k b).variable ≡ variable_of b
+pub range_variable : (k : ℕ) (b : LiteralBound) → (range_of k b).variable ≡ variable_of b
 range_variable k (Low v least) = refl
 range_variable k (High v most) = refl
 
@@ -59,7 +59,7 @@ off_both true true r e = absurd (true≢false e)
 off_both true false r e = refl
 off_both false h r e = refl
 
-module _ (g : Graph) (few : process_count g ≤ 128) (p : ℕ) (c : Column) (time : ℕ) (b : Bound) (can : CanTell g b (End p)) (known : IsVariable g (variable_of b))
+module _ (g : Graph) (few : process_count g ≤ 128) (p : ℕ) (c : Column) (time : ℕ) (b : LiteralBound) (can : CanTell g b (End p)) (known : IsVariable g (variable_of b))
     (counts : ℕ) (come : (n : ℕ) → n ≤ g.faults → nat_le (c.time + duration g p n) time ≡ nat_lt n counts) where
   -- an end tells if the count is below a number and the variable is within the bound
   end_is : (s : Scenario) → IsScenario g s → column_tells g (End p) time b s c ≡ (nat_lt (number_of s p) counts && holds s (range_of g.faults b))
@@ -86,7 +86,7 @@ module _ (g : Graph) (few : process_count g ≤ 128) (p : ℕ) (c : Column) (tim
 
 -- ---- of frames
 
-module _ (g : Graph) (few : process_count g ≤ 128) (delay : ℕ) (o : Option ℕ) (c : Column) (time : ℕ) (b : Bound) (known : IsVariable g (variable_of b)) where
+module _ (g : Graph) (few : process_count g ≤ 128) (delay : ℕ) (o : Option ℕ) (c : Column) (time : ℕ) (b : LiteralBound) (known : IsVariable g (variable_of b)) where
   frame_is : (s : Scenario) → nat_le (c.time + delay) time ≡ true → column_tells g (Frame delay o) time b s c ≡ (list_any (tells b) c.cube || (is_value o (variable_of b) && side b (number_of s (variable_of b))))
   frame_is s e = ap (λ t. t && list_any (tells b) (c.cube ++ value_fact s o)) e ∙ list_any-append (tells b) c.cube (value_fact s o) ∙ ap (λ t. list_any (tells b) c.cube || t) (value_side s b o)
 
@@ -129,7 +129,7 @@ pub row_more : {X : Type 0} (test : X → Bool) (places : List X) (i : ℕ) (d :
 row_more test places i d h a r n e f = f ∙ ap (λ t. t || test (get_or places i d)) e ∙ or_assoc a (list_any test (take i places)) (test (get_or places i d)) ∙ ap (λ t. a || t) (sym (list_any_more test places i d h))
 
 -- a row's places among which each column is that matches together with a cube tell what the row does
-pub row_all : (g : Graph) (telling : Telling) (time : ℕ) (b : Bound) (columns : List Column) (places : List ℕ) (s : Scenario)
+pub row_all : (g : Graph) (telling : Telling) (time : ℕ) (b : LiteralBound) (columns : List Column) (places : List ℕ) (s : Scenario)
     → ((i : ℕ) → i < length columns → matches (column_at columns i).cube s ≡ true → Contains places i)
     → list_any (is_telling_at g telling time b columns s) places ≡ row_tells g telling time b columns s
 row_all g telling time b columns places s among = sym (any_at (is_telling g telling time b s) columns places

@@ -13,7 +13,7 @@ use Rattle.cpg_cube.specs.declared.literal.Literal.{Literal}
 use Rattle.cpg_head.specs.Head.{Head, IsHead, IsHeadProcess, version_of}
 use Rattle.cpg_head.specs.declared.head_parts.HeadProcess.{HeadProcess}
 use Rattle.cpg_head.specs.declared.head_parts.Extra.{Extra}
-use Rattle.cpg_table.specs.declared.space.Space.{Space}
+use Rattle.cpg_table.specs.declared.space.VariableSpace.{VariableSpace}
 use Rattle.cpg_table.specs.Items.{numbers_where, conditioned, starts_of, sends_of, hears_of, leaves, enters, first_message, first_broadcast}
 use Rattle.cpg_table.specs.Lawful.{IsLawfulColumn, IsLawfulRow, IsTableOf, column_count, rows_of, space_of}
 use Rattle.cpg_table.specs.Table.{Row, NodeTable, table_at}
@@ -65,26 +65,26 @@ literals_long ls = pieces literal_bytes 3 ls (each ls) where
   each (l ∷ ls) = (literal_long l, each ls)
 
 -- a cube has a literal for each variable at most
-column_room : (s : Space) (c : Column) → IsSpace s → IsLawfulColumn s c → length c.cube ≤ 160
+column_room : (s : VariableSpace) (c : Column) → IsSpace s → IsLawfulColumn s c → length c.cube ≤ 160
 column_room s c i h = within (fault_end s) s.conditions (length c.cube) (few_fault s i) i.conditions (literals_room s 0 c.cube (few_fault s i) (column_literals s c i h))
   where
     within : (e k n : ℕ) → e ≤ 128 → k ≤ 32 → n ≤ (e - 0) + ((128 + k) - max 128 0) → n ≤ 160
     within e k n a b r = omega arith
 
-column_long : (s : Space) → IsSpace s → (c : Column) → IsLawfulColumn s c → length (column_bytes c) ≤ 489
+column_long : (s : VariableSpace) → IsSpace s → (c : Column) → IsLawfulColumn s c → length (column_bytes c) ≤ 489
 column_long s i c h =
     let parts = three (to_be_bytes w64 c.time) (byte (length c.cube)) (flat_map literal_bytes c.cube) in
     let literals = literals_long c.cube in
     let room = column_room s c i h in
     omega (arith, parts, literals, room)
 
-row_long : (s : Space) → IsSpace s → (r : Row) → IsLawfulRow s r → length (row_bytes r) ≤ length r.columns * 489 + 2
+row_long : (s : VariableSpace) → IsSpace s → (r : Row) → IsLawfulRow s r → length (row_bytes r) ≤ length r.columns * 489 + 2
 row_long s i r h =
     let parts = length-append (to_be_bytes w16 (length r.columns)) (flat_map column_bytes r.columns) in
     let columns = all_pieces (IsLawfulColumn s) column_bytes 489 r.columns (column_long s i) h.columns in
     omega (arith, parts, columns)
 
-rows_long : (s : Space) → IsSpace s → (rows : List Row) → AllByRecursion (IsLawfulRow s) rows → length (flat_map row_bytes rows) ≤ column_count rows * 489 + length rows * 2
+rows_long : (s : VariableSpace) → IsSpace s → (rows : List Row) → AllByRecursion (IsLawfulRow s) rows → length (flat_map row_bytes rows) ≤ column_count rows * 489 + length rows * 2
 rows_long s i [] h = omega arith
 rows_long s i (r ∷ rows) h =
     let one = row_long s i r h.0 in

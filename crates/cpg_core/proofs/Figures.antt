@@ -11,7 +11,7 @@ use Rattle.cpg_expand.specs.declared.expanding.Grown.{Grown}
 use Rattle.cpg_latest.specs.Laws.{HasFigures}
 use Rattle.cpg_core.specs.Accepted.{IsAccepted, IsTaken, order_taken}
 use Rattle.cpg_core.specs.Compiled.{IsBetter, IsLateUnder, IsMeasured}
-use Rattle.cpg_core.specs.declared.choosing.Taken.{Taken}
+use Rattle.cpg_core.specs.declared.choosing.TakenOrder.{TakenOrder}
 use Rattle.cpg_core.proofs.Compilations.{found_measured}
 use Rattle.cpg_core.proofs.CompiledLaws.{not_preferred_given, not_preferred_many, not_preferred_wide, not_preferred_worse, one_measure, preferred}
 use Rattle.cpg_core.proofs.MeasuredFrom.{measured_from}
@@ -25,7 +25,7 @@ module _ (g : Graph) (w : WellFormed g) (urgency : List ℕ) (top : IsTopologica
     own = figures_measure g w urgency (first_order g urgency) first_top e v first
 
     -- the first order is taken
-    abbrev pub by_first : Taken
+    abbrev pub by_first : TakenOrder
     by_first = record { figures = record { excess = e; worst = v }; order = None }
 
     pub first_given : g.order ≢ None → IsTaken g urgency by_first
@@ -128,7 +128,7 @@ module _ (g : Graph) (w : WellFormed g) (urgency : List ℕ) (top : IsTopologica
   tracked_in_time order order_top t is e v m z = (one_measure g w urgency order order_top t.excess.time t.worst.time e v (found_measured g urgency order t is) m).0 ∙ z
 
 -- a graph under whose compile's order nothing is late is accepted
-pub accepted : (g : Graph) (urgency : List ℕ) (t : Taken) → (g.order ≡ None → IsNarrow g (first_order g urgency)) → IsTaken g urgency t → t.figures.excess ≡ 0 → IsAccepted g urgency t.figures.worst
+pub accepted : (g : Graph) (urgency : List ℕ) (t : TakenOrder) → (g.order ≡ None → IsNarrow g (first_order g urgency)) → IsTaken g urgency t → t.figures.excess ≡ 0 → IsAccepted g urgency t.figures.worst
 accepted g urgency t narrow a e =
     let order = order_taken (first_order g urgency) t.order in
     let is : IsMeasured g urgency order 0 t.figures.worst = subst (λ n. IsMeasured g urgency order n t.figures.worst) e a.measured in

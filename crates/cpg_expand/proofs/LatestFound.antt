@@ -10,7 +10,7 @@ use Rattle.cpg_base.specs.Scenario.{Scenario, IsScenario}
 use Rattle.cpg_base.proofs.Lists.{Contains-cases, Contains-nil}
 use Rattle.cpg_rules.specs.Guards.{Guards}
 use Rattle.cpg_run.proofs.Sends.{in_next}
-use Rattle.cpg_paths.specs.Meeting.{HasWhere, IsMostWhere, IsNowhere}
+use Rattle.cpg_tree_columns.specs.Meeting.{HasWhere, IsMostWhere, IsNowhere}
 use Rattle.cpg_tree.specs.Space.{HasFew}
 use Rattle.cpg_tree.specs.Tree.{TreeState}
 use Rattle.cpg_tree.proofs.OnePath.{scenario_few, the_path}

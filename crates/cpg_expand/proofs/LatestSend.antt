@@ -14,8 +14,8 @@ use Rattle.cpg_order.specs.Urgency.{IsTopological}
 use Rattle.cpg_run.specs.Run.{Times, IsRun, end_in, time_in, send_bounds, unfrozen_time}
 use Rattle.cpg_run.proofs.Bounded.{send_bounds_le}
 use Rattle.cpg_run.proofs.RunExists.{a_run}
-use Rattle.cpg_paths.specs.Greatest.{HasValue}
-use Rattle.cpg_paths.specs.Meeting.{HasWhere}
+use Rattle.cpg_tree_columns.specs.Greatest.{HasValue}
+use Rattle.cpg_tree_columns.specs.Meeting.{HasWhere}
 use Rattle.cpg_tree.specs.Space.{HasFew}
 use Rattle.cpg_tree.specs.Tree.{Path, TreeState, IsOn}
 use Rattle.cpg_tree.proofs.OnePath.{scenario_few, the_path}

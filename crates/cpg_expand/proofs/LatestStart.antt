@@ -12,8 +12,8 @@ use Rattle.cpg_rules.specs.Guards.{Guards}
 use Rattle.cpg_run.proofs.Bounded.{start_bounds_le}
 use Rattle.cpg_run.proofs.RunExists.{a_run}
 use Rattle.cpg_run.specs.Run.{Times, IsRun, end_in, heard_there, input_there, input_bounds, start_bounds, unfrozen_time}
-use Rattle.cpg_paths.specs.Greatest.{HasValue}
-use Rattle.cpg_paths.specs.Meeting.{HasWhere}
+use Rattle.cpg_tree_columns.specs.Greatest.{HasValue}
+use Rattle.cpg_tree_columns.specs.Meeting.{HasWhere}
 use Rattle.cpg_tree.specs.Tree.{Path, TreeState, IsOn}
 use Rattle.cpg_tree.proofs.OnePath.{scenario_few, the_path}
 use Rattle.cpg_expand.specs.Agreeing.{IsTree}

@@ -8,7 +8,7 @@ use Rattle.cpg_base.specs.Graph.{Graph, process_count}
 use Rattle.cpg_base.specs.Duration.{due}
 use Rattle.cpg_base.specs.Scenario.{zero_scenario, is_before, Scenario, IsScenario}
 use Rattle.cpg_base.proofs.ScenarioOrder.{before_one_way, not_before_transitive}
-use Rattle.cpg_paths.specs.Greatest.{HasValue, IsGreatestOf}
+use Rattle.cpg_tree_columns.specs.Greatest.{HasValue, IsGreatestOf}
 use Rattle.cpg_tree.specs.Tree.{Path, TreeState, IsOn}
 use Rattle.cpg_expand.specs.Agreeing.{IsTree}
 use Rattle.cpg_expand.specs.Tops.{IsTop, HasFrom, reaches}

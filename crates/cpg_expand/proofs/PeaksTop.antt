@@ -11,7 +11,7 @@ use Rattle.cpg_base.specs.Duration.{due}
 use Rattle.cpg_base.specs.Numbers.{numbers_below}
 use Rattle.cpg_base.proofs.Lists.{Contains-map_parts, get_or-map-below, greatest_cases}
 use Rattle.cpg_base.specs.Scenario.{Scenario, IsScenario}
-use Rattle.cpg_paths.specs.Greatest.{IsMost}
+use Rattle.cpg_tree_columns.specs.Greatest.{IsMost}
 use Rattle.cpg_tree.specs.Tree.{Path, TreeState}
 use Rattle.cpg_tree.proofs.Passing.{known_from}
 use Rattle.cpg_expand.specs.Agreeing.{IsTree}

@@ -29,7 +29,7 @@ use Rattle.cpg_cube.specs.Column.{Column}
 use Rattle.cpg_run.specs.Run.{Times, IsRun, end_in, time_in, frame_there, input_there, heard_there, start_bounds}
 use Rattle.cpg_run.specs.Known.{AreSmall}
 use Rattle.cpg_run.proofs.Runs.{acts_start, before_below, end_active, end_is, has_end, has_time, hearing_below, time_parts}
-use Rattle.cpg_paths.specs.Greatest.{HasValue}
+use Rattle.cpg_tree_columns.specs.Greatest.{HasValue}
 use Rattle.cpg_tree.specs.Space.{HasFew}
 use Rattle.cpg_tree.specs.Tree.{Path, TreeState, IsOn, HasOnePathEach}
 use Rattle.cpg_tree.proofs.OnePath.{scenario_few, the_path}

@@ -23,7 +23,7 @@ use Rattle.cpg_run.proofs.RunExists.{a_run}
 use Rattle.cpg_run.specs.Carried.{row_at, carried}
 use Rattle.cpg_run.specs.RowLaws.{IsTimed}
 use Rattle.cpg_run.proofs.EntriesMerge.{the_one, every}
-use Rattle.cpg_paths.specs.Columns.{column_of, columns_of_paths, IsTidyColumn}
+use Rattle.cpg_tree_columns.specs.Columns.{column_of, columns_of_paths, IsTidyColumn}
 use Rattle.cpg_cube.specs.Keys.{AreByLows}
 use Rattle.cpg_cube.proofs.KeyOrder.{permutation_of_equal}
 use Rattle.cpg_tree.specs.Tree.{HasOnePathEach, Path, TreeState, is_on}

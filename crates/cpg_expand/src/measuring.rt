@@ -10,7 +10,7 @@ ghost use Rattle.cpg_expand.specs.Tops.{AreTops};
 use crate::tops::{bar_of, past_tops, reaches};
 use crate::values::past;
 use cpg_base::{Order, OutOfMemory, Problem, Scenario, is_before};
-use cpg_paths::greatest;
+use cpg_tree_columns::greatest;
 use cpg_tree::Tree;
 use std::alloc::Global;
 

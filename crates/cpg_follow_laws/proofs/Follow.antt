@@ -27,7 +27,7 @@ use Rattle.cpg_cluster.proofs.Finishing.{may_finish, table_ready}
 use Rattle.cpg_cluster.proofs.Reached.{Reached, reached_open, reached_step, free_from, coming, ends_are, dispatchers_at}
 use Rattle.cpg_cluster.proofs.Plays.{played_of, done_next, valid_tables_are_correct}
 use Rattle.cpg_live.specs.declared.event.Event.TheVariants.{Close}
-use Rattle.cpg_live.specs.Stream.{Progress, Step, lawful, start}
+use Rattle.cpg_live.specs.Stream.{NodeProgress, Step, lawful, start}
 use Rattle.cpg_live.specs.Told.{follow_one, follow, after_last, HasCome, told_ends, IsFollowed}
 use Rattle.cpg_live.proofs.Told.{turns_are_followed, closes_are_followed}
 use Rattle.cpg_live.proofs.Turns.{floor_after, turned_zero}
@@ -102,7 +102,7 @@ module _ {g : Graph} {tables : List NodeTable} {w : World} (k : Played g tables 
         ]) z known)))
 
     -- the turn of a play is followed
-    followed : (p : Progress) → HasCome p (dispatcher_at c a) (get_or c.acts a []) →
+    followed : (p : NodeProgress) → HasCome p (dispatcher_at c a) (get_or c.acts a []) →
         IsFollowed p (dispatcher_at c a) (get_or c.acts a []) time (by_time (reports_now g w (dispatcher_at c a) time)) frames
     followed p h =
         let d : Dispatcher = dispatcher_at c a in
@@ -119,7 +119,7 @@ module _ {g : Graph} {tables : List NodeTable} {w : World} (k : Played g tables 
         after_is (Some last) moment h = floor_after (Some last) moment h
 
     -- if a turn of a play is followed, the stream comes to the cluster's next state
-    turn_followed : (p : Progress) → HasCome p (dispatcher_at c a) (get_or c.acts a []) →
+    turn_followed : (p : NodeProgress) → HasCome p (dispatcher_at c a) (get_or c.acts a []) →
         let s = follow (lawful p) (told_at g w c a time) in (s.fault ≡ None) × HasCome s.progress (dispatcher_at (take_turn g w c a time) a) (get_or (take_turn g w c a time).acts a [])
     turn_followed p h =
         let d : Dispatcher = dispatcher_at c a in
@@ -143,7 +143,7 @@ whole : (s : Step) → s.fault ≡ None → lawful s.progress ≡ s
 whole s e = ap (λ o. record { progress = s.progress; fault = o }) (sym e)
 
 module _ {g : Graph} {tables : List NodeTable} {w : World} (k : Played g tables w) (node : ℕ) (l : node < length g.nodes) where
-  step_followed : (c : Cluster) → Reached g tables w c → (a : ℕ) (p : Progress) → HasCome p (dispatcher_at c node) (get_or c.acts node []) →
+  step_followed : (c : Cluster) → Reached g tables w c → (a : ℕ) (p : NodeProgress) → HasCome p (dispatcher_at c node) (get_or c.acts node []) →
       Comes g (step g w c a) node (follow (lawful p) (told_in_step g w c a node))
   step_followed c r a p h = elim (cases_eq a node) [
     | inl is ↦ subst (λ es. Comes g (step g w c a) node (follow (lawful p) es)) (sym (cond-true (a == node) _ _ (eq-eqb a node is)))
@@ -169,7 +169,7 @@ module _ {g : Graph} {tables : List NodeTable} {w : World} (k : Played g tables 
       other (Waits b) o ne = (refl, h)
       other IsDone o ne = (refl, h)
 
-  play_followed : (turns : List ℕ) (c : Cluster) → Reached g tables w c → (p : Progress) → HasCome p (dispatcher_at c node) (get_or c.acts node []) →
+  play_followed : (turns : List ℕ) (c : Cluster) → Reached g tables w c → (p : NodeProgress) → HasCome p (dispatcher_at c node) (get_or c.acts node []) →
       Comes g (play g w c turns) node (follow (lawful p) (told_in g w c node turns))
   play_followed [] c r p h = (refl, h)
   play_followed (a ∷ rest) c r p h =

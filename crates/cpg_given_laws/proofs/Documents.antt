@@ -9,7 +9,7 @@ use Rattle.cpg_reader.specs.declared.place.Table.TheVariants as tables
 use Rattle.cpg_reader.specs.declared.place.Key.{Key}
 use Rattle.cpg_reader.specs.declared.place.Key.TheVariants.{Faults, Deadline, Node, Slot, Process as Processes, Edge, Order}
 use Rattle.cpg_reader.specs.Reading.{pure, ◌>>=◌}
-use Rattle.cpg_reader.specs.Rows.{Row, text_of, as_names, as_tables, optional_in, optional, required_in, integer_at, tables_at, are_listed, only}
+use Rattle.cpg_reader.specs.Rows.{DocumentRow, text_of, as_names, as_tables, optional_in, optional, required_in, integer_at, tables_at, are_listed, only}
 use Rattle.cpg_reader.specs.Shape.{RawGraph, process_at, rows_at, node_at, slot_at, edge_at, raw_graph_at}
 use Rattle.cpg_reader.specs.WrittenTree.{with_member}
 use Rattle.cpg_reader.proofs.Steps.{same_ok}
@@ -22,7 +22,7 @@ use Rattle.cpg_given_laws.proofs.Members.{Differs, other_key, own_key, still_lis
 abbrev top_keys : List Key
 top_keys = Faults ∷ Deadline ∷ Node ∷ Slot ∷ Processes ∷ Edge ∷ Order ∷ []
 
-abbrev top_of : Members → Row
+abbrev top_of : Members → DocumentRow
 top_of ms = record { table = tables.Top; index = 0; members = ms }
 
 -- a document with other values at the key `order`

@@ -1,7 +1,7 @@
 -- What was read behind a graph is of that graph.
 use Rattle.std.proofs.Common.{ℕ, ◌≡◌, List, [], ◌∷◌, Some, None, refl, subst}
 use Rattle.cpg_base.specs.Graph.{Graph}
-use Rattle.cpg_tale.specs.Fetch.{Fetch}
+use Rattle.cpg_history.specs.Fetch.{Fetch}
 use Rattle.cpg_words.specs.Parts.{Text}
 use Rattle.cpg_words.specs.declared.command.Command.{Command}
 use Rattle.cpg_words.specs.declared.command.Command.TheVariants.{Play, Audit}
@@ -10,7 +10,7 @@ use Rattle.cpg_table.specs.Lawful.{Tables}
 use Rattle.cpg_log.specs.Log.{Log, IsLog}
 use Rattle.cpg_scenario.specs.File.{IsPlayed}
 use Rattle.cpg_scenario.specs.declared.reading.Played.{Played}
-use Rattle.cpg_inputs.specs.declared.kind.Kind.TheVariants.{ScenarioFile, LogFile}
+use Rattle.cpg_inputs.specs.declared.kind.FileKind.TheVariants.{ScenarioFile, LogFile}
 use Rattle.cpg_inputs.specs.declared.inputs.Inputs.{Inputs}
 use Rattle.cpg_inputs.specs.Files.{files_of}
 use Rattle.cpg_inputs.specs.Inputs.{AreFit, HasInputs}

@@ -1,7 +1,7 @@
 -- What reading leaves of a shelf, file after file.
 use Rattle.std.proofs.Common.{ℕ, ◌≡◌, ◌∙◌, List, ◌∷◌, true, arith, refl, sym, inl, inr}
 use Rattle.std.specs.Prelude.{◌⊎◌}
-use Rattle.cpg_tale.specs.Fetch.{Fetch}
+use Rattle.cpg_history.specs.Fetch.{Fetch}
 use Rattle.cpg_io.specs.Causes.{Rose}
 use Rattle.cpg_io.specs.Shelf.{KeepsShelf, SameLeave}
 use Rattle.cpg_io.specs.State.{ShelfState}

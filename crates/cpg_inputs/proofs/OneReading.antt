@@ -4,7 +4,7 @@ use Rattle.std.specs.Prelude.{Result, Ok, Err}
 use Rattle.std.proofs.lemmas.Bool.{both_ways, true≢false}
 use Rattle.std.proofs.lemmas.List.{append_assoc, length-append}
 use Rattle.cpg_base.specs.Graph.{Graph}
-use Rattle.cpg_tale.specs.Fetch.{Fetch}
+use Rattle.cpg_history.specs.Fetch.{Fetch}
 use Rattle.cpg_words.specs.Parts.{Text}
 use Rattle.cpg_order.proofs.Urgent.{one_urgency_order}
 use Rattle.cpg_order.specs.Urgency.{IsUrgencyOrder}
@@ -18,8 +18,8 @@ use Rattle.cpg_log.proofs.ReadingLaws.{no_bad_line}
 use Rattle.cpg_refusal.specs.declared.halt.Halt.{Halt}
 use Rattle.cpg_refusal.specs.declared.halt.Halt.TheVariants.{Memory}
 use Rattle.cpg_refusal.specs.Halts.{halt_of_rules}
-use Rattle.cpg_inputs.specs.declared.kind.Kind.{Kind}
-use Rattle.cpg_inputs.specs.declared.kind.Kind.TheVariants.{GraphFile, PartFile, PackFile, ScenarioFile, LogFile}
+use Rattle.cpg_inputs.specs.declared.kind.FileKind.{FileKind}
+use Rattle.cpg_inputs.specs.declared.kind.FileKind.TheVariants.{GraphFile, PartFile, PackFile, ScenarioFile, LogFile}
 use Rattle.cpg_inputs.specs.Files.{File}
 use Rattle.cpg_inputs.specs.Says.{Value, graph_value, part_value, tables_value, played_value, log_value, graph_after, AreAdmitted, Refuses, Says}
 use Rattle.cpg_inputs.specs.Reading.{IsRead, Reads, StopsAt, StopsReading}
@@ -75,7 +75,7 @@ AllAlike (v ∷ vs) (w ∷ ws) = IsAlike v w × AllAlike vs ws
 as_known : (v w x y : Value) → v ≡ x → w ≡ y → IsAlike x y → IsAlike v w
 as_known v w x y e f k = subst (λ u. IsAlike u w) (sym e) (subst (IsAlike x) (sym f) k)
 
-pub says_alike : (g : Option Graph) (k : Kind) (bytes : Text) (v w : Value) → Says g k bytes v → Says g k bytes w → IsAlike v w
+pub says_alike : (g : Option Graph) (k : FileKind) (bytes : Text) (v w : Value) → Says g k bytes v → Says g k bytes w → IsAlike v w
 says_alike g GraphFile bytes v w (a, e, x) (b, f, y) = as_known v w (graph_value a) (graph_value b) e f (admitted_alike bytes a b x y)
 says_alike g PartFile bytes v w (a, e, x) (b, f, y) = as_known v w (part_value a) (part_value b) e f (same_value (problem_of bytes) b a y x)
 says_alike g PackFile bytes v w (t, e, x) (u, f, y) = as_known v w (tables_value t) (tables_value u) e f (sym (one_spelling t u [] x.lawful y.lawful (sym x.spelled ∙ y.spelled ∙ sym (append-nil _))).0)
@@ -85,7 +85,7 @@ says_alike None ScenarioFile bytes v w x y = absurd x
 says_alike None LogFile bytes v w x y = absurd x
 
 -- the same graph comes after two values that the same bytes say
-pub says_after : (g : Option Graph) (k : Kind) (bytes : Text) (v w : Value) → Says g k bytes v → Says g k bytes w → graph_after g w ≡ graph_after g v
+pub says_after : (g : Option Graph) (k : FileKind) (bytes : Text) (v w : Value) → Says g k bytes v → Says g k bytes w → graph_after g w ≡ graph_after g v
 says_after g GraphFile bytes v w (a, e, x) (b, f, y) = ap (graph_after g) f ∙ (ap Some (admitted_alike bytes a b x y).graph ∙ sym (ap (graph_after g) e))
 says_after g PartFile bytes v w (a, e, x) (b, f, y) = ap (graph_after g) f ∙ sym (ap (graph_after g) e)
 says_after g PackFile bytes v w (t, e, x) (u, f, y) = ap (graph_after g) f ∙ sym (ap (graph_after g) e)
@@ -96,7 +96,7 @@ says_after None LogFile bytes v w x y = absurd x
 
 -- ---- no file that is read stops a run
 
-pub not_refused : (g : Option Graph) (k : Kind) (bytes : Text) (v : Value) (h : Halt) → Says g k bytes v → Refuses g k bytes h → h ≡ Memory
+pub not_refused : (g : Option Graph) (k : FileKind) (bytes : Text) (v : Value) (h : Halt) → Says g k bytes v → Refuses g k bytes h → h ≡ Memory
 not_refused g GraphFile bytes v h (a, e, x) (inl faulty) = absurd (not_both (problem_of bytes) a.graph faulty.fault x.says faulty.first)
 not_refused g GraphFile bytes v h (a, e, x) (inr none) =
     let b = none.breaks in
@@ -194,7 +194,7 @@ abbrev pub AllLawful : List Value → Type 0
 AllLawful [] = Unit {0}
 AllLawful (v ∷ vs) = IsLawfulValue v × AllLawful vs
 
-value_lawful : (g : Option Graph) (k : Kind) (bytes : Text) (v : Value) → Says g k bytes v → IsLawfulValue v
+value_lawful : (g : Option Graph) (k : FileKind) (bytes : Text) (v : Value) → Says g k bytes v → IsLawfulValue v
 value_lawful g GraphFile bytes v (a, e, x) = subst IsLawfulValue (sym e) x.admitted
 value_lawful g PartFile bytes v (a, e, x) = subst IsLawfulValue (sym e) tt
 value_lawful g PackFile bytes v (t, e, x) = subst IsLawfulValue (sym e) x.lawful

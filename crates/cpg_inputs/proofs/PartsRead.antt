@@ -3,13 +3,13 @@ use Rattle.std.proofs.Common.{◌≡◌, ℕ, ◌+◌, ◌<◌, ◌≤◌, List,
 use Rattle.std.specs.Prelude.{All}
 use Rattle.std.proofs.lemmas.List.{get_or-map, length-map, take_all, take_more, take-append-drop}
 use Rattle.cpg_base.specs.Graph.{Graph}
-use Rattle.cpg_tale.specs.Fetch.{Fetch}
+use Rattle.cpg_history.specs.Fetch.{Fetch}
 use Rattle.cpg_words.specs.Parts.{Text}
 use Rattle.cpg_words.specs.declared.command.Pair.{Pair}
 use Rattle.cpg_hyper.specs.declared.part.Part.{Part}
 use Rattle.cpg_refusal.specs.declared.halt.Halt.{Halt}
 use Rattle.cpg_refusal.specs.declared.halt.Halt.TheVariants.{Memory}
-use Rattle.cpg_inputs.specs.declared.kind.Kind.TheVariants.{PartFile}
+use Rattle.cpg_inputs.specs.declared.kind.FileKind.TheVariants.{PartFile}
 use Rattle.cpg_inputs.specs.Files.{file, part_files}
 use Rattle.cpg_inputs.specs.Says.{part_value}
 use Rattle.cpg_inputs.specs.Shapes.{HavePeriods, part_values}

@@ -1,7 +1,7 @@
 -- Files that are read one after another.
 use Rattle.std.proofs.Common.{List, [], ◌∷◌, ◌++◌, Option, subst, inl, inr}
 use Rattle.cpg_base.specs.Graph.{Graph}
-use Rattle.cpg_tale.specs.Fetch.{Fetch}
+use Rattle.cpg_history.specs.Fetch.{Fetch}
 use Rattle.cpg_refusal.specs.declared.halt.Halt.{Halt}
 use Rattle.cpg_inputs.specs.Files.{File}
 use Rattle.cpg_inputs.specs.Says.{Value, graph_after}

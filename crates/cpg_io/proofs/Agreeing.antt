@@ -4,7 +4,7 @@ use Rattle.std.specs.Prelude.{Result, Ok, Err}
 use Rattle.std.specs.Io.KnownBytes.{Consumes, IsAtEnd, Keeps, ReadConsumes}
 use Rattle.std.proofs.KnownBytes.{Consumes-kept, Consumes-trans}
 use Rattle.std.proofs.lemmas.List.Elements.{All-append, All-cons, All-nil}
-use Rattle.cpg_tale.specs.Fetch.{Fetch, failed, gave, is_none}
+use Rattle.cpg_history.specs.Fetch.{Fetch, failed, gave, is_none}
 use Rattle.cpg_io.specs.Agreement.{Agrees, AreFetched, IsFrontOf, IsLeft, IsRestLeft, LeavesRest}
 use Rattle.cpg_io.specs.Shelf.{HasGiven, SameNames, StartsAt, opened}
 use Rattle.cpg_io.specs.State.{ShelfState}

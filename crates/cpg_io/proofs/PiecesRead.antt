@@ -1,7 +1,7 @@
 -- A piece is read of the fetch before.
 use Rattle.std.proofs.Common.{ℕ, ◌≡◌, ◌∙◌, ◌||◌, true, List, ◌∷◌, ◌++◌, ap, drop, length}
 use Rattle.std.specs.Prelude.{Result, Ok, Err}
-use Rattle.cpg_tale.specs.Fetch.{Fetch, failed, gave, is_none}
+use Rattle.cpg_history.specs.Fetch.{Fetch, failed, gave, is_none}
 use Rattle.cpg_io.specs.Reading.{GivesPiece}
 use Rattle.cpg_io.specs.declared.reading.ReadAll.{ReadAll}
 use Rattle.cpg_io.specs.declared.reading.ReadAll.TheVariants.{Failed, TooLong, OutOfMemory}

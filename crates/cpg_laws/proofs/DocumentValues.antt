@@ -9,7 +9,7 @@ use Rattle.cpg_reader.specs.declared.shape.RawSlot.{RawSlot}
 use Rattle.cpg_reader.specs.declared.shape.RawProcess.{RawProcess}
 use Rattle.cpg_reader.specs.declared.shape.RawEdge.{RawEdge}
 use Rattle.cpg_reader.specs.Reading.{Reading, pure, ◌>>=◌, ◌>>◌, each}
-use Rattle.cpg_reader.specs.Rows.{Row, value_at, text_of, as_name, as_names, as_tables, typed_in, optional_in, optional, required_in, required, with_default, name_at, integer_at, integer_or, flag_or, tables_at}
+use Rattle.cpg_reader.specs.Rows.{DocumentRow, value_at, text_of, as_name, as_names, as_tables, typed_in, optional_in, optional, required_in, required, with_default, name_at, integer_at, integer_or, flag_or, tables_at}
 use Rattle.cpg_reader.specs.Shape.{RawGraph, node_at, slot_at, process_at, edge_at, rows_at, raw_graph_at}
 use Rattle.cpg_laws.specs.GraphFiles.{top_of, elements}
 
@@ -44,7 +44,7 @@ name_in ms key = unwrap_or (value_in as_name ms key) []
 abbrev pub integer_in : Members → Key → ℤ → ℤ
 integer_in ms key absent = unwrap_or (value_in as_integer ms key) absent
 
-module _ {T : Type 0} (as_type : Data → Option T) (row : Row) (key : Key) where
+module _ {T : Type 0} (as_type : Data → Option T) (row : DocumentRow) (key : Key) where
   optional_by : (o : Option Data) → Gives (optional_in row key as_type o) (option_and_then as_type o)
   optional_by None = pure_gives None
   optional_by (Some d) = by (as_type d)
@@ -86,7 +86,7 @@ edge_in ms = record { from = name_in ms From; to = name_in ms To; bytes = intege
 abbrev pub graph_in : Members → RawGraph
 graph_in ms = record { faults = integer_in ms Faults (pos 0); deadline = integer_in ms Deadline (pos 0); nodes = map node_in (elements ms Node); slots = map slot_in (elements ms Slot); processes = map process_in (elements ms Process); edges = map edge_in (elements ms Edge); order = value_in as_names ms Order }
 
-module _ (row : Row) where
+module _ (row : DocumentRow) where
   name_gives : (key : Key) → Gives (name_at row key) (name_in row.members key)
   unfolding name_at
   name_gives key = required_gives as_name row key []
@@ -126,7 +126,7 @@ module _ (row : Row) where
   unfolding edge_at
   edge_gives = bind_gives _ _ _ _ (name_gives From) (bind_gives _ _ _ _ (name_gives To) (bind_gives _ _ _ _ (integer_or_gives Bytes (pos 1)) (bind_gives _ _ _ _ (optional_gives as_bool row When) (bind_gives _ _ _ _ (flag_gives Frozen false) (seq_gives _ _ _ (pure_gives _))))))
 
-rows_give : {T : Type 0} (table : Table) (element_at : Row → Reading T) (element_in : Members → T) → ((row : Row) → Gives (element_at row) (element_in row.members)) → (members : List Members) → Gives (rows_at table element_at members) (map element_in members)
+rows_give : {T : Type 0} (table : Table) (element_at : DocumentRow → Reading T) (element_in : Members → T) → ((row : DocumentRow) → Gives (element_at row) (element_in row.members)) → (members : List Members) → Gives (rows_at table element_at members) (map element_in members)
 rows_give table element_at element_in gives members = each_gives (λ i ms. element_at (record { table = table; index = i; members = ms })) element_in (λ i ms. gives (record { table = table; index = i; members = ms })) 0 members
 
 graph_gives : (ms : Members) → Gives (raw_graph_at ms) (graph_in ms)

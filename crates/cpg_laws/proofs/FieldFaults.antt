@@ -19,7 +19,7 @@ use Rattle.cpg_reader.specs.declared.place.Key.TheVariants.{Node, Slot, Process,
 use Rattle.cpg_reader.specs.declared.place.Place.{Place}
 use Rattle.cpg_reader.specs.declared.place.ReadFault.{ReadFault}
 use Rattle.cpg_reader.specs.declared.place.ReadFault.TheVariants.{BadField}
-use Rattle.cpg_reader.specs.Rows.{Row, place_in, value_at, text_of, are_listed}
+use Rattle.cpg_reader.specs.Rows.{DocumentRow, place_in, value_at, text_of, are_listed}
 use Rattle.cpg_laws.specs.GraphFiles.{unless, Field, is_good_value, top_fields, node_fields, slot_fields, process_fields, edge_fields, bad_fields, bad_in, top_of, elements, bad_elements, field_faults}
 use Rattle.cpg_laws.specs.DocumentFaults.{table_at, fields_of, HasOtherKey, IsBadField, HasGoodFields}
 use Rattle.cpg_laws.proofs.FaultLists.{Each, each_joined, each_unless, each_of_each, unless_contains, stand_all, of_each_contains}
@@ -87,7 +87,7 @@ other_key fields members (text, d, is, apart) = false_from_ne_true (are_listed (
 abbrev pub IsBad : Members → ReadFault → Type 0
 IsBad ms fault = (place : Place) × (fault ≡ BadField place) × IsBadField ms place
 
-module _ (ms : Members) (row : Row) (at : table_at ms row.table row.index ≡ Some row.members) where
+module _ (ms : Members) (row : DocumentRow) (at : table_at ms row.table row.index ≡ Some row.members) where
   bad_keys : (fields : List Field) → ((f : Field) → Contains fields f → Contains (fields_of row.table) f) → Each (IsBad ms) (bad_fields row (keys_of (fields_of row.table)) fields)
   bad_keys [] those = each_unless (IsBad ms) (are_listed (keys_of (fields_of row.table)) row.members) (BadField (place_in row Unknown)) (λ e. (place_in row Unknown, refl, (row.members, at, inr (refl, unlisted (fields_of row.table) row.members e))))
   bad_keys (f ∷ fields) those = each_joined (IsBad ms) (unless (is_good_value f (value_at row f.key)) (BadField (place_in row f.key))) (bad_fields row (keys_of (fields_of row.table)) fields)
@@ -97,7 +97,7 @@ module _ (ms : Members) (row : Row) (at : table_at ms row.table row.index ≡ So
   row_is_bad : Each (IsBad ms) (bad_in (fields_of row.table) row)
   row_is_bad = bad_keys (fields_of row.table) (λ f c. c)
 
-module _ (row : Row) (keys : List Key) where
+module _ (row : DocumentRow) (keys : List Key) where
   value_there : (fields : List Field) (f : Field) → Contains fields f → is_good_value f (value_at row f.key) ≡ false → Contains (bad_fields row keys fields) (BadField (place_in row f.key))
   value_there [] f c e = absurd (Contains-nil f c)
   value_there (g ∷ fields) f c e = elim (Contains-cases g fields f c) [
@@ -112,7 +112,7 @@ module _ (row : Row) (keys : List Key) where
 
 -- ---- the document
 
-abbrev row_of : Table → ℕ → Members → Row
+abbrev row_of : Table → ℕ → Members → DocumentRow
 row_of table i ms = record { table = table; index = i; members = ms }
 
 elements_are_bad : (ms : Members) (table : Table) (members : List Members) → ((i : ℕ) → table_at ms table i ≡ slice_get members i) → Each (IsBad ms) (bad_elements table (fields_of table) members)

@@ -13,12 +13,12 @@ use Rattle.cpg_reader.specs.declared.place.What.{What}
 use Rattle.cpg_reader.specs.declared.place.What.TheVariants.{Nodes, Slots, Processes, Edges, Number, Conditions}
 use Rattle.cpg_reader.specs.declared.place.ReadFault.{ReadFault}
 use Rattle.cpg_reader.specs.declared.place.ReadFault.TheVariants.{BadField, DoubleName, UnknownName, OverLimit}
-use Rattle.cpg_reader.specs.declared.ranges.Bounded.{Bounded}
+use Rattle.cpg_reader.specs.declared.ranges.BoundedField.{BoundedField}
 use Rattle.cpg_reader.specs.declared.shape.RawSlot.{RawSlot}
 use Rattle.cpg_reader.specs.declared.shape.RawProcess.{RawProcess}
 use Rattle.cpg_reader.specs.declared.shape.RawEdge.{RawEdge}
 use Rattle.cpg_reader.specs.Reading.{Reading, pure, done, ◌>>=◌, ◌>>◌, each}
-use Rattle.cpg_reader.specs.Rows.{Row, place_in, bad, value_at, as_name, as_names, as_tables, are_listed, typed_in, optional_in, optional, required_in, required, with_default, only, name_at, integer_at, integer_or, flag_or, tables_at}
+use Rattle.cpg_reader.specs.Rows.{DocumentRow, place_in, bad, value_at, as_name, as_names, as_tables, are_listed, typed_in, optional_in, optional, required_in, required, with_default, only, name_at, integer_at, integer_or, flag_or, tables_at}
 use Rattle.cpg_reader.specs.Shape.{RawGraph, node_at, slot_at, process_at, edge_at, rows_at, raw_graph_at}
 use Rattle.cpg_reader.specs.Ranges.{top_numbers, slot_numbers, process_numbers, edge_numbers, is_within, in_range, all_in_range, at_most, sources, different, limits}
 use Rattle.cpg_reader.specs.Names.{place, name_place, apart_from, apart, known, number_of, slot_of, process_of, edge_of, ordered, order_of, order_apart, slot_names, process_names, resolved, graph_of}
@@ -70,10 +70,10 @@ each_first faults step first i (x ∷ xs) = bind (faults i x) (of_each faults (i
 -- ---- fields
 
 -- the faults of what stands at a key
-abbrev of_field : {T : Type 0} → Row → Key → Bool → (Data → Option T) → Option Data → List ReadFault
+abbrev of_field : {T : Type 0} → DocumentRow → Key → Bool → (Data → Option T) → Option Data → List ReadFault
 of_field row key needed as_type o = unless (is_good_value (record { key = key; needed = needed; fits = λ d. is_some (as_type d) }) o) (BadField (place_in row key))
 
-module _ {T : Type 0} (row : Row) (key : Key) (as_type : Data → Option T) where
+module _ {T : Type 0} (row : DocumentRow) (key : Key) (as_type : Data → Option T) where
   typed : (x : Option T) → IsFirst (unless (is_some x) (BadField (place_in row key))) (typed_in row key x)
   typed None = refl
   typed (Some x) = (Some x, refl)
@@ -114,7 +114,7 @@ module _ {T : Type 0} (row : Row) (key : Key) (as_type : Data → Option T) wher
   unfolding optional
   default_is value x e = default_by value (value_at row key) x e
 
-module _ (row : Row) where
+module _ (row : DocumentRow) where
   only_first : (keys : List Key) → IsFirst (unless (are_listed keys row.members) (BadField (place_in row Unknown))) (only keys row)
   unfolding only
   only_first keys = by (are_listed keys row.members)
@@ -137,7 +137,7 @@ module _ (row : Row) where
 
 -- ---- elements
 
-module _ (row : Row) where
+module _ (row : DocumentRow) where
   node_first : IsFirst (bad_in node_fields row) (node_at row)
   unfolding node_at
   node_first = bind _ _ _ _ (name_first row Name) (λ name _. seq_last _ _ _ (only_first row (Name ∷ [])))
@@ -154,11 +154,11 @@ module _ (row : Row) where
   unfolding edge_at integer_or flag_or
   edge_first = bind _ _ _ _ (name_first row From) (λ from _. bind _ _ _ _ (name_first row To) (λ to _. bind _ _ _ _ (default_first row Bytes as_integer (pos 1)) (λ bytes _. bind _ _ _ _ (optional_first row When as_bool) (λ when _. bind _ _ _ _ (default_first row Frozen as_bool false) (λ frozen _. seq_last _ _ _ (only_first row (From ∷ To ∷ Bytes ∷ When ∷ Frozen ∷ [])))))))
 
-rows_first : {T : Type 0} (table : Table) (fields : List Field) (element_at : Row → Reading T) → ((row : Row) → IsFirst (bad_in fields row) (element_at row)) → (members : List Members) → IsFirst (bad_elements table fields members) (rows_at table element_at members)
+rows_first : {T : Type 0} (table : Table) (fields : List Field) (element_at : DocumentRow → Reading T) → ((row : DocumentRow) → IsFirst (bad_in fields row) (element_at row)) → (members : List Members) → IsFirst (bad_elements table fields members) (rows_at table element_at members)
 rows_first table fields element_at first members = each_first (λ i ms. bad_in fields (record { table = table; index = i; members = ms })) (λ i ms. element_at (record { table = table; index = i; members = ms })) (λ i ms. first (record { table = table; index = i; members = ms })) 0 members
 
 -- the elements that are read are those of the document
-rows_of : {T : Type 0} (ms : Members) (key : Key) (table : Table) (fields : List Field) (element_at : Row → Reading T) → ((row : Row) → IsFirst (bad_in fields row) (element_at row)) → (members : List Members) → tables_at (top_of ms) key ≡ Ok members →
+rows_of : {T : Type 0} (ms : Members) (key : Key) (table : Table) (fields : List Field) (element_at : DocumentRow → Reading T) → ((row : DocumentRow) → IsFirst (bad_in fields row) (element_at row)) → (members : List Members) → tables_at (top_of ms) key ≡ Ok members →
     IsFirst (bad_elements table fields (elements ms key)) (rows_at table element_at members)
 unfolding tables_at
 rows_of ms key table fields element_at first members e = subst (λ rows. IsFirst (bad_elements table fields rows) (rows_at table element_at members)) (default_is (top_of ms) key as_tables [] members e) (rows_first table fields element_at first members)
@@ -188,11 +188,11 @@ at_most_first limit what xs = by (nat_le (length xs) limit)
     by true = (tt, refl)
     by false = refl
 
-range_first : (table : Table) (i : ℕ) (ns : List Bounded) → IsFirst (out_of_range table i ns) (in_range table i ns)
+range_first : (table : Table) (i : ℕ) (ns : List BoundedField) → IsFirst (out_of_range table i ns) (in_range table i ns)
 range_first table i [] = (tt, refl)
 range_first table i (n ∷ ns) = or_next (is_within n.low n.high n.value) (OverLimit (Number (record { table = table; index = i; key = n.key }))) (out_of_range table i ns) (in_range table i ns) (range_first table i ns)
 
-ranges_first : {T : Type 0} (table : Table) (numbers_of : T → List Bounded) (i : ℕ) (xs : List T) → IsFirst (of_each (λ i x. out_of_range table i (numbers_of x)) i xs) (all_in_range table numbers_of i xs)
+ranges_first : {T : Type 0} (table : Table) (numbers_of : T → List BoundedField) (i : ℕ) (xs : List T) → IsFirst (of_each (λ i x. out_of_range table i (numbers_of x)) i xs) (all_in_range table numbers_of i xs)
 ranges_first table numbers_of i [] = (tt, refl)
 ranges_first table numbers_of i (x ∷ xs) = seq _ _ _ _ (range_first table i (numbers_of x)) (ranges_first table numbers_of (i + 1) xs)
 

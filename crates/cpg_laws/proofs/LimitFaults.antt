@@ -17,7 +17,7 @@ use Rattle.cpg_reader.specs.declared.place.What.{What}
 use Rattle.cpg_reader.specs.declared.place.What.TheVariants.{Nodes, Slots, Processes, Edges, Number, Conditions}
 use Rattle.cpg_reader.specs.declared.place.ReadFault.{ReadFault}
 use Rattle.cpg_reader.specs.declared.place.ReadFault.TheVariants.{OverLimit}
-use Rattle.cpg_reader.specs.declared.ranges.Bounded.{Bounded}
+use Rattle.cpg_reader.specs.declared.ranges.BoundedField.{BoundedField}
 use Rattle.cpg_reader.specs.declared.shape.RawEdge.{RawEdge}
 use Rattle.cpg_reader.specs.Rows.{text_of}
 use Rattle.cpg_reader.specs.Ranges.{top_numbers, slot_numbers, process_numbers, edge_numbers, is_within, sources, different}
@@ -41,7 +41,7 @@ found_parts (Some row) text d e = (row, refl, e)
 -- ---- numbers
 
 -- if it is missing, a number counts as the least that it may be
-abbrev numbers_in : Members → List Range → List Bounded
+abbrev numbers_in : Members → List Range → List BoundedField
 numbers_in row [] = []
 numbers_in row (r ∷ rs) = record { key = r.key; value = integer_in row r.key (pos r.low); low = r.low; high = r.high } ∷ numbers_in row rs
 
@@ -88,7 +88,7 @@ module _ (ms : Members) (t : Table) (i : ℕ) (row : Members) (at : table_at ms 
   row_over : Each (IsOver ms) (out_of_range t i (numbers_in row (ranges_of t)))
   row_over = numbers_over (ranges_of t) (λ r c. c) (ranges_are t)
 
-rows_over : {T : Type 0} (ms : Members) (t : Table) (said : Members → T) (numbers : T → List Bounded) (rows : List Members) → ((row : Members) → numbers (said row) ≡ numbers_in row (ranges_of t)) → ((i : ℕ) → table_at ms t i ≡ slice_get rows i) →
+rows_over : {T : Type 0} (ms : Members) (t : Table) (said : Members → T) (numbers : T → List BoundedField) (rows : List Members) → ((row : Members) → numbers (said row) ≡ numbers_in row (ranges_of t)) → ((i : ℕ) → table_at ms t i ≡ slice_get rows i) →
     Each (IsOver ms) (all_out_of_range t numbers (map said rows))
 rows_over ms t said numbers rows same are = subst (Each (IsOver ms)) (sym (of_each_mapped (λ i x. out_of_range t i (numbers x)) said 0 rows))
     (each_of_each (IsOver ms) (λ i row. slice_get rows i ≡ Some row) (λ i row. out_of_range t i (numbers (said row))) (λ i row e. subst (λ ns. Each (IsOver ms) (out_of_range t i ns)) (sym (same row)) (row_over ms t i row (are i ∙ e))) 0 rows (stand_all (λ i row. slice_get rows i ≡ Some row) rows (λ k row e. e)))

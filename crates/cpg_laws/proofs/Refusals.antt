@@ -12,16 +12,16 @@ use Rattle.cpg_reader.specs.declared.place.Key.TheVariants.{Node, Slot, Process,
 use Rattle.cpg_reader.specs.declared.place.What.TheVariants.{Nodes, Slots, Processes, Edges, Number, Conditions}
 use Rattle.cpg_reader.specs.declared.place.ReadFault.{ReadFault}
 use Rattle.cpg_reader.specs.declared.place.ReadFault.TheVariants.{NotToml, BadField, DoubleName, UnknownName, OverLimit, OutOfMemory}
-use Rattle.cpg_reader.specs.declared.ranges.Bounded.{Bounded}
+use Rattle.cpg_reader.specs.declared.ranges.BoundedField.{BoundedField}
 use Rattle.cpg_reader.specs.declared.shape.RawEdge.{RawEdge}
 use Rattle.cpg_reader.specs.Reading.{Reading}
-use Rattle.cpg_reader.specs.Rows.{Row, place_in, value_at, are_listed}
+use Rattle.cpg_reader.specs.Rows.{DocumentRow, place_in, value_at, are_listed}
 use Rattle.cpg_reader.specs.Shape.{RawGraph, raw_graph_at}
 use Rattle.cpg_reader.specs.Ranges.{top_numbers, slot_numbers, process_numbers, edge_numbers, is_within, sources, different}
 use Rattle.cpg_reader.specs.Names.{place, slot_names, process_names}
 use Rattle.cpg_reader.specs.Document.{document_of, problem_of}
 use Rattle.cpg_laws.specs.GraphFiles.{unless, of_each, Field, is_good_value, top_fields, node_fields, slot_fields, process_fields, edge_fields, bad_fields, bad_in, top_of, elements, bad_elements, field_faults, out_of_range, all_out_of_range, limit_faults, doubles_from, differ_from, order_place, double_faults, is_known, unknown, unknown_ends, unknown_faults, graph_faults, document_faults, faults_of, IsFirst}
-use Rattle.cpg_laws.specs.Refusals.{kind_of, table_number, name_table, position_of, place_of, IsEarlier, ComesBefore, IsFirstOf, RefusalsAreFirst}
+use Rattle.cpg_laws.specs.Refusals.{kind_of, table_number, name_table, position_of, place_of_fault, IsEarlier, ComesBefore, IsFirstOf, RefusalsAreFirst}
 use Rattle.cpg_laws.proofs.GraphFiles.{graph_files_show_first_faults}
 
 -- ---- the order
@@ -41,7 +41,7 @@ not_itself (x ∷ a) (inl h) = omega (arith, h)
 not_itself (x ∷ a) (inr h) = not_itself a h.1
 
 abbrev rank_of : ReadFault → List ℕ
-rank_of fault = kind_of fault ∷ place_of fault
+rank_of fault = kind_of fault ∷ place_of_fault fault
 
 -- ---- faults that rise between two bounds
 
@@ -84,7 +84,7 @@ after : (p q : ℕ) → p + 1 ≤ q → p < q
 after p q l = omega (arith, l)
 
 -- the faults of one row, from a bound before its keys from position p on
-fields_rise : (row : Row) (keys : List Key) (low : List ℕ) (p : ℕ) (fields : List Field) → ((q : ℕ) → p ≤ q → IsEarlier low (1 ∷ table_number row.table ∷ row.index ∷ q ∷ [])) → are_in_order row.table p (map (λ f. f.key) fields) ≡ true →
+fields_rise : (row : DocumentRow) (keys : List Key) (low : List ℕ) (p : ℕ) (fields : List Field) → ((q : ℕ) → p ≤ q → IsEarlier low (1 ∷ table_number row.table ∷ row.index ∷ q ∷ [])) → are_in_order row.table p (map (λ f. f.key) fields) ≡ true →
     Rise low (bad_fields row keys fields) (1 ∷ table_number row.table ∷ (row.index + 1) ∷ [])
 fields_rise row keys low p [] next order = one (are_listed keys row.members) (BadField (place_in row Unknown)) low (1 ∷ table_number row.table ∷ (row.index + 1) ∷ []) (next (position_of row.table Unknown) (leb-true p (position_of row.table Unknown) order)) (inr (refl, inr (refl, inl (omega arith))))
 fields_rise row keys low p (f ∷ fields) next order =
@@ -92,11 +92,11 @@ fields_rise row keys low p (f ∷ fields) next order =
     one_more (is_good_value f (value_at row f.key)) (BadField (place_in row f.key)) (bad_fields row keys fields) low (1 ∷ table_number row.table ∷ (row.index + 1) ∷ []) (next (position_of row.table f.key) (leb-true p (position_of row.table f.key) here))
     (fields_rise row keys (1 ∷ table_number row.table ∷ row.index ∷ position_of row.table f.key ∷ []) (position_of row.table f.key + 1) fields (λ q l. inr (refl, inr (refl, inr (refl, inl (after (position_of row.table f.key) q l))))) rest)
 
-row_rises : (row : Row) (fields : List Field) → are_in_order row.table 0 (map (λ f. f.key) fields) ≡ true → Rise (1 ∷ table_number row.table ∷ row.index ∷ []) (bad_in fields row) (1 ∷ table_number row.table ∷ (row.index + 1) ∷ [])
+row_rises : (row : DocumentRow) (fields : List Field) → are_in_order row.table 0 (map (λ f. f.key) fields) ≡ true → Rise (1 ∷ table_number row.table ∷ row.index ∷ []) (bad_in fields row) (1 ∷ table_number row.table ∷ (row.index + 1) ∷ [])
 row_rises row fields order = fields_rise row (map (λ f. f.key) fields) (1 ∷ table_number row.table ∷ row.index ∷ []) 0 fields (λ q l. inr (refl, inr (refl, inr (refl, tt)))) order
 
 -- the faults of the numbers of a row rise, from a bound before its keys from position p on
-numbers_rise : (table : Table) (i : ℕ) (low : List ℕ) (p : ℕ) (numbers : List Bounded) → ((q : ℕ) → p ≤ q → IsEarlier low (2 ∷ 4 ∷ table_number table ∷ i ∷ q ∷ [])) → are_in_order table p (map (λ n. n.key) numbers) ≡ true →
+numbers_rise : (table : Table) (i : ℕ) (low : List ℕ) (p : ℕ) (numbers : List BoundedField) → ((q : ℕ) → p ≤ q → IsEarlier low (2 ∷ 4 ∷ table_number table ∷ i ∷ q ∷ [])) → are_in_order table p (map (λ n. n.key) numbers) ≡ true →
     Rise low (out_of_range table i numbers) (2 ∷ 4 ∷ table_number table ∷ (i + 1) ∷ [])
 numbers_rise table i low p [] next order = earlier_than_both low (2 ∷ 4 ∷ table_number table ∷ i ∷ p ∷ []) (2 ∷ 4 ∷ table_number table ∷ (i + 1) ∷ []) (next p (omega arith)) (inr (refl, inr (refl, inr (refl, inl (omega arith)))))
 numbers_rise table i low p (n ∷ numbers) next order =
@@ -104,7 +104,7 @@ numbers_rise table i low p (n ∷ numbers) next order =
     one_more (is_within n.low n.high n.value) (OverLimit (Number (record { table = table; index = i; key = n.key }))) (out_of_range table i numbers) low (2 ∷ 4 ∷ table_number table ∷ (i + 1) ∷ []) (next (position_of table n.key) (leb-true p (position_of table n.key) here))
     (numbers_rise table i (2 ∷ 4 ∷ table_number table ∷ i ∷ position_of table n.key ∷ []) (position_of table n.key + 1) numbers (λ q l. inr (refl, inr (refl, inr (refl, inr (refl, inl (after (position_of table n.key) q l)))))) rest)
 
-number_row_rises : (table : Table) (i : ℕ) (numbers : List Bounded) → are_in_order table 0 (map (λ n. n.key) numbers) ≡ true → Rise (2 ∷ 4 ∷ table_number table ∷ i ∷ []) (out_of_range table i numbers) (2 ∷ 4 ∷ table_number table ∷ (i + 1) ∷ [])
+number_row_rises : (table : Table) (i : ℕ) (numbers : List BoundedField) → are_in_order table 0 (map (λ n. n.key) numbers) ≡ true → Rise (2 ∷ 4 ∷ table_number table ∷ i ∷ []) (out_of_range table i numbers) (2 ∷ 4 ∷ table_number table ∷ (i + 1) ∷ [])
 number_row_rises table i numbers order = numbers_rise table i (2 ∷ 4 ∷ table_number table ∷ i ∷ []) 0 numbers (λ q l. inr (refl, inr (refl, inr (refl, inr (refl, tt))))) order
 
 -- ---- the kinds
@@ -121,7 +121,7 @@ field_faults_rise ms =
     (joined (1 ∷ 3 ∷ []) (1 ∷ 4 ∷ []) (2 ∷ []) _ _ (elements_rise tables.Process process_fields (elements ms Process) refl)
     (to_above (1 ∷ 4 ∷ []) (1 ∷ 5 ∷ []) (2 ∷ []) _ (elements_rise tables.Edge edge_fields (elements ms Edge) refl) (inl (omega arith))))))
 
-number_rows_rise : {T : Type 0} (table : Table) (numbers : T → List Bounded) (xs : List T) → ((x : T) → are_in_order table 0 (map (λ n. n.key) (numbers x)) ≡ true) → Rise (2 ∷ 4 ∷ table_number table ∷ []) (all_out_of_range table numbers xs) (2 ∷ 4 ∷ (table_number table + 1) ∷ [])
+number_rows_rise : {T : Type 0} (table : Table) (numbers : T → List BoundedField) (xs : List T) → ((x : T) → are_in_order table 0 (map (λ n. n.key) (numbers x)) ≡ true) → Rise (2 ∷ 4 ∷ table_number table ∷ []) (all_out_of_range table numbers xs) (2 ∷ 4 ∷ (table_number table + 1) ∷ [])
 number_rows_rise table numbers xs order = from_below (2 ∷ 4 ∷ table_number table ∷ []) (2 ∷ 4 ∷ table_number table ∷ 0 ∷ []) (2 ∷ 4 ∷ (table_number table + 1) ∷ []) (all_out_of_range table numbers xs) (inr (refl, inr (refl, inr (refl, tt))))
     (each_rises (λ i. 2 ∷ 4 ∷ table_number table ∷ i ∷ []) (2 ∷ 4 ∷ (table_number table + 1) ∷ []) (λ i x. out_of_range table i (numbers x)) (λ i x. number_row_rises table i (numbers x) (order x)) (λ i. inr (refl, inr (refl, inl (omega arith)))) 0 xs)
 

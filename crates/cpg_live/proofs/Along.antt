@@ -2,7 +2,7 @@
 use Rattle.std.proofs.Common.{◌≡◌, ℕ, ◌+◌, ◌<◌, ◌≤◌, ◌-◌, ◌||◌, List, [], ◌∷◌, ◌++◌, true, false, true≢false, length, take, drop, Some, None, refl, sym, ap, ap₂, ◌∙◌, subst, arith}
 use Rattle.std.specs.Prelude.{IfErr, IfOk, Result, Ok, Err, MatchResult, OnErr, OnOk, is_err}
 use Rattle.std.proofs.lemmas.List.{length-append, length-drop, length-take, take_all}
-use Rattle.cpg_tale.specs.Fetch.{Fetch, failed, gave, is_none}
+use Rattle.cpg_history.specs.Fetch.{Fetch, failed, gave, is_none}
 use Rattle.cpg_io.specs.State.{ShelfState, SinkState}
 use Rattle.cpg_io.specs.Shelf.{opened as started}
 use Rattle.cpg_io.specs.Sink.{Took, TookPrefix}

@@ -22,7 +22,7 @@ use Rattle.cpg_live.specs.declared.event.Event.TheVariants.{Frame as Arrival, En
 use Rattle.cpg_live.specs.declared.bad.Why.{Why}
 use Rattle.cpg_live.specs.declared.bad.Why.TheVariants.{Length, Kind, Order, Frame as StrangeFrame, End as FalseEnd}
 use Rattle.cpg_live.specs.Records.{cut, record_of, event_of}
-use Rattle.cpg_live.specs.Stream.{Progress, Step, LiveState, take_turn, instant_below, turn_if, turns_below, turned, faulty, lawful, may_tell, may_end_now, may_end, arrived, ended, step, refused, settled, stepped, judged, take_record, with_rest, open_stream, is_close}
+use Rattle.cpg_live.specs.Stream.{NodeProgress, Step, LiveState, take_turn, instant_below, turn_if, turns_below, turned, faulty, lawful, may_tell, may_end_now, may_end, arrived, ended, step, refused, settled, stepped, judged, take_record, with_rest, open_stream, is_close}
 use Rattle.cpg_live.specs.Told.{after_last}
 use Rattle.cpg_live.specs.Fewer.{turns_awaited, turned_fewer, step_fewer, judged_fewer, take_record_fewer, with_last, TurnsMayBeLeftOut}
 use Rattle.cpg_live.proofs.Turns.{floor_after, after_floor, Below, NotBelow, below_or_not, still}
@@ -35,7 +35,7 @@ candidate_next d x m a = go (next d) refl
     go None e = absurd (true≢false (sym (next_none d e x m) ∙ not_by d.last x a))
     go (Some y) e = (y, e, (next_is d y e).least x m (not_by d.last x a))
 
-still_fewer : (n limit : ℕ) (p : Progress) → instant_below limit (next_awaited p.dispatcher) ≡ None → turns_awaited n limit p ≡ p
+still_fewer : (n limit : ℕ) (p : NodeProgress) → instant_below limit (next_awaited p.dispatcher) ≡ None → turns_awaited n limit p ≡ p
 unfolding turns_awaited
 still_fewer zero limit p e = refl
 still_fewer (suc n) limit p e = ap (λ o. turns_awaited n limit (turn_if p o)) e ∙ still_fewer n limit p e
@@ -144,7 +144,7 @@ module _ (t : NodeTable) (made : IsTable t) where
   abbrev node : List Range → List (Option Running) → Option ℕ → Dispatcher
   node h r l = record { table = t; heard = h; running = r; last = l }
 
-  abbrev prog : List Range → List (Option Running) → Option ℕ → List Act → Progress
+  abbrev prog : List Range → List (Option Running) → Option ℕ → List Act → NodeProgress
   prog h r l a = record { dispatcher = node h r l; acts = a }
 
   -- all awaited instants are after both or none of the last turns
@@ -153,7 +153,7 @@ module _ (t : NodeTable) (made : IsTable t) where
     few : All (TellsFew t.faults) r
     reached : (x : ℕ) → Contains (awaited (node [] r None)) x → is_after l x ≡ is_after m x
 
-  record Pair (limit : ℕ) (P Q : Progress) : Type 0 where
+  record Pair (limit : ℕ) (P Q : NodeProgress) : Type 0 where
     heard : List Range
     runs : List (Option Running)
     acts : List Act
@@ -301,7 +301,7 @@ module _ (t : NodeTable) (made : IsTable t) where
         (next_turn n limit (turns_alike n limit) k h r l m a same p q g b)
   ]
 
-  turned_alike : (limit : ℕ) (P Q : Progress) → Pair limit P Q → Pair limit (turned limit P) (turned_fewer limit Q)
+  turned_alike : (limit : ℕ) (P Q : NodeProgress) → Pair limit P Q → Pair limit (turned limit P) (turned_fewer limit Q)
   turned_alike limit P Q k =
       subst (λ P. Pair limit (turned limit P) (turned_fewer limit Q)) (sym k.one) (subst (λ Q. Pair limit (turned limit (prog k.heard k.runs k.l k.acts)) (turned_fewer limit Q)) (sym k.two)
       (turns_alike limit limit limit k.heard k.runs k.l k.m k.acts k.alike (omega arith) (omega arith) k.before k.later))
@@ -309,7 +309,7 @@ module _ (t : NodeTable) (made : IsTable t) where
   after_more : (l : Option ℕ) (x y : ℕ) → x ≤ y → is_after l x ≡ true → is_after l y ≡ true
   after_more l x y le h = after_floor l y (let f = floor_after l x h in omega (arith, le, f))
 
-  pair_later : (x y : ℕ) (P Q : Progress) → x ≤ y → Pair x P Q → Pair y P Q
+  pair_later : (x y : ℕ) (P Q : NodeProgress) → x ≤ y → Pair x P Q → Pair y P Q
   pair_later x y P Q le k =
       record { heard = k.heard; runs = k.runs; acts = k.acts; l = k.l; m = k.m; one = k.one; two = k.two; alike = k.alike; before = after_more k.l x y le k.before; later = after_more k.m x y le k.later }
 
@@ -319,7 +319,7 @@ module _ (t : NodeTable) (made : IsTable t) where
     pair : Pair limit s.progress z.progress
 
   -- a frame
-  arrived_alike : (time : ℕ) (f : Frame) (P Q : Progress) → Pair time P Q → StepPair time (arrived time f P) (arrived time f Q)
+  arrived_alike : (time : ℕ) (f : Frame) (P Q : NodeProgress) → Pair time P Q → StepPair time (arrived time f P) (arrived time f Q)
   arrived_alike time f P Q k =
       subst (λ P. StepPair time (arrived time f P) (arrived time f Q)) (sym k.one) (subst (λ Q. StepPair time (arrived time f (prog k.heard k.runs k.l k.acts)) (arrived time f Q)) (sym k.two)
       (go (is_strange (node k.heard k.runs k.l) time f)))
@@ -355,7 +355,7 @@ module _ (t : NodeTable) (made : IsTable t) where
         ];
       }
 
-  ended_step : (time : ℕ) (e : Ended) (P Q : Progress) → Pair time P Q → StepPair time (ended time e P) (ended time e Q)
+  ended_step : (time : ℕ) (e : Ended) (P Q : NodeProgress) → Pair time P Q → StepPair time (ended time e P) (ended time e Q)
   ended_step time e P Q k =
       subst (λ P. StepPair time (ended time e P) (ended time e Q)) (sym k.one) (subst (λ Q. StepPair time (ended time e (prog k.heard k.runs k.l k.acts)) (ended time e Q)) (sym k.two)
       (go (may_end (node k.heard k.runs k.l) time e) refl))
@@ -387,7 +387,7 @@ module _ (t : NodeTable) (made : IsTable t) where
   bound time (Ending process faults value) = time
   bound time Close = time + 1
 
-  step_alike : (time : ℕ) (event : Event) (P Q : Progress) → Pair time P Q → StepPair (bound time event) (step time event P) (step_fewer time event Q)
+  step_alike : (time : ℕ) (event : Event) (P Q : NodeProgress) → Pair time P Q → StepPair (bound time event) (step time event P) (step_fewer time event Q)
   step_alike time (Arrival f) P Q k = arrived_alike time f (turned time P) (turned_fewer time Q) (turned_alike time P Q k)
   step_alike time (Ending process faults value) P Q k = ended_step time (record { process = process; faults = faults; value = value }) (turned time P) (turned_fewer time Q) (turned_alike time P Q k)
   step_alike time Close P Q k = record { fault = refl; pair = turned_alike (time + 1) P Q (pair_later time (time + 1) P Q (omega arith) k) }
@@ -402,7 +402,7 @@ module _ (t : NodeTable) (made : IsTable t) where
   refused_twins : (s z : LiveState) (why : Why) → Twins s z → Twins (refused s why) (refused z why)
   refused_twins s z why k = record { limit = k.limit; pair = k.pair; up_to = λ none _. absurd (none-some _ (sym none)); same = ap (λ z. refused z why) k.same }
 
-  settled_twins : (s : LiveState) (P Q : Progress) (time : ℕ) (event : Event) (o : Option Why) → Pair (bound time event) P Q →
+  settled_twins : (s : LiveState) (P Q : NodeProgress) (time : ℕ) (event : Event) (o : Option Why) → Pair (bound time event) P Q →
       Twins (settled (record s { progress = P }) time event o) (settled (record s { progress = Q }) time event o)
   settled_twins s P Q time event None k = record { limit = bound time event; pair = k; up_to = λ _ more. far event more; same = refl }
     where
@@ -412,7 +412,7 @@ module _ (t : NodeTable) (made : IsTable t) where
       far Close e = absurd (true≢false e)
   settled_twins s P Q time event (Some why) k = record { limit = bound time event; pair = k; up_to = λ none _. absurd (none-some _ (sym none)); same = refl }
 
-  judged_twins : (s : LiveState) (Q : Progress) (limit time : ℕ) (o : Option Event) → Pair limit s.progress Q → limit ≤ s.time → Twins s (record s { progress = Q }) →
+  judged_twins : (s : LiveState) (Q : NodeProgress) (limit time : ℕ) (o : Option Event) → Pair limit s.progress Q → limit ≤ s.time → Twins s (record s { progress = Q }) →
       Twins (judged s time o) (judged_fewer (record s { progress = Q }) time o)
   judged_twins s Q limit time None k le t = refused_twins s (record s { progress = Q }) Kind t
   judged_twins s Q limit time (Some event) k le t = go (nat_lt time s.time) refl
@@ -425,14 +425,14 @@ module _ (t : NodeTable) (made : IsTable t) where
           subst (λ o. Twins (stepped s time event (step time event s.progress)) (settled (record s { progress = (step_fewer time event Q).progress }) time event o)) (sym k'.fault)
           (settled_twins s (step time event s.progress).progress (step_fewer time event Q).progress time event (step time event s.progress).fault k'.pair)
 
-  table_of : (limit : ℕ) (P Q : Progress) → Pair limit P Q → Q.dispatcher.table ≡ P.dispatcher.table
-  table_of limit P Q k = ap (λ (p : Progress). p.dispatcher.table) k.two ∙ sym (ap (λ (p : Progress). p.dispatcher.table) k.one)
+  table_of : (limit : ℕ) (P Q : NodeProgress) → Pair limit P Q → Q.dispatcher.table ≡ P.dispatcher.table
+  table_of limit P Q k = ap (λ (p : NodeProgress). p.dispatcher.table) k.two ∙ sym (ap (λ (p : NodeProgress). p.dispatcher.table) k.one)
 
   is_none_of : {A : Type 0} (o : Option A) → is_some o ≡ false → o ≡ None
   is_none_of None e = refl
   is_none_of (Some x) e = absurd (true≢false e)
 
-  record_twins : (s : LiveState) (Q : Progress) (bytes : List ℕ) → Twins s (record s { progress = Q }) → Twins (take_record s bytes) (take_record_fewer (record s { progress = Q }) bytes)
+  record_twins : (s : LiveState) (Q : NodeProgress) (bytes : List ℕ) → Twins s (record s { progress = Q }) → Twins (take_record s bytes) (take_record_fewer (record s { progress = Q }) bytes)
   record_twins s Q bytes k = go (is_some s.bad) s.closed refl refl
     where
       go : (b c : Bool) → is_some s.bad ≡ b → s.closed ≡ c →
@@ -474,7 +474,7 @@ module _ (t : NodeTable) (made : IsTable t) where
   }
 
   twin_is : (s z : LiveState) → Twins s z → z ≡ with_last s z.progress.dispatcher.last
-  twin_is s z k = k.same ∙ ap (λ (p : Progress). record s { progress = p })
+  twin_is s z k = k.same ∙ ap (λ (p : NodeProgress). record s { progress = p })
       (subst (λ P. z.progress ≡ record { dispatcher = record P.dispatcher { last = z.progress.dispatcher.last }; acts = P.acts }) (sym k.pair.one)
       (subst (λ Q. Q ≡ record { dispatcher = record (node k.pair.heard k.pair.runs k.pair.l) { last = Q.dispatcher.last }; acts = k.pair.acts }) (sym k.pair.two) refl))
 
@@ -501,5 +501,5 @@ turns_may_be_left_out table bytes made =
     let s : LiveState = fold take_record (open_stream table) (cut bytes).whole in
     let z : LiveState = fold take_record_fewer (open_stream table) (cut bytes).whole in
     let is = twin_is table made s z (twins_whole table made (cut bytes).whole (open_stream table) (open_stream table) (twins_open table made)) in
-    let last = ap (λ (p : Progress). p.dispatcher.last) (rest_same z (cut bytes).rest) in
+    let last = ap (λ (p : NodeProgress). p.dispatcher.last) (rest_same z (cut bytes).rest) in
     ap (λ z. with_rest z (cut bytes).rest) is ∙ rest_last s (cut bytes).rest z.progress.dispatcher.last ∙ ap (with_last (with_rest s (cut bytes).rest)) (sym last)

@@ -4,7 +4,7 @@ use Rattle.std.specs.Prelude.{is_none, nat_lt, Result, Ok, Err}
 use Rattle.std.proofs.Math.Seq.{take-append-add, drop-append_seam}
 use Rattle.std.proofs.lemmas.Grind.{flat_map-append}
 use Rattle.std.proofs.lemmas.List.{length-append, take-append-le, take_all}
-use Rattle.cpg_tale.specs.Fetch.{Fetch}
+use Rattle.cpg_history.specs.Fetch.{Fetch}
 use Rattle.cpg_io.specs.Sink.{Took, TookPrefix}
 use Rattle.cpg_io.proofs.Writes.{Took-trans}
 use Rattle.cpg_head.specs.Head.{Head}

@@ -22,7 +22,7 @@ use Rattle.cpg_reader.specs.declared.place.Table.{Table}
 use Rattle.cpg_reader.specs.declared.place.Table.TheVariants as places
 use Rattle.cpg_reader.specs.declared.place.What.{What}
 use Rattle.cpg_reader.specs.declared.shape.RawEdge.{RawEdge}
-use Rattle.cpg_reader.specs.declared.ranges.Bounded.{Bounded}
+use Rattle.cpg_reader.specs.declared.ranges.BoundedField.{BoundedField}
 use Rattle.cpg_reader.specs.Ranges.{top_numbers, slot_numbers, process_numbers, edge_numbers, is_within, in_range, all_in_range, at_most, sources, different, limits}
 use Rattle.cpg_reader.specs.RawOf.{raw_slot, raw_process, raw_edge, raw_of, names_of}
 use Rattle.cpg_reader.proofs.RawReads.{all_by_recursion}
@@ -30,15 +30,15 @@ use Rattle.cpg_reader.proofs.RawReads.{all_by_recursion}
 within : (low high n : ℕ) → low ≤ n → n ≤ high → is_within low high (pos n) ≡ true
 within low high n l h = rw (le-leb low n l, le-leb n high h) refl
 
-abbrev pub AreWithin : List Bounded → Type 0
+abbrev pub AreWithin : List BoundedField → Type 0
 AreWithin [] = Unit {0}
 AreWithin (n ∷ ns) = (is_within n.low n.high n.value ≡ true) × AreWithin ns
 
-in_range-within : (table : Table) (i : ℕ) (ns : List Bounded) → AreWithin ns → in_range table i ns ≡ Ok tt
+in_range-within : (table : Table) (i : ℕ) (ns : List BoundedField) → AreWithin ns → in_range table i ns ≡ Ok tt
 in_range-within table i [] h = refl
 in_range-within table i (n ∷ ns) h = rw h.0 (in_range-within table i ns h.1)
 
-all_in_range-within : {S T : Type 0} (table : Table) (numbers_of : T → List Bounded) (f : S → T) (i : ℕ) (xs : List S) → AllByRecursion (λ x. AreWithin (numbers_of (f x))) xs → all_in_range table numbers_of i (map f xs) ≡ Ok tt
+all_in_range-within : {S T : Type 0} (table : Table) (numbers_of : T → List BoundedField) (f : S → T) (i : ℕ) (xs : List S) → AllByRecursion (λ x. AreWithin (numbers_of (f x))) xs → all_in_range table numbers_of i (map f xs) ≡ Ok tt
 all_in_range-within table numbers_of f i [] h = refl
 all_in_range-within table numbers_of f i (x ∷ xs) h = rw (in_range-within table i (numbers_of (f x)) h.0) (all_in_range-within table numbers_of f (i + 1) xs h.1)
 

@@ -16,7 +16,7 @@ use Rattle.cpg_order.specs.Urgency.{IsTopological}
 use Rattle.cpg_rules.specs.declared.steps.Input.{Input}
 use Rattle.cpg_rules.specs.declared.steps.Aim.{Aim}
 use Rattle.cpg_rules.specs.declared.steps.Aim.TheVariants.{Process, Conditions}
-use Rattle.cpg_rules.specs.Steps.{Step, step_of}
+use Rattle.cpg_rules.specs.Steps.{ActivationStep, step_of}
 use Rattle.cpg_rules.specs.Rested.{reads, are_reading, is_rested, rested}
 use Rattle.cpg_rules.specs.Growing.{is_taken, is_live_in, first_live, activation_from, activation_in, standing, settled, choice, if_both, tracks_from}
 use Rattle.cpg_rules.specs.Alternatives.{are_two_live, first_some, if_other, found_from, is_set, scenario_of, has_two_live}
@@ -65,7 +65,7 @@ module _ (s u : List (Option Bool)) where
 
 -- ---- standings that are alike where steps read them
 
-record IsAlike (steps : List Step) (s u : List (Option Bool)) : Type 0 where
+record IsAlike (steps : List ActivationStep) (s u : List (Option Bool)) : Type 0 where
   long : length s ≡ length u
   same : (q : ℕ) → are_reading steps q ≡ true → get_or s q None ≡ get_or u q None
 
@@ -79,7 +79,7 @@ set_alike s u p q x long same = elim (cases_eq q p) [
   | inr n ↦ get_or-set_other s p q x None n ∙ same ∙ sym (get_or-set_other u p q x None n)
 ]
 
-module _ (step : Step) (kept : List Step) (s u : List (Option Bool)) where
+module _ (step : ActivationStep) (kept : List ActivationStep) (s u : List (Option Bool)) where
   -- what a step reads
   inputs_alike : IsAlike (step ∷ kept) s u → AreLiveAlike s u step.inputs
   inputs_alike alike = live_alike s u step.inputs (λ q r. alike.same q (or_left (reads q step) (are_reading kept q) r))
@@ -112,7 +112,7 @@ not_chosen Plain (Some c) n h = cc
 not_chosen (By e) None n h = refl
 not_chosen (By e) (Some c) n h = cc
 
-tracks_alike : (steps : List Step) (s u : List (Option Bool)) → IsAlike (rested Conditions steps) s u → tracks_from steps s ≡ tracks_from (rested Conditions steps) u
+tracks_alike : (steps : List ActivationStep) (s u : List (Option Bool)) → IsAlike (rested Conditions steps) s u → tracks_from steps s ≡ tracks_from (rested Conditions steps) u
 tracks_alike [] s u alike = refl
 tracks_alike (step ∷ steps) s u alike = go (is_rested Conditions step (rested Conditions steps)) refl alike (λ t w a. tracks_alike steps t w a)
   where
@@ -129,16 +129,16 @@ tracks_alike (step ∷ steps) s u alike = go (is_rested Conditions step (rested 
         let zero = not_chosen (activation_in s step) step.condition (tracks_from steps (settled s step true)) none.0 in
         omega (arith, same, zero)
 
-pub tracks_rested : (steps : List Step) (s : List (Option Bool)) → tracks_from (rested Conditions steps) s ≡ tracks_from steps s
+pub tracks_rested : (steps : List ActivationStep) (s : List (Option Bool)) → tracks_from (rested Conditions steps) s ≡ tracks_from steps s
 tracks_rested steps s = sym (tracks_alike steps s s (record { long = refl; same = λ q r. refl }))
 
 -- ---- the steps that are kept are among the steps
 
-all_cons : (P : Step → Type 0) (step : Step) (steps : List Step) → P step → All P steps → All P (step ∷ steps)
+all_cons : (P : ActivationStep → Type 0) (step : ActivationStep) (steps : List ActivationStep) → P step → All P steps → All P (step ∷ steps)
 all_cons P step steps h t zero d l = h
 all_cons P step steps h t (suc k) d l = t k d (omega arith)
 
-pub all_rested : (P : Step → Type 0) (aim : Aim) (steps : List Step) → All P steps → All P (rested aim steps)
+pub all_rested : (P : ActivationStep → Type 0) (aim : Aim) (steps : List ActivationStep) → All P steps → All P (rested aim steps)
 all_rested P aim [] h = h
 all_rested P aim (step ∷ steps) h =
     let parts = all_parts P step (step ∷ steps) steps refl h in
@@ -184,11 +184,11 @@ found_kept None None y None w h k = tt
 found_kept (Some c) None y None w h k = k
 
 module _ (p : ℕ) where
-  two_alike : (step : Step) (kept : List Step) (s u : List (Option Bool)) → IsAlike (step ∷ kept) s u → are_two_live s step.inputs ≡ are_two_live u step.inputs
+  two_alike : (step : ActivationStep) (kept : List ActivationStep) (s u : List (Option Bool)) → IsAlike (step ∷ kept) s u → are_two_live s step.inputs ≡ are_two_live u step.inputs
   two_alike step kept s u alike = ap (nat_lt 1) (count_alike s u step.inputs (inputs_alike step kept s u alike))
 
   -- if one is found
-  some_alike : (steps : List Step) (s u : List (Option Bool)) → IsAlike (rested (Process p) steps) s u → is_some (found_from p steps s) ≡ is_some (found_from p (rested (Process p) steps) u)
+  some_alike : (steps : List ActivationStep) (s u : List (Option Bool)) → IsAlike (rested (Process p) steps) s u → is_some (found_from p steps s) ≡ is_some (found_from p (rested (Process p) steps) u)
   some_alike [] s u alike = refl
   some_alike (step ∷ steps) s u alike = go (step.process == p) (are_reading (rested (Process p) steps) step.process) refl refl alike (λ t w a. some_alike steps t w a)
     where

@@ -3,15 +3,15 @@ use Rattle.std.proofs.Common.{ℕ, zero, suc, ◌<◌, ◌≡◌, Bool, true, fa
 use Rattle.std.proofs.lemmas.List.Elements.{All-set}
 use Rattle.cpg_base.specs.Graph.{Graph}
 use Rattle.cpg_order.specs.Guard.{Guard}
-use Rattle.cpg_rules.specs.declared.shared.Part.{Part}
+use Rattle.cpg_rules.specs.declared.shared.SharedPart.{SharedPart}
 use Rattle.cpg_rules.specs.declared.steps.Input.{Input}
-use Rattle.cpg_rules.specs.Steps.{Step}
+use Rattle.cpg_rules.specs.Steps.{ActivationStep}
 use Rattle.cpg_rules.specs.Composing.{input_tree, met, with_later, composed, composed_along}
 use Rattle.cpg_rules.specs.Apart.{are_both_live, union_with, union, is_apart, are_apart}
 use Rattle.cpg_rules.specs.Sharing.{Sharing, tree_at, Extends, Makes, MakesUnion, trees_of, AreRoots, AreTreesOf}
 use Rattle.cpg_rules.proofs.Sharing.{extends_both, makes_extends, same_trees, roots_stay, map_set}
 
-pub seeded : (parts : List Part) (count n : ℕ) (roots : List ℕ) (t : Guard) → roots ≡ replicate count n → tree_at parts n ≡ t → trees_of parts roots ≡ replicate count t
+pub seeded : (parts : List SharedPart) (count n : ℕ) (roots : List ℕ) (t : Guard) → roots ≡ replicate count n → tree_at parts n ≡ t → trees_of parts roots ≡ replicate count t
 seeded parts count n roots t e is = ap (trees_of parts) e ∙ go count
   where
     go : (k : ℕ) → trees_of parts (replicate k n) ≡ replicate k t
@@ -56,7 +56,7 @@ module _ (a b : Sharing) (count p n : ℕ) (roots : List ℕ) (t : Guard) (are :
 
 pub step_along : (g : Graph) (a b : Sharing) (count p n : ℕ) (roots : List ℕ) (are : AreRoots a.parts count roots) (join : Bool) (inputs : List Input)
     (made : Makes a b (composed g join a.ranks (trees_of a.parts roots) inputs) n)
-    (steps rest : List Step) (step : Step) → steps ≡ step ∷ rest → p ≡ step.process → join ≡ step.join → inputs ≡ step.inputs
+    (steps rest : List ActivationStep) (step : ActivationStep) → steps ≡ step ∷ rest → p ≡ step.process → join ≡ step.join → inputs ≡ step.inputs
     → composed_along g a.ranks steps (trees_of a.parts roots) ≡ composed_along g b.ranks rest (trees_of b.parts (set roots p n))
 step_along g a b count p n roots are join inputs made steps rest step all process joins ins =
     ap (λ ss. composed_along g a.ranks ss (trees_of a.parts roots)) all

@@ -4,7 +4,7 @@ use Rattle.cpg_base.specs.Scenario.{IsScenario}
 use Rattle.cpg_base.specs.Graph.{process_count}
 use Rattle.cpg_base.specs.Order.{place}
 use Rattle.cpg_base.proofs.Places.{length_order}
-use Rattle.cpg_all_runs.specs.Sweep.{place_of}
+use Rattle.cpg_all_runs.specs.Sweep.{place_of_item}
 use Rattle.cpg_run.proofs.FrozenOrder.{later_moment}
 use Rattle.cpg_run.proofs.Settled.{item_frozen, next_within, next_unset, settled_early, settled_first, settled_more, settled_all}
 use Rattle.cpg_all_runs.proofs.Swept.{along_kept, later_place}
@@ -34,7 +34,7 @@ advance-requires-clause-ahead c =
     let g = c.args.setting.now.problem.now in
     let order = c.args.setting.now.order.now in
     let x = get_or c.args.items.now c.loop-item.item-index 0 in
-    let there : c.place-next.result ≡ place_of g order x = c.place-next.ensures.place ∙ ap (place order) (c.producer.ensures.producer) in
+    let there : c.place-next.result ≡ place_of_item g order x = c.place-next.ensures.place ∙ ap (place order) (c.producer.ensures.producer) in
     omega (arith, there, c.loop-item.invariant.ahead c.loop-item.item-index (omega arith) c.loop-item-test.true)
 
 pub advance-requires-clause-place : goal.advance-requires-clause-place
@@ -67,7 +67,7 @@ loop-item-preserved c =
     let items = c.args.items.now in
     let n = c.loop-item.item-index in
     let x = get_or items n 0 in
-    let there : place_of g order x ≡ c.place-next.result = sym (c.place-next.ensures.place ∙ ap (place order) (c.producer.ensures.producer)) in
+    let there : place_of_item g order x ≡ c.place-next.result = sym (c.place-next.ensures.place ∙ ap (place order) (c.producer.ensures.producer)) in
     let settled = c.loop-item.invariant.settled in
     record {
       settled = settled_more g order c.requires.setting.topological items n c.loop-item.frozen settled c.requires.setting.admitted.1.limits c.loop-item-test.true

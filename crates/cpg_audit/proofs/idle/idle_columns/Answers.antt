@@ -3,7 +3,7 @@ use Rattle.std.proofs.lemmas.List.Elements.{All-weaker}
 use Rattle.cpg_base.specs.Graph.{Graph}
 use Rattle.cpg_cube.specs.Column.{Column}
 use Rattle.cpg_cube.specs.Fit.{IsKnown}
-use Rattle.cpg_paths.specs.Columns.{IsTidyColumn}
+use Rattle.cpg_tree_columns.specs.Columns.{IsTidyColumn}
 use Rattle.cpg_tree.specs.Variables.{is_variable}
 use Rattle.cpg_tree.proofs.Passing.{known_from}
 use Rattle.cpg_audit.proofs.IdleLaws.{idle_columns}

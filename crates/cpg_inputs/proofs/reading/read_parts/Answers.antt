@@ -1,6 +1,6 @@
 use Rattle.std.proofs.Common.{rules, List, subst, sym}
 use Rattle.std.proofs.lemmas.Result.{err_from_is_err_and}
-use Rattle.cpg_tale.specs.Fetch.{Fetch}
+use Rattle.cpg_history.specs.Fetch.{Fetch}
 use Rattle.cpg_inputs.proofs.Keeping.{keeps_on, keeps_same, leave_on}
 use Rattle.cpg_inputs.proofs.PartsRead.{may_at, periods_next, read_next, stops_next, wants_next}
 use Rattle.cpg_inputs.proofs.reading.read_parts.Goals as goal

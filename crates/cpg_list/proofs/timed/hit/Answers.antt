@@ -2,13 +2,13 @@ use Rattle.std.proofs.Common.{◌∙◌, ◌<◌, length, get_or, sym, ap, rules
 use Rattle.std.proofs.lemmas.List.{get_or_default}
 use Rattle.cpg_cube.specs.Cube.{matches}
 use Rattle.cpg_cube.specs.Column.{Column}
-use Rattle.cpg_list.specs.TimeOrder.{Timed}
+use Rattle.cpg_list.specs.TimeOrder.{TimedColumn}
 use Rattle.cpg_list.proofs.CodeTimes.{missed_end, missed_time, passed_more}
 use Rattle.cpg_list.proofs.timed.hit.Goals as goal
 
 pub returns-then-timed-time : goal.returns-then-timed-time
 returns-then-timed-time c =
-    let blank : Timed = record { time = 0; place = 0 } in
+    let blank : TimedColumn = record { time = 0; place = 0 } in
     missed_time c.args.columns.now c.args.by_time.now c.requires c.args.time c.args.scenario.now c.first_at-first.result c.first_at-first.ensures c.loop-at.at c.loop-at.invariant (get_or c.args.by_time.now c.loop-at.at blank)
     c.loop-at.auto.at c.loop-at-test.true (get_or_default c.args.by_time.now c.loop-at.at blank _ c.loop-at-test.true) c.if-timed-time.true
 
@@ -28,6 +28,6 @@ returns c = missed_end c.args.columns.now c.args.by_time.now c.requires c.args.t
 
 pub loop-at-preserved : goal.loop-at-preserved
 loop-at-preserved c =
-    let blank : Timed = record { time = 0; place = 0 } in
+    let blank : TimedColumn = record { time = 0; place = 0 } in
     passed_more c.args.columns.now c.args.by_time.now c.args.time c.args.scenario.now c.first_at-first.result c.loop-at.at c.loop-at.invariant blank c.loop-at-test.true c.if-timed-time.false c.index-columns-timed.result
     (c.requires.each c.loop-at.at blank c.index-columns-timed.result c.loop-at-test.true).0 c.index-columns-timed.is (ap (λ (x : Column). matches x.cube c.args.scenario.now) c.index-columns-timed.is ∙ sym c.matches.ensures ∙ c.if-matches.false)

@@ -5,7 +5,7 @@ use Rattle.cpg_order.specs.Guard.{Guard, Leaf}
 use Rattle.cpg_base.proofs.Places.{length_order}
 use Rattle.cpg_rules.specs.declared.edges.EdgeGuard.{EdgeGuard}
 use Rattle.cpg_rules.specs.declared.steps.Aim.TheVariants.{Conditions}
-use Rattle.cpg_rules.specs.Steps.{Step, step_of, IsStepBelow}
+use Rattle.cpg_rules.specs.Steps.{ActivationStep, step_of, IsStepBelow}
 use Rattle.cpg_rules.specs.Rested.{rested}
 use Rattle.cpg_rules.proofs.Rested.{all_rested, tracks_rested}
 use Rattle.cpg_rules.specs.Growing.{tracks_from}
@@ -24,7 +24,7 @@ tracks-requires c = rw (c.as_slice-2.ensures.value, c.in_ok-choosing.ensures, c.
     (all_rested (IsStepBelow 128) Conditions _ (steps_below c.args.problem.now c.args.order.now c.requires 128 c.processes-count.ensures.within.few_processes))
 
 -- the number of tracks, if it is not past the most that are counted
-counted : (steps whole : List Step) (result all : ℕ) → result ≡ min 16385 (tracks_from steps (replicate 128 None)) → steps ≡ rested Conditions whole → tracks_from whole (replicate 128 None) ≡ all
+counted : (steps whole : List ActivationStep) (result all : ℕ) → result ≡ min 16385 (tracks_from steps (replicate 128 None)) → steps ≡ rested Conditions whole → tracks_from whole (replicate 128 None) ≡ all
     → result ≡ min 16385 all
 counted steps whole result all is along are = is ∙ ap (λ s. min 16385 (tracks_from s (replicate 128 None))) along ∙ ap (min 16385) (tracks_rested whole (replicate 128 None) ∙ are)
 

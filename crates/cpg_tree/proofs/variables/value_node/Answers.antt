@@ -1,5 +1,5 @@
 use Rattle.std.proofs.Common.{◌+◌, true, false, arith}
-use Rattle.cpg_tree.specs.declared.node.Node.{Leaf}
+use Rattle.cpg_tree.specs.declared.node.TreeNode.{Leaf}
 use Rattle.cpg_tree.specs.Results.{IsForkOf}
 use Rattle.cpg_tree.specs.Variables.{IsValueNode}
 use Rattle.cpg_tree.proofs.Forks.{of_answer}
