@@ -1,5 +1,6 @@
 -- How all scenarios go along an order together.
-use Rattle.std.proofs.Common.{◌≡◌, ◌≢◌, ◌∙◌, ℕ, ◌+◌, ◌*◌, ◌<◌, ◌≤◌, List, [], ◌∷◌, ◌++◌, length, length-set, length-append, get_or, set, Option, None, arith, sym, ap, ap₂, inl, inr, subst, get_or-set_same, get_or-set_other}
+use Rattle.std.proofs.Common.{◌≡◌, ◌≢◌, ◌∙◌, ℕ, ◌+◌, ◌*◌, ◌<◌, ◌≤◌, List, [], ◌∷◌, ◌++◌, length, length-set, length-append, get_or, set, Option, None, arith, sym, ap, ap₂, inl, inr, subst}
+use Rattle.std.proofs.Common.{get_or-set_same, get_or-set_other}
 use Rattle.std.proofs.lemmas.Bool.{cases_eq, cases_lt}
 use Rattle.std.proofs.lemmas.List.{get_or_append_left}
 use Rattle.std.proofs.Math.Seq.{get_or-append_seam}
@@ -16,7 +17,8 @@ pub record AreBeginnings (g : Graph) (n : ℕ) (found : List ProgressState) : Ty
   pub count : length found ≡ n
   pub each : (order : List ℕ) (frozen : List (Option ℕ)) (s : Scenario) (j : ℕ) (p : ProgressState) → j < n → IsAlong g order frozen s 0 (get_or found j p)
 
-pub beginnings_more : (g : Graph) (n : ℕ) (found more : List ProgressState) (q : ProgressState) → AreBeginnings g n found → ((order : List ℕ) (frozen : List (Option ℕ)) (s : Scenario) → IsAlong g order frozen s 0 q)
+pub beginnings_more : (g : Graph) (n : ℕ) (found more : List ProgressState) (q : ProgressState) → AreBeginnings g n found →
+    ((order : List ℕ) (frozen : List (Option ℕ)) (s : Scenario) → IsAlong g order frozen s 0 q)
     → more ≡ found ++ q ∷ [] → AreBeginnings g (n + 1) more
 beginnings_more g n found more q a new is = record {
   count = ap length is ∙ length-append found (q ∷ []) ∙ ap (λ m. m + 1) a.count;

@@ -17,7 +17,11 @@ pub struct TimedItem {
 
 /// All items, those that a log names first, by time: a column speaks of what was before its item, which the items before it have
 /// told by then.
-pub fn in_log_order(alloc: Global, problem: &Problem, log: &Log) -> Result<Vec<TimedItem>, OutOfMemory>
+pub fn in_log_order(
+    alloc: Global,
+    problem: &Problem,
+    log: &Log,
+) -> Result<Vec<TimedItem>, OutOfMemory>
     ensures { IfOk result (λ ordered. IsPermutation (numbers_below (item_count problem.now)) (map (λ t. t.item) ordered.items)) }
 {
     let mut ordered = Vec::new(alloc);

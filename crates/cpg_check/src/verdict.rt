@@ -11,11 +11,11 @@ ghost use Rattle.cpg_check.specs.Verdict.{ShowsFault, ShowsVerdict};
 
 use cpg_base::OutOfMemory;
 use cpg_check_heard::check_heard;
+use cpg_check_quick::time_marks;
 use cpg_check_rows::{check_hears, check_rows, row_marks};
 use cpg_check_time::check_time;
 use cpg_row_trees::{Places, row_trees};
 use cpg_rules::Admitted;
-use cpg_check_quick::time_marks;
 use cpg_table::{Fault, Tables};
 use cpg_violation::{HeadPart, SievedLine, TimeMarks, first_difference, lines_of};
 use std::alloc::Global;

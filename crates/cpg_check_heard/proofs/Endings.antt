@@ -49,7 +49,8 @@ module _ (g : Graph) (tables : List NodeTable) (few : process_count g ≤ 128) (
 
   told_bound : (b : LiteralBound) → IsVariable g (variable_of b) → HasEnded g tables node (variable_of b) time → active g s.values (process_of_variable g (variable_of b)) ≡ true
       → side b (number_of s (variable_of b)) ≡ true → is_told g tables node time b s ≡ true
-  told_bound b known ended on within = own_told (is_free g.faults b) (own_tells g tables node time b s) (own_tells g tables node time b s) (are_told_by g tables time b (heard_by g node) s) (list_any (tells b) (facts g tables node s time))
+  told_bound b known ended on within = own_told (is_free g.faults b) (own_tells g tables node time b s) (own_tells g tables node time b s) (are_told_by g tables time b (heard_by g node) s)
+      (list_any (tells b) (facts g tables node s time))
       refl (facts_told g tables time b s few (variable_within g (variable_of b) few known) node) (own_bound b known ended on within)
 
   pub ended_heard : (l : Literal) → IsVariable g l.variable → HasEnded g tables node l.variable time → active g s.values (process_of_variable g l.variable) ≡ true

@@ -43,7 +43,8 @@ pub value_side : (s : Scenario) (b : LiteralBound) (o : Option ℕ) → list_any
 value_side s b None = refl
 value_side s b (Some c) = or-false (tells b (exactly (value_variable c) (number_of s (value_variable c))))
     ∙ tells_exactly b (value_variable c) (number_of s (value_variable c))
-    ∙ same_where (value_variable c == variable_of b) (side b (number_of s (value_variable c))) (side b (number_of s (variable_of b))) (λ e. ap (λ v. side b (number_of s v)) (eqb-true (value_variable c) (variable_of b) e))
+    ∙ same_where (value_variable c == variable_of b) (side b (number_of s (value_variable c))) (side b (number_of s (variable_of b)))
+    (λ e. ap (λ v. side b (number_of s v)) (eqb-true (value_variable c) (variable_of b) e))
 
 -- the cases of a variable
 variable_parts : (g : Graph) (v : ℕ) → process_count g ≤ 128 → IsVariable g v → (v < process_count g) ⊎ ((128 ≤ v) × (v - 128 < condition_count g))
@@ -70,7 +71,8 @@ module _ (g : Graph) (few : process_count g ≤ 128) (s : Scenario) (i : IsScena
       → list_any (tells b) (exactly p (number_of s p) ∷ value_fact s (condition_of g p)) ≡ side b (number_of s (variable_of b))
   end_side b p known l is = ap (λ t. t || list_any (tells b) (value_fact s (condition_of g p))) (tells_exactly b p (number_of s p))
       ∙ ap (λ t. ((p == variable_of b) && side b (number_of s p)) || t) (value_side s b (condition_of g p))
-      ∙ elim (variable_parts g (variable_of b) few known) as (λ _. (((p == variable_of b) && side b (number_of s p)) || (is_value (condition_of g p) (variable_of b) && side b (number_of s (variable_of b)))) ≡ side b (number_of s (variable_of b))) [
+      ∙ elim (variable_parts g (variable_of b) few known) as
+      (λ _. (((p == variable_of b) && side b (number_of s p)) || (is_value (condition_of g p) (variable_of b) && side b (number_of s (variable_of b)))) ≡ side b (number_of s (variable_of b))) [
         | inl m ↦
             let same : p ≡ variable_of b = sym is ∙ cond-true _ _ _ (lt-ltb (variable_of b) 128 (omega arith)) in
             ap (λ t. (t && side b (number_of s p)) || (is_value (condition_of g p) (variable_of b) && side b (number_of s (variable_of b)))) (eq-eqb p (variable_of b) same)
@@ -81,7 +83,8 @@ module _ (g : Graph) (few : process_count g ≤ 128) (s : Scenario) (i : IsScena
             let at : process_of g c ≡ p = sym (cond-false _ _ _ (le-ltb (variable_of b) 128 m.0)) ∙ is in
             let has : condition_of g p ≡ Some c = ap (condition_of g) (sym at) ∙ condition_of_process_of g c m.1 in
             let here : value_variable c ≡ variable_of b = omega (arith, m.0) in
-            ap (λ t. (t && side b (number_of s p)) || (is_value (condition_of g p) (variable_of b) && side b (number_of s (variable_of b)))) (ne_eqb p (variable_of b) (λ e. omega (arith, e, m.0, l, few)))
+            ap (λ t. (t && side b (number_of s p)) || (is_value (condition_of g p) (variable_of b) && side b (number_of s (variable_of b))))
+            (ne_eqb p (variable_of b) (λ e. omega (arith, e, m.0, l, few)))
             ∙ ap (λ o. is_value o (variable_of b) && side b (number_of s (variable_of b))) has
             ∙ ap (λ t. t && side b (number_of s (variable_of b))) (eq-eqb (value_variable c) (variable_of b) here)
       ]

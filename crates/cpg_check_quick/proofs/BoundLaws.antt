@@ -58,7 +58,8 @@ module _ (k : ℕ) (known : List Literal) (l : Literal) (heard : (w : Literal) �
     | inl below ↦
         let w : Literal = record { variable = l.variable; low = 0; high = l.high } in
         (and_parts _ _ (heard w (Contains-append_right (low_of k l) (high_of k l) w (one_there (nat_le (top k l.variable) l.high) w (lt-leb (top k l.variable) l.high below))))).1
-    | inr free ↦ le-leb (kept_high k known l.variable) l.high (omega (arith, free, least_bound (top k l.variable) (map (λ (l : Literal). l.high) (filter (λ (m : Literal). m.variable == l.variable) known))))
+    | inr free ↦ le-leb (kept_high k known l.variable) l.high
+        (omega (arith, free, least_bound (top k l.variable) (map (λ (l : Literal). l.high) (filter (λ (m : Literal). m.variable == l.variable) known))))
   ]
 
   -- what is kept implies a literal if it implies its bounds
@@ -70,7 +71,8 @@ module _ (g : Graph) (tables : List NodeTable) (node : ℕ) (c : Column) (known 
   pub all_wider : AreToldIn c.cube wanted
   all_wider w h = bounds_wider g.faults known c.cube w (subst (λ ws. Contains ws w) is h)
 
-  pub column_heard : ((l : Literal) → Contains c.cube l → get_or known l.variable false ≡ true → IsHeardIn g tables node c l) → ((l : Literal) → Contains wanted l → IsHeardIn g tables node c l) → IsAllHeard g tables node c
+  pub column_heard : ((l : Literal) → Contains c.cube l → get_or known l.variable false ≡ true → IsHeardIn g tables node c l) → ((l : Literal) → Contains wanted l → IsHeardIn g tables node c l) →
+      IsAllHeard g tables node c
   column_heard own heard l h s law m = go (get_or known l.variable false) refl
     where
       go : (b : Bool) → get_or known l.variable false ≡ b → is_heard g.faults (facts g tables node s c.time) l ≡ true

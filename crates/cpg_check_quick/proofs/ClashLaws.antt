@@ -28,7 +28,8 @@ at_parts tables x s time h =
     (r.0, q.0, q.1, r.2)
 
 -- what passes if an item acts passes at its columns that match
-none_at : (tables : List NodeTable) (x : ℕ) (s : Scenario) (test : ℕ → Bool) → ((d : Column) → Contains (columns_of tables x) d → matches d.cube s ≡ true → test d.time ≡ false) → list_any test (at tables x s) ≡ false
+none_at : (tables : List NodeTable) (x : ℕ) (s : Scenario) (test : ℕ → Bool) → ((d : Column) → Contains (columns_of tables x) d → matches d.cube s ≡ true → test d.time ≡ false) →
+    list_any test (at tables x s) ≡ false
 none_at tables x s test none = list_any_false test (at tables x s) (λ time h. let it = at_parts tables x s time h in sym (ap test it.3) ∙ none it.0 it.1 it.2)
 
 -- ---- V6
@@ -72,13 +73,17 @@ module _ (g : Graph) (tables : List NodeTable) (x : ℕ) where
   lower_apart : All (λ (c : Column). (s : Scenario) → IsScenario g s → matches c.cube s ≡ true → next_slot g (home g x) c.time ≡ c.time) (columns_of tables x)
       → All (λ y. IsApart sending g tables y x) (filter (λ y. is_sent g y && (home g y == home g x)) (numbers_below x)) → IsSure g tables Rule.Slot x
   lower_apart starts apart = sure_of g tables Rule.Slot x refl (λ s c earlier law there m.
-      let start : next_slot g (home g x) c.time ≡ c.time = All-contains (λ (c : Column). (s : Scenario) → IsScenario g s → matches c.cube s ≡ true → next_slot g (home g x) c.time ≡ c.time) (columns_of tables x) c starts there s law m in
-      and_right (is_sent g x) _ (ap (λ b. not b || list_any (λ y. is_sent g y && (home g y == home g x) && list_any (λ t. t == c.time) (at tables y s)) (numbers_below x)) (eq-eqb (next_slot g (home g x) c.time) c.time start)
+      let start : next_slot g (home g x) c.time ≡ c.time = All-contains (λ (c : Column). (s : Scenario) → IsScenario g s → matches c.cube s ≡ true → next_slot g (home g x) c.time ≡ c.time)
+      (columns_of tables x) c starts there s law m in
+      and_right (is_sent g x) _ (ap (λ b. not b || list_any (λ y. is_sent g y && (home g y == home g x) && list_any (λ t. t == c.time) (at tables y s)) (numbers_below x))
+      (eq-eqb (next_slot g (home g x) c.time) c.time start)
       ∙ list_any_false (λ y. is_sent g y && (home g y == home g x) && list_any (λ t. t == c.time) (at tables y s)) (numbers_below x) (λ y k.
       off_where (is_sent g y && (home g y == home g x)) (list_any (λ t. t == c.time) (at tables y s)) (λ e.
       none_at tables y s (λ t. t == c.time) (λ d at n. other_time d.time c.time
-      (All-contains (λ y. IsApart sending g tables y x) (filter (λ y. is_sent g y && (home g y == home g x)) (numbers_below x)) y apart (Contains-filter (λ y. is_sent g y && (home g y == home g x)) (numbers_below x) y e k) s c law there m d at n))))))
+      (All-contains (λ y. IsApart sending g tables y x) (filter (λ y. is_sent g y && (home g y == home g x)) (numbers_below x)) y apart
+      (Contains-filter (λ y. is_sent g y && (home g y == home g x)) (numbers_below x) y e k) s c law there m d at n))))))
 
   pub sure_own_slots : (lower : List ℕ) → lower ≡ filter (λ y. is_sent g y && (home g y == home g x)) (numbers_below x)
-      → All (λ (c : Column). (s : Scenario) → IsScenario g s → matches c.cube s ≡ true → next_slot g (home g x) c.time ≡ c.time) (columns_of tables x) → All (λ y. IsApart sending g tables y x) lower → IsSure g tables Rule.Slot x
+      → All (λ (c : Column). (s : Scenario) → IsScenario g s → matches c.cube s ≡ true → next_slot g (home g x) c.time ≡ c.time) (columns_of tables x) →
+      All (λ y. IsApart sending g tables y x) lower → IsSure g tables Rule.Slot x
   sure_own_slots lower is starts apart = lower_apart starts (subst (λ (ys : List ℕ). All (λ y. IsApart sending g tables y x) ys) is apart)

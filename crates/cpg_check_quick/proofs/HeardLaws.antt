@@ -1,5 +1,6 @@
 -- V4 at an item, by the literals of its columns: what the ends of a node's own processes and the frames that reached it tell.
-use Rattle.std.proofs.Common.{ℕ, ◌+◌, ◌-◌, ◌<◌, ◌≤◌, ◌≡◌, ◌==◌, Bool, true, cond, not, List, [], ◌∷◌, ◌++◌, filter, map, flat_map, Contains, Some, refl, sym, ap, ◌∙◌, subst, arith, inl, inr, eq-eqb, le-leb, leb-true, leb, lt-ltb, le-ltb}
+use Rattle.std.proofs.Common.{ℕ, ◌+◌, ◌-◌, ◌<◌, ◌≤◌, ◌≡◌, ◌==◌, Bool, true, cond, not, List, [], ◌∷◌, ◌++◌, filter, map, flat_map, Contains, Some, refl, sym, ap, ◌∙◌, subst, arith, inl, inr, eq-eqb}
+use Rattle.std.proofs.Common.{le-leb, leb-true, leb, lt-ltb, le-ltb}
 use Rattle.std.proofs.lemmas.Bool.{and_from, and_parts, cond-true, cond-false}
 use Rattle.std.proofs.lemmas.List.Elements.{Contains-append_left, Contains-append_right}
 use Rattle.cpg_base.specs.Bus.{slot_length}
@@ -30,7 +31,8 @@ module _ (g : Graph) (tables : List NodeTable) (node time : ℕ) (s : Scenario) 
       let known : List Literal = facts g tables node s time in
       let here : Contains (filter (λ (n : Literal). n.variable == l.variable) known) m = Contains-filter (λ (n : Literal). n.variable == l.variable) known m (eq-eqb m.variable l.variable same) k in
       let above = greatest_above (map (λ (n : Literal). n.low) (filter (λ (n : Literal). n.variable == l.variable) known)) m.low (Contains-map (λ (n : Literal). n.low) _ m here) in
-      let below = least_below (top g.faults l.variable) (map (λ (n : Literal). n.high) (filter (λ (n : Literal). n.variable == l.variable) known)) m.high (Contains-map (λ (n : Literal). n.high) _ m here) in
+      let below = least_below (top g.faults l.variable) (map (λ (n : Literal). n.high) (filter (λ (n : Literal). n.variable == l.variable) known)) m.high
+      (Contains-map (λ (n : Literal). n.high) _ m here) in
       and_from _ _ (le-leb l.low (kept_low known l.variable) (omega (arith, low, above))) (le-leb (kept_high g.faults known l.variable) l.high (omega (arith, high, below)))
 
   -- what stands where a test passes
@@ -38,7 +40,8 @@ module _ (g : Graph) (tables : List NodeTable) (node time : ℕ) (s : Scenario) 
   kept_where b xs m e k = subst (λ ys. Contains ys m) (sym (cond-true b xs [] e)) k
 
   -- a frame of a column that matches, which has come by the time
-  pub heard_frame : (y : ℕ) (d : Column) (m : Literal) → y < item_count g → is_heard_by g node (item_at g y) ≡ true → Contains (columns_of tables y) d → matches d.cube s ≡ true → d.time + slot_length g (home g y) ≤ time
+  pub heard_frame : (y : ℕ) (d : Column) (m : Literal) → y < item_count g → is_heard_by g node (item_at g y) ≡ true → Contains (columns_of tables y) d → matches d.cube s ≡ true →
+      d.time + slot_length g (home g y) ≤ time
       → Contains (d.cube ++ frame_value s (item_at g y)) m → m.variable ≡ l.variable → l.low ≤ m.low → m.high ≤ l.high → is_heard g.faults (facts g tables node s time) l ≡ true
   heard_frame y d m within hears there match come told = heard_fact m
       (Contains-append_right (flat_map (facts_of_end g tables s time) (filter (λ p. node_of g p == node) (numbers_below (process_count g)))) _ m
@@ -52,14 +55,16 @@ module _ (g : Graph) (tables : List NodeTable) (node time : ℕ) (s : Scenario) 
   end_tells : (v q : ℕ) → process_count g ≤ 128 → IsVariable g v → process_of_variable g v ≡ q → Contains (exactly q (number_of s q) ∷ value_fact s (condition_of g q)) (exactly v (number_of s v))
   end_tells v q few (inl count) of_it =
       let same : v ≡ q = sym (cond-true _ v (process_of g (v - 128)) (lt-ltb v 128 (omega (arith, count, few)))) ∙ of_it in
-      subst (λ w. Contains (exactly q (number_of s q) ∷ value_fact s (condition_of g q)) (exactly w (number_of s w))) (sym same) (Contains-first (exactly q (number_of s q)) (value_fact s (condition_of g q)))
+      subst (λ w. Contains (exactly q (number_of s q) ∷ value_fact s (condition_of g q)) (exactly w (number_of s w))) (sym same)
+      (Contains-first (exactly q (number_of s q)) (value_fact s (condition_of g q)))
   end_tells v q few (inr value) of_it =
       let c : ℕ = v - 128 in
       let is : value_variable c ≡ v = omega (arith, value.0) in
       let at : process_of g c ≡ q = sym (cond-false _ v (process_of g (v - 128)) (le-ltb v 128 value.0)) ∙ of_it in
       let has : condition_of g q ≡ Some c = ap (condition_of g) (sym at) ∙ condition_of_process_of g c (omega (arith, value.0, value.1)) in
       Contains-rest (exactly q (number_of s q)) (value_fact s (condition_of g q)) (exactly v (number_of s v))
-      (subst (λ o. Contains (value_fact s o) (exactly v (number_of s v))) (sym has) (subst (λ w. Contains (exactly w (number_of s w) ∷ []) (exactly v (number_of s v))) (sym is) (Contains-first (exactly v (number_of s v)) [])))
+      (subst (λ o. Contains (value_fact s o) (exactly v (number_of s v))) (sym has)
+      (subst (λ w. Contains (exactly w (number_of s w) ∷ []) (exactly v (number_of s v))) (sym is) (Contains-first (exactly v (number_of s v)) [])))
 
   -- an own process that has ended by the time
   pub heard_end : (q : ℕ) → process_count g ≤ 128 → q < process_count g → node_of g q ≡ node → is_by time (ends_of g tables s q) ≡ true → IsVariable g l.variable → process_of_variable g l.variable ≡ q
@@ -79,6 +84,7 @@ module _ (g : Graph) (tables : List NodeTable) (node time : ℕ) (s : Scenario) 
       refl (leb-true _ _ range.0) (leb-true _ _ range.1)
 
 -- if all literals of all columns are heard, the rule holds
-pub heard_sure : (g : Graph) (tables : List NodeTable) (x : ℕ) → ((c : Column) (l : Literal) → Contains (columns_of tables x) c → Contains c.cube l → IsHeardIn g tables (home g x) c l) → IsSure g tables Rule.Heard x
+pub heard_sure : (g : Graph) (tables : List NodeTable) (x : ℕ) → ((c : Column) (l : Literal) → Contains (columns_of tables x) c → Contains c.cube l → IsHeardIn g tables (home g x) c l) →
+    IsSure g tables Rule.Heard x
 heard_sure g tables x heard = sure_of g tables Rule.Heard x refl (λ s c earlier law k m.
     list_any_false (λ l. not (is_heard g.faults (facts g tables (home g x) s c.time) l)) c.cube (λ l h. ap not (heard c l k h s law m)))

@@ -1,5 +1,6 @@
 -- V5 at an item, by its columns.
-use Rattle.std.proofs.Common.{ℕ, ◌+◌, ◌<◌, ◌≤◌, ◌≡◌, ◌⊎◌, Bool, true, false, cond, not, ◌||◌, List, [], ◌∷◌, ◌++◌, All, filter, get_or, length, take, Contains, refl, ap, ap₂, ◌∙◌, subst, arith, inl, inr, le-ltb}
+use Rattle.std.proofs.Common.{ℕ, ◌+◌, ◌<◌, ◌≤◌, ◌≡◌, ◌⊎◌, Bool, true, false, cond, not, ◌||◌, List, [], ◌∷◌, ◌++◌, All, filter, get_or, length, take, Contains, refl, ap, ap₂, ◌∙◌, subst, arith, inl}
+use Rattle.std.proofs.Common.{inr, le-ltb}
 use Rattle.std.proofs.lemmas.Bool.{and_parts}
 use Rattle.std.proofs.lemmas.List.{take_more}
 use Rattle.std.proofs.lemmas.List.Elements.{All-contains, All-contains_itself, All-weaker, Contains-append_left, Contains-get_or, Contains-push, Contains-push_cases}
@@ -43,12 +44,14 @@ module _ (g : Graph) (tables : List NodeTable) where
         ∙ ap not (over_ended g tables rules s law c.time (producer g x) (producer_within g formed x l) (made g s x l send (active_where g tables s law x l rules c k m)) (before s c law k m)))
 
     module _ (c : Column) (e : ℕ) where
-      there_if : (s : Scenario) (b : Bool) → is_message g e ≡ b → is_by c.time (cond b (arrivals_of g tables s (message_item g e)) (ends_of g tables s (source g e))) ≡ true → input_is_there g tables s c.time e ≡ true
+      there_if : (s : Scenario) (b : Bool) → is_message g e ≡ b → is_by c.time (cond b (arrivals_of g tables s (message_item g e)) (ends_of g tables s (source g e))) ≡ true →
+          input_is_there g tables s c.time e ≡ true
       there_if s b m h = ap (λ b. is_by c.time (cond b (arrivals_of g tables s (message_item g e)) (ends_of g tables s (source g e)))) m ∙ h
 
       -- a message whose frame is over
       pub message_there : e < edge_count g → is_message g e ≡ true
-          → ((s : Scenario) → IsScenario g s → matches c.cube s ≡ true → live g s.values e ≡ true → IsOverBy tables (slot_length g (home g (message_item g e))) (message_item g e) c.time s) → IsInputThere g tables c e
+          → ((s : Scenario) → IsScenario g s → matches c.cube s ≡ true → live g s.values e ≡ true → IsOverBy tables (slot_length g (home g (message_item g e))) (message_item g e) c.time s) →
+          IsInputThere g tables c e
       message_there l sent over s law m a = there_if s true sent (over_arrived g tables rules s law c.time e l sent a (over s law m a))
 
       -- a source on the node that is over
@@ -57,7 +60,8 @@ module _ (g : Graph) (tables : List NodeTable) where
       source_there near l over s law m a = there_if s false near (over_ended g tables rules s law c.time (source g e) l (and_parts (active g s.values (source g e)) _ a).0 (over s law m a))
 
       -- an input of either kind
-      input_there : e < edge_count g → source g e < process_count g → ((s : Scenario) → IsScenario g s → matches c.cube s ≡ true → live g s.values e ≡ true → IsInputOver g tables e c.time s) → IsInputThere g tables c e
+      input_there : e < edge_count g → source g e < process_count g → ((s : Scenario) → IsScenario g s → matches c.cube s ≡ true → live g s.values e ≡ true → IsInputOver g tables e c.time s) →
+          IsInputThere g tables c e
       input_there l from over = go (is_message g e) refl
         where
           go : (b : Bool) → is_message g e ≡ b → IsInputThere g tables c e

@@ -1,5 +1,6 @@
 -- Items that are over before others begin: by the trees of their rows, by columns one after another, and by items between.
-use Rattle.std.proofs.Common.{ℕ, ◌+◌, ◌-◌, ◌<◌, ◌≤◌, ◌≡◌, ◌⊎◌, true, false, not, ◌&&◌, Bool, cond, List, [], ◌∷◌, ◌++◌, Option, None, Some, All, Contains, IfSome, length, get_or, take, drop, min, arith, refl, sym, ap, ◌∙◌, subst, inl, inr, Global, Vec}
+use Rattle.std.proofs.Common.{ℕ, ◌+◌, ◌-◌, ◌<◌, ◌≤◌, ◌≡◌, ◌⊎◌, true, false, not, ◌&&◌, Bool, cond, List, [], ◌∷◌, ◌++◌, Option, None, Some, All, Contains, IfSome, length, get_or, take, drop, min}
+use Rattle.std.proofs.Common.{arith, refl, sym, ap, ◌∙◌, subst, inl, inr, Global, Vec}
 use Rattle.std.specs.List.{list_any}
 use Rattle.std.proofs.lemmas.Bool.{cases_lt, both_ways}
 use Rattle.std.proofs.lemmas.List.{get_or_default, get_or-drop, get_or-take, get_or_append_left, get_or_push, length-append, length-take, length-drop}
@@ -54,7 +55,8 @@ pub record AreSoFar (lasts : ℕ → Scenario → ℕ) (g : Graph) (tables : Lis
   pub count : length list ≡ n
   pub each : (x : ℕ) (d : Course) → x < length list → IsCourse g tables (lasts x) x (get_or list x d)
 
-pub courses_more : (lasts : ℕ → Scenario → ℕ) (g : Graph) (tables : List NodeTable) (n : ℕ) (list : List Course) (course : Course) → AreSoFar lasts g tables n list → IsCourse g tables (lasts n) n course → AreSoFar lasts g tables (n + 1) (list ++ course ∷ [])
+pub courses_more : (lasts : ℕ → Scenario → ℕ) (g : Graph) (tables : List NodeTable) (n : ℕ) (list : List Course) (course : Course) → AreSoFar lasts g tables n list →
+    IsCourse g tables (lasts n) n course → AreSoFar lasts g tables (n + 1) (list ++ course ∷ [])
 courses_more lasts g tables n list course before here = record {
   count = omega (arith, length-append list (course ∷ []), before.count);
   each = λ x d l. elim (cases_lt x n) [
@@ -103,11 +105,13 @@ module _ {g : Graph} {tables : List NodeTable} {lasts : Scenario → ℕ} {x : �
     -- by the tree
     pub told_over : (time : ℕ) → IfSome (place_at tree s) (λ i. IsPast course.span (column_at course.columns.now i).time time s) → IsOverBy tables (lasts s) x time s
     told_over time h d c m = past_over is.span law d.time time
-        (each_told row_tree s law (λ (d : Column). IsPast course.span d.time time s) (subst (λ (columns : List Column). IfSome (place_at tree s) (λ i. IsPast course.span (column_at columns i).time time s)) is.columns h) d c m)
+        (each_told row_tree s law (λ (d : Column). IsPast course.span d.time time s)
+        (subst (λ (columns : List Column). IfSome (place_at tree s) (λ i. IsPast course.span (column_at columns i).time time s)) is.columns h) d c m)
 
     -- by the tree, one or the other
     pub told_apart : {other : Scenario → ℕ} {span : ItemSpan} → IsSpan g other span → (time : ℕ)
-        → IfSome (place_at tree s) (λ i. IsPast course.span (column_at course.columns.now i).time time s ⊎ IsPast span time (column_at course.columns.now i).time s) → IsApartAt tables (lasts s) x (other s) time s
+        → IfSome (place_at tree s) (λ i. IsPast course.span (column_at course.columns.now i).time time s ⊎ IsPast span time (column_at course.columns.now i).time s) →
+        IsApartAt tables (lasts s) x (other s) time s
     told_apart {other = other} {span = span} by time h d c m =
         elim (each_told row_tree s law (λ (d : Column). IsPast course.span d.time time s ⊎ IsPast span time d.time s)
         (subst (λ (columns : List Column). IfSome (place_at tree s) (λ i. IsPast course.span (column_at columns i).time time s ⊎ IsPast span time (column_at columns i).time s)) is.columns h) d c m) [
@@ -131,7 +135,8 @@ told_so (Some i) h f = f i h
 
 -- ---- two trees
 
-module _ {g : Graph} {tables : List NodeTable} {lasts : Scenario → ℕ} {y : ℕ} {one : Course} (is : IsCourse g tables lasts y one) {s : Scenario} (law : IsScenario g s) (own : Places) (there : one.tree.now ≡ Some own) where
+module _ {g : Graph} {tables : List NodeTable} {lasts : Scenario → ℕ} {y : ℕ} {one : Course} (is : IsCourse g tables lasts y one) {s : Scenario} (law : IsScenario g s) (own : Places)
+    (there : one.tree.now ≡ Some own) where
   over_at : (time : ℕ) → IsOverAt one time (place_at own s) s → IsOverBy tables (lasts s) y time s
   over_at time h = elim h [
     | inl early ↦ early_over is law time early
@@ -159,13 +164,15 @@ module _ (lasts : ℕ → Scenario → ℕ) (g : Graph) (tables : List NodeTable
       → ((s : Scenario) → IsScenario g s → All (λ (c : Column). matches c.cube s ≡ true → All (λ y. IsOverBy tables (lasts y s) y c.time s) items) columns)
       → All (λ y. IsOver lasts g tables y x) items
   over_all x columns items all each k d l s c law here m =
-      All-contains (λ (c : Column). matches c.cube s ≡ true → All (λ y. IsOverBy tables (lasts y s) y c.time s) items) columns c (each s law) (subst (λ (cs : List Column). Contains cs c) (sym all) here) m k d l
+      All-contains (λ (c : Column). matches c.cube s ≡ true → All (λ y. IsOverBy tables (lasts y s) y c.time s) items) columns c (each s law)
+      (subst (λ (cs : List Column). Contains cs c) (sym all) here) m k d l
 
   pub apart_all : (x : ℕ) (columns : List Column) (items : List ℕ) → columns ≡ columns_of tables x
       → ((s : Scenario) → IsScenario g s → All (λ (c : Column). matches c.cube s ≡ true → All (λ y. IsApartAt tables (lasts y s) y (lasts x s) c.time s) items) columns)
       → All (λ y. IsApart lasts g tables y x) items
   apart_all x columns items all each k d l s c law here m =
-      All-contains (λ (c : Column). matches c.cube s ≡ true → All (λ y. IsApartAt tables (lasts y s) y (lasts x s) c.time s) items) columns c (each s law) (subst (λ (cs : List Column). Contains cs c) (sym all) here) m k d l
+      All-contains (λ (c : Column). matches c.cube s ≡ true → All (λ y. IsApartAt tables (lasts y s) y (lasts x s) c.time s) items) columns c (each s law)
+      (subst (λ (cs : List Column). Contains cs c) (sym all) here) m k d l
 
   -- one item that is over before another is apart from it
   pub over_apart : (y x : ℕ) → IsOver lasts g tables y x → IsApart lasts g tables y x
@@ -178,10 +185,12 @@ module _ (lasts : ℕ → Scenario → ℕ) (g : Graph) (tables : List NodeTable
 
 module _ (g : Graph) (tables : List NodeTable) (present : Holds g tables Rule.Present) where
   -- an item that is active has a column that matches
-  pub has_column : (x : ℕ) → x < item_count g → (s : Scenario) → IsScenario g s → item_active g s.values (item_at g x) ≡ true → (d : Column) × Contains (columns_of tables x) d × (matches d.cube s ≡ true)
+  pub has_column : (x : ℕ) → x < item_count g → (s : Scenario) → IsScenario g s → item_active g s.values (item_at g x) ≡ true → (d : Column) × Contains (columns_of tables x) d ×
+      (matches d.cube s ≡ true)
   has_column x l s law active =
       let none : (item_active g s.values (item_at g x) && not (list_any (λ (d : Column). matches d.cube s) (columns_of tables x))) ≡ false = present x None s law l in
-      list_any_parts (λ (d : Column). matches d.cube s) (columns_of tables x) (shown (item_active g s.values (item_at g x)) (list_any (λ (d : Column). matches d.cube s) (columns_of tables x)) active none)
+      list_any_parts (λ (d : Column). matches d.cube s) (columns_of tables x)
+      (shown (item_active g s.values (item_at g x)) (list_any (λ (d : Column). matches d.cube s) (columns_of tables x)) active none)
     where
       shown : (a b : Bool) → a ≡ true → (a && not b) ≡ false → b ≡ true
       shown true true e h = refl
@@ -213,7 +222,8 @@ module _ (g : Graph) (tables : List NodeTable) (present : Holds g tables Rule.Pr
           before_over (get_or items i 0) (get_or items start 0) (get_or items place 0) is.2 is.1 (before i start h is.0) (near start (omega arith) is.0)
 
       -- one place more
-      pub in_turn_more : ((i j : ℕ) → i < j → j < place → IsOver lasts g tables (get_or items i 0) (get_or items j 0)) → (i j : ℕ) → i < j → j < place + 1 → IsOver lasts g tables (get_or items i 0) (get_or items j 0)
+      pub in_turn_more : ((i j : ℕ) → i < j → j < place → IsOver lasts g tables (get_or items i 0) (get_or items j 0)) → (i j : ℕ) → i < j → j < place + 1 →
+          IsOver lasts g tables (get_or items i 0) (get_or items j 0)
       in_turn_more before i j h k = elim (cases_lt j place) [
         | inl lt ↦ before i j h lt
         | inr ge ↦ let same : place ≡ j = omega (arith, k, ge) in subst (λ z. IsOver lasts g tables (get_or items i 0) (get_or items z 0)) same (elim (cases_lt i start) [
@@ -225,17 +235,22 @@ module _ (g : Graph) (tables : List NodeTable) (present : Holds g tables Rule.Pr
 -- the items before a place are in turn, and the one at the start, if it isn't the first, is active in every scenario
 pub record IsInTurnTo (courses : Courses) (items : List ℕ) (place start : ℕ) : Type 0 where
   pub within : start ≤ place
-  pub always : (g : Graph) (tables : List NodeTable) (lasts : ℕ → Scenario → ℕ) → AreCourses lasts g tables courses → 0 < start → (start < place) × IsUnconditional g (get_or items start 0) × (get_or items start 0 < item_count g)
-  pub before : (g : Graph) (tables : List NodeTable) (lasts : ℕ → Scenario → ℕ) → AreCourses lasts g tables courses → Holds g tables Rule.Present → (i j : ℕ) → i < j → j < place → IsOver lasts g tables (get_or items i 0) (get_or items j 0)
+  pub always : (g : Graph) (tables : List NodeTable) (lasts : ℕ → Scenario → ℕ) → AreCourses lasts g tables courses → 0 < start → (start < place) × IsUnconditional g (get_or items start 0) ×
+      (get_or items start 0 < item_count g)
+  pub before : (g : Graph) (tables : List NodeTable) (lasts : ℕ → Scenario → ℕ) → AreCourses lasts g tables courses → Holds g tables Rule.Present → (i j : ℕ) → i < j → j < place →
+      IsOver lasts g tables (get_or items i 0) (get_or items j 0)
 
 pub turn_step : (courses : Courses) (items : List ℕ) (place start next : ℕ) (b : Bool) → next ≡ cond b place start → place < length items
-    → ((g : Graph) (tables : List NodeTable) (lasts : ℕ → Scenario → ℕ) → AreCourses lasts g tables courses → b ≡ true → IsUnconditional g (get_or items place 0) × (get_or items place 0 < item_count g))
-    → ((g : Graph) (tables : List NodeTable) (lasts : ℕ → Scenario → ℕ) → AreCourses lasts g tables courses → All (λ y. IsOver lasts g tables y (get_or items place 0)) (take (place - start) (drop start items)))
+    → ((g : Graph) (tables : List NodeTable) (lasts : ℕ → Scenario → ℕ) → AreCourses lasts g tables courses → b ≡ true → IsUnconditional g (get_or items place 0) ×
+    (get_or items place 0 < item_count g))
+    → ((g : Graph) (tables : List NodeTable) (lasts : ℕ → Scenario → ℕ) → AreCourses lasts g tables courses →
+    All (λ y. IsOver lasts g tables y (get_or items place 0)) (take (place - start) (drop start items)))
     → IsInTurnTo courses items place start → IsInTurnTo courses items (place + 1) next
 turn_step courses items place start next b is there here over now = record {
   within = within b is;
   always = λ g tables lasts are some. always g tables lasts are b is some (here g tables lasts are);
-  before = λ g tables lasts are present. in_turn_more g tables present lasts items place start there now.within (now.always g tables lasts are) (over g tables lasts are) (now.before g tables lasts are present);
+  before = λ g tables lasts are present. in_turn_more g tables present lasts items place start there now.within (now.always g tables lasts are) (over g tables lasts are)
+      (now.before g tables lasts are present);
 }
   where
     within : (b : Bool) → next ≡ cond b place start → next ≤ place + 1
@@ -243,8 +258,10 @@ turn_step courses items place start next b is there here over now = record {
     within false e = omega (arith, e, now.within)
 
     always : (g : Graph) (tables : List NodeTable) (lasts : ℕ → Scenario → ℕ) → AreCourses lasts g tables courses → (b : Bool) → next ≡ cond b place start → 0 < next
-        → (b ≡ true → IsUnconditional g (get_or items place 0) × (get_or items place 0 < item_count g)) → (next < place + 1) × IsUnconditional g (get_or items next 0) × (get_or items next 0 < item_count g)
-    always g tables lasts are true e some h = let is = h refl in (omega (arith, e), subst (λ n. IsUnconditional g (get_or items n 0)) (sym e) is.0, subst (λ n. get_or items n 0 < item_count g) (sym e) is.1)
+        → (b ≡ true → IsUnconditional g (get_or items place 0) × (get_or items place 0 < item_count g)) → (next < place + 1) × IsUnconditional g (get_or items next 0) ×
+        (get_or items next 0 < item_count g)
+    always g tables lasts are true e some h = let is = h refl in
+        (omega (arith, e), subst (λ n. IsUnconditional g (get_or items n 0)) (sym e) is.0, subst (λ n. get_or items n 0 < item_count g) (sym e) is.1)
     always g tables lasts are false e some h =
         let old = now.always g tables lasts are (omega (arith, e, some)) in
         (omega (arith, e, old.0), subst (λ n. IsUnconditional g (get_or items n 0)) (sym e) old.1, subst (λ n. get_or items n 0 < item_count g) (sym e) old.2)
@@ -258,12 +275,14 @@ before_in lasts g tables order x y all stands =
     subst (λ a. IsOver lasts g tables a y) stands.is_first (subst (λ b. IsOver lasts g tables (get_or order stands.from 0) b) stands.is_second over)
 
 -- an order is one of those that are known
-pub order_at : (lasts : ℕ → Scenario → ℕ) (g : Graph) (tables : List NodeTable) (orders list : List (Vec ℕ Global)) (node : ℕ) (order : Vec ℕ Global) → All (λ o. IsInTurn lasts g tables o.items) orders
+pub order_at : (lasts : ℕ → Scenario → ℕ) (g : Graph) (tables : List NodeTable) (orders list : List (Vec ℕ Global)) (node : ℕ) (order : Vec ℕ Global) →
+    All (λ o. IsInTurn lasts g tables o.items) orders
     → list ≡ orders → node < length list → order ≡ get_or list node order → IsInTurn lasts g tables order.items
 order_at lasts g tables orders list node order all same l is =
     subst (λ (o : Vec ℕ Global). IsInTurn lasts g tables o.items) (sym (is ∙ ap (λ (os : List (Vec ℕ Global)). get_or os node order) same)) (all node order (omega (arith, l, ap length same)))
 
-pub orders_more : (lasts : ℕ → Scenario → ℕ) (g : Graph) (tables : List NodeTable) (orders : List (Vec ℕ Global)) (order : Vec ℕ Global) → All (λ o. IsInTurn lasts g tables o.items) orders → IsInTurn lasts g tables order.items
+pub orders_more : (lasts : ℕ → Scenario → ℕ) (g : Graph) (tables : List NodeTable) (orders : List (Vec ℕ Global)) (order : Vec ℕ Global) → All (λ o. IsInTurn lasts g tables o.items) orders →
+    IsInTurn lasts g tables order.items
     → All (λ o. IsInTurn lasts g tables o.items) (orders ++ order ∷ [])
 orders_more lasts g tables orders order all here = All-push (λ (o : Vec ℕ Global). IsInTurn lasts g tables o.items) orders order all here
 

@@ -1,5 +1,6 @@
 -- What a node knows by the ends of its own processes.
-use Rattle.std.proofs.Common.{ℕ, zero, suc, replicate, true≢false, ◌+◌, ◌<◌, ◌≤◌, ◌≡◌, Bool, true, false, List, All, Contains, get_or, length, sym, ap, ◌∙◌, subst, arith, inl, inr, refl, le-leb, leb-true}
+use Rattle.std.proofs.Common.{ℕ, zero, suc, replicate, true≢false, ◌+◌, ◌<◌, ◌≤◌, ◌≡◌, Bool, true, false, List, All, Contains, get_or, length, sym, ap, ◌∙◌, subst, arith, inl, inr, refl, le-leb}
+use Rattle.std.proofs.Common.{leb-true}
 use Rattle.std.specs.Bool.{OnTrue}
 use Rattle.std.specs.Prelude.{slice_set}
 use Rattle.std.proofs.lemmas.Bool.{OnTrue_at, and_from, and_parts, cases_eq, not-false}
@@ -73,12 +74,15 @@ module _ (g : Graph) (tables : List NodeTable) (rules : AllHold g tables row_rul
       pub over_heard : (s : Scenario) → IsScenario g s → matches c.cube s ≡ true → IsOwnOver g tables (home g x) l.variable c.time s → is_heard g.faults (facts g tables (home g x) s c.time) l ≡ true
       over_heard s law m own =
           let on : active g s.values own.process ≡ true = ap (active g s.values) (sym own.owner.owner) ∙ active_here s law m in
-          heard_end g tables (home g x) c.time s l own.process few own.owner.within own.near (over_ended g tables rules s law c.time own.process own.owner.within on own.over) own.owner.known own.owner.owner (holds_here s m)
+          heard_end g tables (home g x) c.time s l own.process few own.owner.within own.near
+          (over_ended g tables rules s law c.time own.process own.owner.within on own.over) own.owner.known own.owner.owner (holds_here s m)
 
     -- if all literals are on variables of processes that have ended, the rule holds
-    pub known_sure : process_count g ≤ 128 → (known : List Bool) → AreOwnEnded g tables x known → All (λ (c : Column). All (λ (l : Literal). get_or known l.variable false ≡ true) c.cube) (columns_of tables x) → IsSure g tables Rule.Heard x
+    pub known_sure : process_count g ≤ 128 → (known : List Bool) → AreOwnEnded g tables x known →
+        All (λ (c : Column). All (λ (l : Literal). get_or known l.variable false ≡ true) c.cube) (columns_of tables x) → IsSure g tables Rule.Heard x
     known_sure few known own all = heard_sure g tables x (λ c l k h.
-        let marked = All-contains (λ (l : Literal). get_or known l.variable false ≡ true) c.cube l (All-contains (λ (c : Column). All (λ (l : Literal). get_or known l.variable false ≡ true) c.cube) (columns_of tables x) c all k) h in
+        let marked = All-contains (λ (l : Literal). get_or known l.variable false ≡ true) c.cube l
+        (All-contains (λ (c : Column). All (λ (l : Literal). get_or known l.variable false ≡ true) c.cube) (columns_of tables x) c all k) h in
         ended_heard few c l k (record { by = l; there = h; variable = refl; low = omega arith; high = omega arith }) (own l.variable marked))
 
     module _ (few : process_count g ≤ 128) (c : Column) (k : Contains (columns_of tables x) c) where
@@ -96,7 +100,8 @@ module _ (g : Graph) (tables : List NodeTable) (rules : AllHold g tables row_rul
       ]
 
 -- one variable more
-pub own_more : (g : Graph) (tables : List NodeTable) (x : ℕ) (known : List Bool) (k : ℕ) (b : Bool) → k < length known → AreOwnEnded g tables x known → OnTrue b (IsOwnEnded g tables x k) → AreOwnEnded g tables x (slice_set known k b)
+pub own_more : (g : Graph) (tables : List NodeTable) (x : ℕ) (known : List Bool) (k : ℕ) (b : Bool) → k < length known → AreOwnEnded g tables x known → OnTrue b (IsOwnEnded g tables x k) →
+    AreOwnEnded g tables x (slice_set known k b)
 own_more g tables x known k b within before here v t = elim (cases_eq v k) [
   | inl same ↦ subst (IsOwnEnded g tables x) (sym same) (OnTrue_at (sym (get_or-set_same known k b false within) ∙ ap (λ j. get_or (slice_set known k b) j false) (sym same) ∙ t) here)
   | inr other ↦ before v (sym (get_or-set_other known k v b false other) ∙ t)

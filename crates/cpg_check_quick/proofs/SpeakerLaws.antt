@@ -34,7 +34,8 @@ module _ {g : Graph} {tables : List NodeTable} {node : ℕ} {speaker : Speaker} 
       let to : number_of s l.variable ≤ h.by.high = subst (λ v. number_of s v ≤ h.by.high) h.variable (leb-true _ _ inside.1) in
       elim told as (λ _. is_heard g.faults (facts g tables node s c.time) l ≡ true) [
         | inl value ↦
-            let carried : Contains (frame_value s (item_at g speaker.item)) (exactly l.variable (number_of s l.variable)) = subst (λ o. IfSome o (λ v. (s : Scenario) → Contains (frame_value s (item_at g speaker.item)) (exactly v (number_of s v)))) value is.value s in
+            let carried : Contains (frame_value s (item_at g speaker.item)) (exactly l.variable (number_of s l.variable)) =
+            subst (λ o. IfSome o (λ v. (s : Scenario) → Contains (frame_value s (item_at g speaker.item)) (exactly v (number_of s v)))) value is.value s in
             heard_frame g tables node c.time s l speaker.item d (exactly l.variable (number_of s l.variable)) is.item is.heard (Contains-get_or (columns_of tables speaker.item) i _ there) match by
             (Contains-append_right d.cube (frame_value s (item_at g speaker.item)) _ carried) refl (omega (arith, h.low, from)) (omega (arith, to, h.high))
         | inr all ↦
@@ -44,12 +45,14 @@ module _ {g : Graph} {tables : List NodeTable} {node : ℕ} {speaker : Speaker} 
       ]
 
   -- a literal is heard that the frames tell which have come wherever a column matches
-  pub speaker_heard : ((s : Scenario) → IsScenario g s → matches c.cube s ≡ true → HasCome speaker.columns.now speaker.delay c.time (place_at speaker.tree.now s) × IsAmong places (place_at speaker.tree.now s))
+  pub speaker_heard : ((s : Scenario) → IsScenario g s → matches c.cube s ≡ true → HasCome speaker.columns.now speaker.delay c.time (place_at speaker.tree.now s) ×
+      IsAmong places (place_at speaker.tree.now s))
       → IsTold speaker.value speaker.columns.now places l → IsHeardIn g tables node c l
   speaker_heard found told s law m = let r = found s law m in told_by s law m told (place_at speaker.tree.now s) refl r.0 r.1
 
 -- the wanted literals that the frames don't tell
-module _ {g : Graph} {tables : List NodeTable} {node : ℕ} {speaker : Speaker} (is : IsSpeaker g tables node speaker) (places : List ℕ) (c : Column) (wanted left : List Literal) (wider : AreToldIn c.cube wanted) where
+module _ {g : Graph} {tables : List NodeTable} {node : ℕ} {speaker : Speaker} (is : IsSpeaker g tables node speaker) (places : List ℕ) (c : Column) (wanted left : List Literal)
+    (wider : AreToldIn c.cube wanted) where
   pub left_untold : ((l : Literal) → Contains left l → Contains wanted l) → ((l : Literal) → Contains wanted l → Contains left l ⊎ IsTold speaker.value speaker.columns.now places l)
       → ((s : Scenario) → IsScenario g s → matches c.cube s ≡ true → HasCome speaker.columns.now speaker.delay c.time (place_at speaker.tree.now s) × IsAmong places (place_at speaker.tree.now s))
       → AreLeft g tables node c wanted left

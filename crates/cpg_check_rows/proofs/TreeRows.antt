@@ -44,7 +44,8 @@ module _ (g : Graph) (tables : List NodeTable) (x : ℕ) {tree : Places} (is : I
       go None e = ap (λ b. b && not (list_any (λ (d : Column). matches d.cube s) (columns_of tables x))) (idle s law e law)
       go (Some i) e =
           let there : i < length (columns_of tables x) = place_there is s law i e in
-          let some = list_any_true (λ (d : Column). matches d.cube s) (columns_of tables x) (column_at (columns_of tables x) i) (i, there, get_or_default (columns_of tables x) i (column_at (columns_of tables x) i) (record { time = 0; cube = [] }) there) (place_matches is s law i e) in
+          let some = list_any_true (λ (d : Column). matches d.cube s) (columns_of tables x) (column_at (columns_of tables x) i)
+          (i, there, get_or_default (columns_of tables x) i (column_at (columns_of tables x) i) (record { time = 0; cube = [] }) there) (place_matches is s law i e) in
           ap (λ b. item_active g s.values (item_at g x) && not b) some ∙ and-false (item_active g s.values (item_at g x))
 
 module _ (g : Graph) (tables : List NodeTable) (trees : List (Option Places)) (x : ℕ) (o : Option Places) where

@@ -23,7 +23,7 @@ use cpg_cube::{Cube, Entry};
 use cpg_row_trees::tree_of;
 use cpg_rules::Admitted;
 use cpg_table::{Fault, Rule, Tables};
-use cpg_violation::{SievedLine, Sieve, is_marked, met};
+use cpg_violation::{Sieve, SievedLine, is_marked, met};
 use std::alloc::Global;
 
 /// The least scenario that a cube matches together with the column at a place, if there is one.

@@ -1,5 +1,6 @@
 -- The fields of the rows.
-use Rattle.std.proofs.Common.{◌≡◌, ℕ, zero, suc, ◌+◌, ◌-◌, ◌^◌, ◌<◌, ◌≤◌, max, Bool, true, false, cond, eqb, ltb, leb, ◌&&◌, List, [], ◌∷◌, ◌++◌, length, Ok, refl, sym, ap, ap₂, subst, ◌∙◌, append_assoc, arith, inl, inr, ◌⊎◌}
+use Rattle.std.proofs.Common.{◌≡◌, ℕ, zero, suc, ◌+◌, ◌-◌, ◌^◌, ◌<◌, ◌≤◌, max, Bool, true, false, cond, eqb, ltb, leb, ◌&&◌, List, [], ◌∷◌, ◌++◌, length, Ok, refl, sym, ap, ap₂, subst, ◌∙◌}
+use Rattle.std.proofs.Common.{append_assoc, arith, inl, inr, ◌⊎◌}
 use Rattle.std.specs.List.{flat_map, AllByRecursion}
 use Rattle.std.specs.Int.{w64, to_be_bytes}
 use Rattle.std.proofs.lemmas.Bool.{ne_eqb, ltb-true, leb-true, lt-ltb, le-leb, le-ltb, cases_lt, or_cases, or_left, or_right, and_parts, and_from}
@@ -50,7 +51,8 @@ is_fault_variable : (s : VariableSpace) (v : ℕ) → v < fault_end s → is_var
 is_fault_variable s v h = or_left (ltb v (fault_end s)) (leb 128 v && ltb v (128 + s.conditions)) (lt-ltb v (fault_end s) h)
 
 is_value_variable : (s : VariableSpace) (v : ℕ) → 128 ≤ v → v < 128 + s.conditions → is_variable s v ≡ true
-is_value_variable s v a b = or_right (ltb v (fault_end s)) (leb 128 v && ltb v (128 + s.conditions)) (and_from (leb 128 v) (ltb v (128 + s.conditions)) (le-leb 128 v a) (lt-ltb v (128 + s.conditions) b))
+is_value_variable s v a b = or_right (ltb v (fault_end s)) (leb 128 v && ltb v (128 + s.conditions))
+    (and_from (leb 128 v) (ltb v (128 + s.conditions)) (le-leb 128 v a) (lt-ltb v (128 + s.conditions) b))
 
 step_fault : (e c least v : ℕ) → e ≤ 128 → least ≤ v → v < e → suc ((e - suc v) + ((128 + c) - max 128 (suc v))) ≤ (e - least) + ((128 + c) - max 128 least)
 step_fault e c least v few le h = omega arith

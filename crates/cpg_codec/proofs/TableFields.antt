@@ -43,7 +43,12 @@ row_reads s item before i le =
     (λ cs fcs. pure_reads (record { item = item; columns = cs }))
     (λ cs r fcs h. ap (λ (q : Row). q.columns) h))
     (λ n r fn h. h.0.0))
-    (λ r h. record { item_is = ap (λ (q : Row). q.item) h.1.1; lawful = record { few = omega (arith, h.0.1); columns = All-from_recursion (IsLawfulColumn s) r.columns h.1.0.1 }; room = omega (arith, h.0.1) })
+    (λ r h. record {
+      item_is = ap (λ (q : Row). q.item) h.1.1;
+      lawful = record { few = omega (arith, h.0.1); columns = All-from_recursion (IsLawfulColumn s) r.columns h.1.0.1 };
+      room =
+          omega (arith, h.0.1);
+    })
     (λ r h. ((omega arith, omega (arith, h.lawful.few, h.room)), ((refl, recursion_from_All (IsLawfulColumn s) r.columns h.lawful.columns), ap (λ (n : ℕ). record r { item = n }) h.item_is)))
     (λ r h. regroup_2 (to_be_bytes w16 (length r.columns)) (flat_map column_bytes r.columns))
 
@@ -192,7 +197,10 @@ nodes_reads h i =
     (λ c t ts g. g.lawful)
     (λ l ls c g. g.lawful)
     (λ l ls c t ts inv f g. record { lawful = (f.lawful, g.lawful); room = omega (arith, sum_by-cons columns_of t ts, g.room) })
-    (λ l ls c t ts inv g. (record { lawful = g.lawful.0; room = omega (arith, sum_by-cons columns_of t ts, g.room) }, record { lawful = g.lawful.1; room = omega (arith, sum_by-cons columns_of t ts, g.room) }))
+    (λ l ls c t ts inv g. (
+      record { lawful = g.lawful.0; room = omega (arith, sum_by-cons columns_of t ts, g.room) },
+      record { lawful = g.lawful.1; room = omega (arith, sum_by-cons columns_of t ts, g.room) },
+    ))
     (numbers_from 0 (length h.nodes)) 0 (omega arith)
 
 module _ {A : Type 0} (P : ℕ → A → Type 0) (d : A) where
@@ -216,8 +224,11 @@ module _ {A : Type 0} (P : ℕ → A → Type 0) (d : A) where
   for_from i zero (x ∷ xs) e h = absurd (omega (arith, e))
   for_from i (suc n) [] e h = absurd (omega (arith, e))
   for_from i (suc n) (x ∷ xs) e h =
-      let z : i + 0 ≡ i = omega arith in
-      (subst (λ (k : ℕ). P k x) z (h 0 (omega arith)), for_from (suc i) n xs (omega (arith, e)) (λ j lt. let s : i + suc j ≡ suc i + j = omega arith in subst (λ (k : ℕ). P k (get_or xs j d)) s (h (suc j) (omega arith))))
+      let z : i + 0 ≡ i = omega arith in (
+        subst (λ (k : ℕ). P k x) z (h 0 (omega arith)),
+        for_from (suc i) n xs (omega (arith, e))
+            (λ j lt. let s : i + suc j ≡ suc i + j = omega arith in subst (λ (k : ℕ). P k (get_or xs j d)) s (h (suc j) (omega arith))),
+      )
 
 -- ---- the whole
 
@@ -232,7 +243,11 @@ nodes_to h ts q = record {
 }
 
 nodes_from : (h : Head) (ts : List NodeTable) → AreTablesOf h ts → FitNodes h (numbers_from 0 (length h.nodes)) 0 ts
-nodes_from h ts q = record { lawful = for_from (IsTableOf h) empty_table 0 (length h.nodes) ts q.count (λ i lt. let e : i ≡ 0 + i = omega arith in subst (λ (j : ℕ). IsTableOf h j (get_or ts i empty_table)) e (q.each i lt)); room = omega (arith, q.few) }
+nodes_from h ts q = record {
+  lawful = for_from (IsTableOf h) empty_table 0 (length h.nodes) ts q.count
+      (λ i lt. let e : i ≡ 0 + i = omega arith in subst (λ (j : ℕ). IsTableOf h j (get_or ts i empty_table)) e (q.each i lt));
+  room = omega (arith, q.few);
+}
 
 pub tables_reads : Reads AreLawful spelling tables_at
 unfolding tables_at
@@ -248,7 +263,8 @@ tables_reads =
     (λ t q. regroup_2 (head_bytes t.head) (flat_map table_bytes t.nodes))
 
 -- rows that were read are those of their node
-pub rows_are_of : (h : Head) (a : ℕ) (s : VariableSpace) (items : List ℕ) (before : ℕ) (bytes : List ℕ) (rs : List Row) (rest : List ℕ) → IsSpace s → before ≤ most → s ≡ space_of h → items ≡ items_of_node h a → rows_at s items before bytes ≡ Ok (rs, rest) → AreRowsOf h a rs
+pub rows_are_of : (h : Head) (a : ℕ) (s : VariableSpace) (items : List ℕ) (before : ℕ) (bytes : List ℕ) (rs : List Row) (rest : List ℕ) → IsSpace s → before ≤ most → s ≡ space_of h →
+    items ≡ items_of_node h a → rows_at s items before bytes ≡ Ok (rs, rest) → AreRowsOf h a rs
 rows_are_of h a s items before bytes rs rest i le f g e =
     let k = (rows_reads s items before i le).takes bytes rs rest e in
     record { items = k.0.items_are ∙ g; lawful = subst (λ (t : VariableSpace). All (IsLawfulRow t) rs) f (All-from_recursion (IsLawfulRow s) rs k.0.lawful) }

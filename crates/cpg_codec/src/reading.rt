@@ -13,7 +13,7 @@ use crate::row_reading::table_of;
 use crate::space::space_of;
 use crate::unread::Unread;
 use cpg_head::Head;
-use cpg_table::{NodeItems, NodeTable, VariableSpace, Tables};
+use cpg_table::{NodeItems, NodeTable, Tables, VariableSpace};
 use std::alloc::Global;
 
 /// The tables of all nodes.

@@ -146,7 +146,10 @@ fn cube_of(alloc: Global, literals: &[Literal]) -> Result<Cube, OutOfMemory>
 
 /// The time of a column, and how many literals it has; field by field.
 #[tactic(auto, unfolding(crate::specs::Grammar::front_at))]
-fn front_by_fields<'a>(bytes: &'a [u8], space: &VariableSpace) -> Result<(u64, u8, &'a [u8]), ReadError>
+fn front_by_fields<'a>(
+    bytes: &'a [u8],
+    space: &VariableSpace,
+) -> Result<(u64, u8, &'a [u8]), ReadError>
     requires { IsSpace space.now }
     ensures { Gives (λ x. ((x.0, x.1), x.2.now)) result (front_at space.now bytes.now) }
 {

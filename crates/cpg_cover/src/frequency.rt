@@ -30,7 +30,11 @@ fn frequencies(by: &[&Cube]) -> [u32; 256] {
     counts
 }
 
-fn ranks(alloc: Global, literals: &[Literal], counts: &[u32; 256]) -> Result<Vec<LiteralRank>, OutOfMemory>
+fn ranks(
+    alloc: Global,
+    literals: &[Literal],
+    counts: &[u32; 256],
+) -> Result<Vec<LiteralRank>, OutOfMemory>
     ensures { IfOk result (λ ranks. map (λ r. r.literal) ranks.items ≡ literals.now) }
 {
     let mut ranks = Vec::new(alloc);

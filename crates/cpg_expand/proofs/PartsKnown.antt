@@ -38,13 +38,15 @@ module _ {T : Type 0} where
     found_still old new g (At i) kept h = kept i g h
     found_still old new g (Alone t) kept h = h
 
-    known_at : (known : List (KnownGuard T)) (i : ℕ) (g : Guard) (r : TreeState T) → AreKnown made told known → IsAt known i g → HoldsAt (λ (k : KnownGuard T). r ≡ k.tree) known i → (d : KnownGuard T) → made r × told g r
+    known_at : (known : List (KnownGuard T)) (i : ℕ) (g : Guard) (r : TreeState T) → AreKnown made told known → IsAt known i g → HoldsAt (λ (k : KnownGuard T). r ≡ k.tree) known i →
+        (d : KnownGuard T) → made r × told g r
     known_at known i g r all at is d =
         let facts = All-get_or (λ (k : KnownGuard T). made k.tree × told k.guard.now k.tree) known i d at.0 all in
         (subst made (sym (is d)) facts.0, subst (λ (h : Guard). told h r) (at.1 d) (subst (told (get_or known i d).guard.now) (sym (is d)) facts.1))
 
     -- the tree that is found tells of the guard
-    pub found_tells : (known : List (KnownGuard T)) (g : Guard) (found : Source T) (r : TreeState T) → AreKnown made told known → IsFound made told known g found → IsTreeOf known found r → made r × told g r
+    pub found_tells : (known : List (KnownGuard T)) (g : Guard) (found : Source T) (r : TreeState T) → AreKnown made told known → IsFound made told known g found → IsTreeOf known found r → made r ×
+        told g r
     found_tells [] g (At i) r all h is = absurd (omega (arith, h.0))
     found_tells (k ∷ known) g (At i) r all h is = known_at (k ∷ known) i g r all h is k
     found_tells known g (Alone t) r all h is = (subst made (sym is) h.0, subst (told g) (sym is) h.1)
@@ -52,7 +54,8 @@ module _ {T : Type 0} where
     one_known : (k : KnownGuard T) → made k.tree → told k.guard.now k.tree → AreKnown made told (k ∷ [])
     one_known k m t = search rules
 
-    pub added_known : (old new : List (KnownGuard T)) (g : Guard) (tree : TreeState T) (found : Source T) → AreKnown made told old → made tree → told g tree → IsAdded old new g tree found → AreKnown made told new
+    pub added_known : (old new : List (KnownGuard T)) (g : Guard) (tree : TreeState T) (found : Source T) → AreKnown made told old → made tree → told g tree → IsAdded old new g tree found →
+        AreKnown made told new
     added_known old new g tree (At i) all m t h =
         subst (AreKnown made told) (sym h.2) (All-append (λ (x : KnownGuard T). made x.tree × told x.guard.now x.tree) old (h.1 ∷ []) all
         (one_known h.1 (subst made (sym h.4) m) (subst (told h.1.guard.now) (sym h.4) (subst (λ (x : Guard). told x tree) (sym h.3) t))))

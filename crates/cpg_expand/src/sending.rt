@@ -249,7 +249,12 @@ pub(crate) struct PlannedCourse<'a> {
 }
 
 /// The latest time at which an item would be sent, its frozen time aside, where it goes.
-fn latest_of(course: &PlannedCourse<'_>, forest: &Forest, goes: &Tree<bool>, item: u32) -> Option<u64>
+fn latest_of(
+    course: &PlannedCourse<'_>,
+    forest: &Forest,
+    goes: &Tree<bool>,
+    item: u32,
+) -> Option<u64>
     requires plan { course.now.plan.now ≡ plan_of course.now.problem.now }
     requires order { length course.now.order.now ≡ process_count course.now.problem.now }
     requires slots { HasSenderSlots course.now.problem.now }

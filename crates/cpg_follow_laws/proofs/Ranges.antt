@@ -1,5 +1,6 @@
 -- No range that a live node holds is empty, since a frame that would leave an empty one is refused.
-use Rattle.std.proofs.Common.{◌≡◌, ◌≢◌, ℕ, zero, suc, ◌+◌, Bool, true, false, not, ◌&&◌, ◌||◌, ◌==◌, List, [], ◌∷◌, length, fold, get_or, Contains, All, Option, Some, None, refl, sym, ap, ◌∙◌, arith, inl, inr, true≢false, eq-eqb, eqb-true, ltb-true, ltb-false}
+use Rattle.std.proofs.Common.{◌≡◌, ◌≢◌, ℕ, zero, suc, ◌+◌, Bool, true, false, not, ◌&&◌, ◌||◌, ◌==◌, List, [], ◌∷◌, length, fold, get_or, Contains, All, Option, Some, None, refl, sym, ap, ◌∙◌, arith}
+use Rattle.std.proofs.Common.{inl, inr, true≢false, eq-eqb, eqb-true, ltb-true, ltb-false}
 use Rattle.std.specs.Prelude.{is_some, nat_lt}
 use Rattle.std.specs.List.{list_any}
 use Rattle.std.proofs.lemmas.Bool.{cases_Bool, cases_lt, cond_both, or_parts}
@@ -11,13 +12,15 @@ use Rattle.cpg_base.specs.Scenario.{number_of_value}
 use Rattle.cpg_base.proofs.Lists.{Contains-first, Contains-rest, from_any_false, list_any_parts, list_any_true}
 use Rattle.cpg_cube.specs.declared.literal.Literal.{Literal}
 use Rattle.cpg_table.specs.Table.{Row, columns_in}
-use Rattle.cpg_node.specs.Dispatcher.{Dispatcher, Ended, Frame, OwnTable, Range, cut, cut_all, cut_range, due_reports, frame_literals, hear_end, hear_frame, is_contradicted, is_strange, know_value, next, no_column, own_of, range_of, variable_count, whole_range}
+use Rattle.cpg_node.specs.Dispatcher.{Dispatcher, Ended, Frame, OwnTable, Range, cut, cut_all, cut_range, due_reports, frame_literals, hear_end, hear_frame, is_contradicted, is_strange, know_value}
+use Rattle.cpg_node.specs.Dispatcher.{next, no_column, own_of, range_of, variable_count, whole_range}
 use Rattle.cpg_live.specs.declared.event.Event.{Event}
 use Rattle.cpg_live.specs.declared.event.Event.TheVariants.{Frame as Arrival, End as Ending, Close}
 use Rattle.cpg_live.specs.declared.bad.Why.{Why}
 use Rattle.cpg_live.specs.declared.bad.Why.TheVariants.{Length, Order, Frame as StrangeFrame, End as FalseEnd}
 use Rattle.cpg_live.specs.Records.{cut as cut_bytes, event_of, record_of}
-use Rattle.cpg_live.specs.Stream.{LiveState, NodeProgress, Step, faulty, instant_below, judged, lawful, may_end, open_stream, refused, settled, step, stepped, take_record, turn_below, turn_if, turned, turns_below, with_rest}
+use Rattle.cpg_live.specs.Stream.{LiveState, NodeProgress, Step, faulty, instant_below, judged, lawful, may_end, open_stream, refused, settled, step, stepped, take_record, turn_below, turn_if, turned}
+use Rattle.cpg_live.specs.Stream.{turns_below, with_rest}
 use Rattle.cpg_follow_laws.specs.Ranges.{HasNumber, NoRangeIsEmpty, FramesContradictWhereTheyTell}
 
 abbrev AllHave : List Range → Type 0

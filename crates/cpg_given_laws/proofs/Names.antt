@@ -64,7 +64,8 @@ read_process row p h =
     opened (work_at row) (λ work. pure (process_with name node work)) p (sym (process-parts row name node a b) ∙ h) λ work c last.
     subst IsRead (ap (λ (p : RawProcess). p.name) (same_ok (process_with name node work) p last)) (read_at row name a)
 
-pub read_processes : (i : ℕ) (members : List Members) (ps : List RawProcess) → each (λ i ms. process_at (record { table = tables.Process; index = i; members = ms })) i members ≡ Ok ps → AllByRecursion IsRead (process_names ps)
+pub read_processes : (i : ℕ) (members : List Members) (ps : List RawProcess) → each (λ i ms. process_at (record { table = tables.Process; index = i; members = ms })) i members ≡ Ok ps →
+    AllByRecursion IsRead (process_names ps)
 read_processes i [] ps h = subst (λ ps. AllByRecursion IsRead (process_names ps)) (same_ok [] ps h) tt
 read_processes i (ms ∷ rest) ps h =
     let p = each-parts (λ i ms. process_at (record { table = tables.Process; index = i; members = ms })) i ms rest ps h in

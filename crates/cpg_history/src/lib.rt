@@ -8,5 +8,5 @@
 mod history;
 mod taken;
 
-pub use history::{ShelfEvent, History};
+pub use history::{History, ShelfEvent};
 pub use taken::Taken;

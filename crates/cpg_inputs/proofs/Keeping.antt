@@ -18,7 +18,12 @@ module _ (old mid new : ShelfState) (a : KeepsShelf old mid) (b : KeepsShelf mid
   ]
 
   pub keeps_on : KeepsShelf old new
-  keeps_on = record { names = λ name. b.names name ∙ a.names name; fetched = fetched_on old mid a.names new a.fetched b.fetched; later = (let l = a.later in let m = b.later in omega (arith, l, m)); rose = counted_rose }
+  keeps_on = record {
+    names = λ name. b.names name ∙ a.names name;
+    fetched = fetched_on old mid a.names new a.fetched b.fetched;
+    later = (let l = a.later in let m = b.later in omega (arith, l, m));
+    rose = counted_rose;
+  }
 
 -- nothing was read
 pub keeps_same : (s : ShelfState) → KeepsShelf s s

@@ -78,7 +78,8 @@ as_known v w x y e f k = subst (λ u. IsAlike u w) (sym e) (subst (IsAlike x) (s
 pub says_alike : (g : Option Graph) (k : FileKind) (bytes : Text) (v w : Value) → Says g k bytes v → Says g k bytes w → IsAlike v w
 says_alike g GraphFile bytes v w (a, e, x) (b, f, y) = as_known v w (graph_value a) (graph_value b) e f (admitted_alike bytes a b x y)
 says_alike g PartFile bytes v w (a, e, x) (b, f, y) = as_known v w (part_value a) (part_value b) e f (same_value (problem_of bytes) b a y x)
-says_alike g PackFile bytes v w (t, e, x) (u, f, y) = as_known v w (tables_value t) (tables_value u) e f (sym (one_spelling t u [] x.lawful y.lawful (sym x.spelled ∙ y.spelled ∙ sym (append-nil _))).0)
+says_alike g PackFile bytes v w (t, e, x) (u, f, y) = as_known v w (tables_value t) (tables_value u) e f
+    (sym (one_spelling t u [] x.lawful y.lawful (sym x.spelled ∙ y.spelled ∙ sym (append-nil _))).0)
 says_alike (Some g) ScenarioFile bytes v w (p, e, x) (q, f, y) = as_known v w (played_value p) (played_value q) e f (same_value _ q p y.says x.says)
 says_alike (Some g) LogFile bytes v w (l, e, x) (m, f, y) = as_known v w (log_value l) (log_value m) e f tt
 says_alike None ScenarioFile bytes v w x y = absurd x
@@ -166,8 +167,11 @@ reads_alike g (f ∷ fs) past now [] ws r s = absurd r
 reads_alike g (f ∷ fs) past now (v ∷ vs) [] r s = absurd s
 reads_alike g (f ∷ fs) past now (v ∷ vs) (w ∷ ws) r s =
     let same : s.0 ≡ r.0 = one_fetch past now s.0 r.0 (reads_grown (graph_after g w) fs (s.0 ∷ past) now ws s.2) (reads_grown (graph_after g v) fs (r.0 ∷ past) now vs r.2) in
-    let also = subst (λ (e : Fetch). Says g f.kind e.given w) same s.1.says in
-    (says_alike g f.kind r.0.given v w r.1.says also, reads_alike (graph_after g v) fs (r.0 ∷ past) now vs ws r.2 (subst (λ o. Reads o fs (r.0 ∷ past) now ws) (says_after g f.kind r.0.given v w r.1.says also) (subst (λ e. Reads (graph_after g w) fs (e ∷ past) now ws) same s.2)))
+    let also = subst (λ (e : Fetch). Says g f.kind e.given w) same s.1.says in (
+      says_alike g f.kind r.0.given v w r.1.says also,
+      reads_alike (graph_after g v) fs (r.0 ∷ past) now vs ws r.2
+          (subst (λ o. Reads o fs (r.0 ∷ past) now ws) (says_after g f.kind r.0.given v w r.1.says also) (subst (λ e. Reads (graph_after g w) fs (e ∷ past) now ws) same s.2)),
+    )
 
 -- if all files were read, memory alone is left to stop a run
 pub stops_memory : (g : Option Graph) (files : List File) (past now : List Fetch) (vs : List Value) (h : Halt) → Reads g files past now vs → StopsReading g files past now h → h ≡ Memory
@@ -179,7 +183,8 @@ stops_memory g (f ∷ fs) past now (v ∷ vs) h r (fetch, inl here) =
 stops_memory g (f ∷ fs) past now (v ∷ vs) h r (fetch, inr (w, read, there)) =
     let same : fetch ≡ r.0 = one_fetch past now fetch r.0 (stops_grown (graph_after g w) fs (fetch ∷ past) now h there) (reads_grown (graph_after g v) fs (r.0 ∷ past) now vs r.2) in
     let also = subst (λ (e : Fetch). Says g f.kind e.given w) same read.says in
-    stops_memory (graph_after g v) fs (r.0 ∷ past) now vs h r.2 (subst (λ o. StopsReading o fs (r.0 ∷ past) now h) (says_after g f.kind r.0.given v w r.1.says also) (subst (λ e. StopsReading (graph_after g w) fs (e ∷ past) now h) same there))
+    stops_memory (graph_after g v) fs (r.0 ∷ past) now vs h r.2
+    (subst (λ o. StopsReading o fs (r.0 ∷ past) now h) (says_after g f.kind r.0.given v w r.1.says also) (subst (λ e. StopsReading (graph_after g w) fs (e ∷ past) now h) same there))
 
 -- ---- graphs that were read are admitted, and tables lawful
 

@@ -9,7 +9,7 @@ ghost use Rattle.cpg_history.specs.Event.{after};
 ghost use Rattle.cpg_history.specs.Fetch.{failed};
 
 use crate::{Failed, Shelf};
-use cpg_history::{ShelfEvent, History};
+use cpg_history::{History, ShelfEvent};
 use std::fs;
 use std::io::Read;
 use std::marker::Model;

@@ -11,7 +11,7 @@ ghost use Rattle.cpg_history.specs.Fetch.{failed};
 
 use crate::{Failed, Shelf};
 use cpg_base::OutOfMemory;
-use cpg_history::{ShelfEvent, History};
+use cpg_history::{History, ShelfEvent};
 use std::alloc::Global;
 use std::marker::Model;
 

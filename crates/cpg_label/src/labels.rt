@@ -6,7 +6,7 @@ ghost use Rattle.cpg_label.specs.Labels.{condition_name, edge_ends, head_labels,
 ghost use Rattle.cpg_label.specs.Phrases.{IsPhraseOf};
 
 use crate::items::item_among;
-use crate::phrases::{PhraseCounts, Phrase, phrases_of};
+use crate::phrases::{Phrase, PhraseCounts, phrases_of};
 use cpg_base::{Edge, Item, OutOfMemory, Problem, Process};
 use cpg_cube::Literal;
 use cpg_head::{Head, HeadProcess};

@@ -54,7 +54,13 @@ fn input_there(problem: &Problem, plan: &Plan, course: &LatestCourse, edge: u32)
 }
 
 /// When a node has heard a condition.
-fn heard_there(problem: &Problem, plan: &Plan, course: &LatestCourse, node: u32, condition: u32) -> u64
+fn heard_there(
+    problem: &Problem,
+    plan: &Plan,
+    course: &LatestCourse,
+    node: u32,
+    condition: u32,
+) -> u64
     requires plan { plan.now ≡ plan_of problem.now }
     requires slots { HasSenderSlots problem.now }
     requires node { node < length problem.now.nodes }
@@ -136,7 +142,12 @@ fn heard(setting: &Setting<'_>, course: &LatestCourse, asked: &Asked<'_>, proces
 }
 
 /// When the node of a process is ready for it: its earlier processes have ended, and it has heard what decides them and this one.
-pub(crate) fn ready(setting: &Setting<'_>, course: &LatestCourse, asked: &Asked<'_>, process: u32) -> u64
+pub(crate) fn ready(
+    setting: &Setting<'_>,
+    course: &LatestCourse,
+    asked: &Asked<'_>,
+    process: u32,
+) -> u64
     requires setting { IsSetting setting.now }
     requires process { process < process_count setting.now.problem.now }
     requires asked { IsAsked setting.now.problem.now setting.now.guards.now process asked.now }

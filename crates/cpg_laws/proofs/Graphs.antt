@@ -165,7 +165,8 @@ module _ (g : Graph) where
       let join = one_join h.order k.order p q s t h.two k.two in
       let order = one_urgency_order g k.order h.order k.urgency h.urgency in
       let least = subst (λ (o : List ℕ). IsLeast g o (λ u. has_two_live g u.values q ≡ true) t) order k.two.least in
-      λ i. TwoAlternatives (join i) (one_least g h.order h.urgency.all (λ u. has_two_live g u.values q ≡ true) s t (subst (λ r. IsLeast g h.order (λ u. has_two_live g u.values r ≡ true) s) join h.two.least) least i)
+      λ i. TwoAlternatives (join i) (one_least g h.order h.urgency.all (λ u. has_two_live g u.values q ≡ true) s t
+      (subst (λ r. IsLeast g h.order (λ u. has_two_live g u.values r ≡ true) s) join h.two.least) least i)
 
   alike : (fault other : RuleFault) → rank_of_fault fault ≡ rank_of_fault other → 0 < rank_of_fault fault → rank_of_fault fault < 6 → IsFirstCause g fault → IsFirstCause g other → fault ≡ other
   alike (Cycle walk) other e l m h k = absurd (omega (arith, l))

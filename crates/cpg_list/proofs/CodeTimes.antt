@@ -14,9 +14,11 @@ use Rattle.cpg_list.specs.TimeOrder.{TimedColumn, IsTimeOrder, StartsAt, FindsHi
 
 -- those from the first on and before a place have the time, and their columns don't match
 abbrev pub ArePassed : List Column → List TimedColumn → ℕ → Scenario → ℕ → ℕ → Type 0
-ArePassed columns by_time time s first at = (i : ℕ) (d : TimedColumn) (c : Column) → first ≤ i → i < at → ((get_or by_time i d).time ≡ time) × (matches (get_or columns (get_or by_time i d).place c).cube s ≡ false)
+ArePassed columns by_time time s first at = (i : ℕ) (d : TimedColumn) (c : Column) → first ≤ i → i < at → ((get_or by_time i d).time ≡ time) ×
+    (matches (get_or columns (get_or by_time i d).place c).cube s ≡ false)
 
-module _ (columns : List Column) (by_time : List TimedColumn) (is : IsTimeOrder columns by_time) (time : ℕ) (s : Scenario) (first : ℕ) (starts : StartsAt by_time time first) (at : ℕ) (passed : ArePassed columns by_time time s first at) where
+module _ (columns : List Column) (by_time : List TimedColumn) (is : IsTimeOrder columns by_time) (time : ℕ) (s : Scenario) (first : ℕ) (starts : StartsAt by_time time first) (at : ℕ)
+    (passed : ArePassed columns by_time time s first at) where
   missed : ((i : ℕ) (d : TimedColumn) → at ≤ i → i < length by_time → (get_or by_time i d).time ≡ time → ⊥) → FindsHit columns time s None
   missed later k c l same =
       let d : TimedColumn = record { time = 0; place = 0 } in
@@ -46,7 +48,8 @@ pub record AreTimes (columns : List Column) (n : ℕ) (made : List TimedColumn) 
   pub each : (i : ℕ) (d : TimedColumn) (c : Column) → i < n → ((get_or made i d).place ≡ i) × ((get_or made i d).time ≡ (get_or columns i c).time)
 
 module _ (columns : List Column) where
-  pub one_timed : (n : ℕ) (made next : List TimedColumn) (x : Column) (t : TimedColumn) → n < length columns → AreTimes columns n made → x ≡ get_or columns n x → next ≡ made ++ t ∷ [] → t.time ≡ x.time → t.place ≡ n → AreTimes columns (n + 1) next
+  pub one_timed : (n : ℕ) (made next : List TimedColumn) (x : Column) (t : TimedColumn) → n < length columns → AreTimes columns n made → x ≡ get_or columns n x → next ≡ made ++ t ∷ [] →
+      t.time ≡ x.time → t.place ≡ n → AreTimes columns (n + 1) next
   one_timed n made next x t l are at is time place = record {
     count = ap length is ∙ length-append made (t ∷ []) ∙ omega (arith, are.count);
     each = λ i d c h. subst (λ ts. ((get_or ts i d).place ≡ i) × ((get_or ts i d).time ≡ (get_or columns i c).time)) (sym is) (elim (cases_lt i n) [
@@ -83,7 +86,8 @@ module _ (columns : List Column) where
   }
 
 -- one more is passed
-pub passed_more : (columns : List Column) (by_time : List TimedColumn) (time : ℕ) (s : Scenario) (first at : ℕ) → ArePassed columns by_time time s first at → (x : TimedColumn) → at < length by_time → (get_or by_time at x).time ≡ time → (y : Column)
+pub passed_more : (columns : List Column) (by_time : List TimedColumn) (time : ℕ) (s : Scenario) (first at : ℕ) → ArePassed columns by_time time s first at → (x : TimedColumn) → at < length by_time →
+    (get_or by_time at x).time ≡ time → (y : Column)
     → (get_or by_time at x).place < length columns → y ≡ get_or columns (get_or by_time at x).place y → matches y.cube s ≡ false → ArePassed columns by_time time s first (at + 1)
 passed_more columns by_time time s first at passed x l same y inside is off i d c h k = elim (cases_lt i at) [
   | inl m ↦ passed i d c h m

@@ -12,7 +12,8 @@ use Rattle.cpg_live.specs.declared.bad.Why.TheVariants.{Length, Order, Frame as 
 use Rattle.cpg_live.specs.declared.event.Event.{Event}
 use Rattle.cpg_live.specs.declared.event.Event.TheVariants.{Frame as Arrival, End as Ending, Close}
 use Rattle.cpg_live.specs.Records.{cut, record_of, event_of}
-use Rattle.cpg_live.specs.Stream.{NodeProgress, LiveState, start, faulty, lawful, instant_below, turn_if, turn_below, turns_below, turned, may_end, ended, step, refused, settled, stepped, judged, take_record, open_stream, with_rest, after}
+use Rattle.cpg_live.specs.Stream.{NodeProgress, LiveState, start, faulty, lawful, instant_below, turn_if, turn_below, turns_below, turned, may_end, ended, step, refused, settled, stepped, judged}
+use Rattle.cpg_live.specs.Stream.{take_record, open_stream, with_rest, after}
 use Rattle.cpg_live.proofs.Turns.{found_is}
 
 module _ (table : NodeTable) (most : ℕ) where

@@ -1,5 +1,6 @@
 -- A node that takes no more turns than it must does the same.
-use Rattle.std.proofs.Common.{◌≡◌, ◌≢◌, ℕ, zero, suc, ◌+◌, ◌≤◌, Bool, true, false, cond, ◌&&◌, ◌==◌, List, [], ◌∷◌, ◌++◌, length, filter, fold, get_or, Contains, Option, Some, None, refl, sym, ap, ◌∙◌, subst, arith, inl, inr, ◌⊎◌, true≢false, lt-ltb, ltb-true, leb-true, eqb-true, eq-eqb, ne_eqb, append-nil}
+use Rattle.std.proofs.Common.{◌≡◌, ◌≢◌, ℕ, zero, suc, ◌+◌, ◌≤◌, Bool, true, false, cond, ◌&&◌, ◌==◌, List, [], ◌∷◌, ◌++◌, length, filter, fold, get_or, Contains, Option, Some, None, refl, sym, ap}
+use Rattle.std.proofs.Common.{◌∙◌, subst, arith, inl, inr, ◌⊎◌, true≢false, lt-ltb, ltb-true, leb-true, eqb-true, eq-eqb, ne_eqb, append-nil}
 use Rattle.std.specs.Prelude.{All, IfSome, is_some, is_none, nat_lt, nat_le, replicate}
 use Rattle.std.proofs.lemmas.List.{length-replicate}
 use Rattle.std.specs.List.{flat_map, list_any}
@@ -9,7 +10,8 @@ use Rattle.std.proofs.lemmas.List.Elements.{All-cons, All-head, All-tail, All-ni
 use Rattle.cpg_base.proofs.Lists.{Contains-first, Contains-rest, Contains-cases, Contains-nil, Contains-filter, Contains-filter_parts, list_any_parts, from_any_false, same_truth}
 use Rattle.cpg_table.specs.Table.{NodeTable}
 use Rattle.cpg_table.specs.Lawful.{IsTable}
-use Rattle.cpg_node.specs.Dispatcher.{Dispatcher, Own, Range, Running, Ended, Frame, Act, zip_with, candidates, is_after, next, turn, acts_of_turn, heard_after, running_after, ends_in_turn, with_report, hear_frame, is_strange, opening}
+use Rattle.cpg_node.specs.Dispatcher.{Dispatcher, Own, Range, Running, Ended, Frame, Act, zip_with, candidates, is_after, next, turn, acts_of_turn, heard_after, running_after, ends_in_turn}
+use Rattle.cpg_node.specs.Dispatcher.{with_report, hear_frame, is_strange, opening}
 use Rattle.cpg_node.specs.State.{running_in, running_of, time_of}
 use Rattle.cpg_node.specs.Plan.{fixed_times}
 use Rattle.cpg_node.specs.Quiet.{awaited_end, awaited, next_awaited, TellsFew}
@@ -22,7 +24,8 @@ use Rattle.cpg_live.specs.declared.event.Event.TheVariants.{Frame as Arrival, En
 use Rattle.cpg_live.specs.declared.bad.Why.{Why}
 use Rattle.cpg_live.specs.declared.bad.Why.TheVariants.{Length, Kind, Order, Frame as StrangeFrame, End as FalseEnd}
 use Rattle.cpg_live.specs.Records.{cut, record_of, event_of}
-use Rattle.cpg_live.specs.Stream.{NodeProgress, Step, LiveState, take_turn, instant_below, turn_if, turns_below, turned, faulty, lawful, may_tell, may_end_now, may_end, arrived, ended, step, refused, settled, stepped, judged, take_record, with_rest, open_stream, is_close}
+use Rattle.cpg_live.specs.Stream.{NodeProgress, Step, LiveState, take_turn, instant_below, turn_if, turns_below, turned, faulty, lawful, may_tell, may_end_now, may_end, arrived, ended, step, refused}
+use Rattle.cpg_live.specs.Stream.{settled, stepped, judged, take_record, with_rest, open_stream, is_close}
 use Rattle.cpg_live.specs.Told.{after_last}
 use Rattle.cpg_live.specs.Fewer.{turns_awaited, turned_fewer, step_fewer, judged_fewer, take_record_fewer, with_last, TurnsMayBeLeftOut}
 use Rattle.cpg_live.proofs.Turns.{floor_after, after_floor, Below, NotBelow, below_or_not, still}
@@ -112,7 +115,8 @@ moved k time e (o ∷ os) (run ∷ runs) r h x m = go (o.process == e.process) r
     go false is run h m ih =
         let same : with_report e o run ≡ run = is_here run ∙ ap (λ b. here b run) is ∙ plain run in
         let tail : InTime time e os runs = λ q s. subst (λ (z : Own). time ≤ q.start + get_or z.times e.faults 0)
-        (ap (λ l. get_or l 0 (record { process = 0; condition = None; times = [] })) (cond-false _ (o ∷ filter (λ (o : Own). o.process == e.process) os) (filter (λ (o : Own). o.process == e.process) os) is))
+        (ap (λ l. get_or l 0 (record { process = 0; condition = None; times = [] }))
+        (cond-false _ (o ∷ filter (λ (o : Own). o.process == e.process) os) (filter (λ (o : Own). o.process == e.process) os) is))
         (h q (cond-false _ run (running_in os runs e.process) is ∙ s)) in
         elim (Contains-append_cases (awaited_end k o (with_report e o run)) new x m) [
           | inl c ↦ inl (Contains-append_left (awaited_end k o run) rest x (subst (λ q. Contains (awaited_end k o q) x) same c))
@@ -135,7 +139,8 @@ moved k time e (o ∷ os) (run ∷ runs) r h x m = go (o.process == e.process) r
             let end : ℕ = q.start + get_or o.times e.faults 0 in
             let said : Contains (end ∷ []) x = subst (λ z. Contains (awaited_end k o z) x) (is_here (Some q) ∙ ap (λ b. here b (Some q)) is) c in
             let late : time ≤ q.start + get_or o.times e.faults 0 = subst (λ (z : Own). time ≤ q.start + get_or z.times e.faults 0)
-            (ap (λ l. get_or l 0 (record { process = 0; condition = None; times = [] })) (cond-true _ (o ∷ filter (λ (o : Own). o.process == e.process) os) (filter (λ (o : Own). o.process == e.process) os) is))
+            (ap (λ l. get_or l 0 (record { process = 0; condition = None; times = [] }))
+            (cond-true _ (o ∷ filter (λ (o : Own). o.process == e.process) os) (filter (λ (o : Own). o.process == e.process) os) is))
             (h q (cond-true _ (Some q) (running_in os runs e.process) is)) in
             elim (Contains-cases end [] x said) [ inl z ↦ inr (omega (arith, z, late)) | inr n ↦ absurd (Contains-nil x n) ]
 
@@ -311,7 +316,19 @@ module _ (t : NodeTable) (made : IsTable t) where
 
   pair_later : (x y : ℕ) (P Q : NodeProgress) → x ≤ y → Pair x P Q → Pair y P Q
   pair_later x y P Q le k =
-      record { heard = k.heard; runs = k.runs; acts = k.acts; l = k.l; m = k.m; one = k.one; two = k.two; alike = k.alike; before = after_more k.l x y le k.before; later = after_more k.m x y le k.later }
+      record {
+        heard = k.heard;
+        runs = k.runs;
+        acts = k.acts;
+        l = k.l;
+        m = k.m;
+        one = k.one;
+        two = k.two;
+        alike = k.alike;
+        before = after_more k.l x y le k.before;
+        later =
+            after_more k.m x y le k.later;
+      }
 
   -- what a step answers, and what it leaves
   record StepPair (limit : ℕ) (s z : Step) : Type 0 where
@@ -328,7 +345,22 @@ module _ (t : NodeTable) (made : IsTable t) where
           (cond b (faulty (prog k.heard k.runs k.m k.acts) StrangeFrame) (lawful (prog (hear_frame t k.heard f) k.runs k.m k.acts)))
       go true = record { fault = refl; pair = record { heard = k.heard; runs = k.runs; acts = k.acts; l = k.l; m = k.m; one = refl; two = refl; alike = k.alike; before = k.before; later = k.later } }
       go false =
-          record { fault = refl; pair = record { heard = hear_frame t k.heard f; runs = k.runs; acts = k.acts; l = k.l; m = k.m; one = refl; two = refl; alike = k.alike; before = k.before; later = k.later } }
+          record {
+            fault = refl;
+            pair = record {
+              heard = hear_frame t k.heard f;
+              runs = k.runs;
+              acts = k.acts;
+              l = k.l;
+              m = k.m;
+              one = refl;
+              two = refl;
+              alike = k.alike;
+              before = k.before;
+              later =
+                  k.later;
+            };
+          }
 
   -- an end that may be told isn't due before it is told
   in_time : (h : List Range) (r : List (Option Running)) (l : Option ℕ) (time : ℕ) (e : Ended) (o : Option Running) → may_end_now (node h r l) time e o ≡ true → (run : Running) →
@@ -437,11 +469,13 @@ module _ (t : NodeTable) (made : IsTable t) where
     where
       go : (b c : Bool) → is_some s.bad ≡ b → s.closed ≡ c →
           Twins (cond b s (cond c (refused s Length) (judged s (record_of bytes).time (event_of s.progress.dispatcher.table (record_of bytes)))))
-          (cond b (record s { progress = Q }) (cond c (refused (record s { progress = Q }) Length) (judged_fewer (record s { progress = Q }) (record_of bytes).time (event_of Q.dispatcher.table (record_of bytes)))))
+          (cond b (record s { progress = Q }) (cond c (refused (record s { progress = Q }) Length)
+          (judged_fewer (record s { progress = Q }) (record_of bytes).time (event_of Q.dispatcher.table (record_of bytes)))))
       go true c e f = k
       go false true e f = refused_twins s (record s { progress = Q }) Length k
       go false false e f =
-          subst (λ t. Twins (judged s (record_of bytes).time (event_of s.progress.dispatcher.table (record_of bytes))) (judged_fewer (record s { progress = Q }) (record_of bytes).time (event_of t (record_of bytes))))
+          subst (λ t. Twins (judged s (record_of bytes).time (event_of s.progress.dispatcher.table (record_of bytes)))
+          (judged_fewer (record s { progress = Q }) (record_of bytes).time (event_of t (record_of bytes))))
           (sym (table_of k.limit s.progress Q k.pair))
           (judged_twins s Q k.limit (record_of bytes).time (event_of s.progress.dispatcher.table (record_of bytes)) k.pair (k.up_to (is_none_of s.bad e) f) k)
 

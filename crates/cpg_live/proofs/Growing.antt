@@ -8,7 +8,8 @@ use Rattle.cpg_live.specs.declared.bad.Why.TheVariants.{Length, Order, Frame as 
 use Rattle.cpg_live.specs.declared.event.Event.{Event}
 use Rattle.cpg_live.specs.declared.event.Event.TheVariants.{Frame as Arrival, End as Ending, Close}
 use Rattle.cpg_live.specs.Records.{record_of, event_of}
-use Rattle.cpg_live.specs.Stream.{NodeProgress, LiveState, faulty, lawful, instant_below, turn_if, turn_below, turns_below, turned, may_end, ended, step, refused, settled, stepped, judged, take_record}
+use Rattle.cpg_live.specs.Stream.{NodeProgress, LiveState, faulty, lawful, instant_below, turn_if, turn_below, turns_below, turned, may_end, ended, step, refused, settled, stepped, judged}
+use Rattle.cpg_live.specs.Stream.{take_record}
 use Rattle.cpg_live.specs.Feeding.{take_open, take_byte, take_bytes}
 use Rattle.cpg_live.specs.Laws.{Grows}
 
@@ -25,7 +26,8 @@ turn_grows p (Some time) = (acts_of_turn p.dispatcher time [] [], refl)
 turns_grow : (n limit : ℕ) (p : NodeProgress) → Grows p.acts (turns_below n limit p).acts
 unfolding turns_below
 turns_grow zero limit p = same p.acts
-turns_grow (suc n) limit p = grow_on p.acts (turn_below limit p).acts (turns_below n limit (turn_below limit p)).acts (turn_grows p (instant_below limit (next p.dispatcher))) (turns_grow n limit (turn_below limit p))
+turns_grow (suc n) limit p = grow_on p.acts (turn_below limit p).acts (turns_below n limit (turn_below limit p)).acts (turn_grows p (instant_below limit (next p.dispatcher)))
+    (turns_grow n limit (turn_below limit p))
 
 turned_grows : (limit : ℕ) (p : NodeProgress) → Grows p.acts (turned limit p).acts
 turned_grows limit p = turns_grow limit limit p

@@ -1,5 +1,6 @@
 -- Bytes that spell events are taken as these events.
-use Rattle.std.proofs.Common.{◌≡◌, ℕ, ◌+◌, ◌-◌, ◌<◌, ◌≤◌, ◌^◌, min, Bool, true, false, cond, ◌&&◌, ◌||◌, ◌==◌, List, [], ◌∷◌, ◌++◌, map, fold, Option, Some, None, refl, sym, ap, ◌∙◌, arith, append-nil, append_assoc, true≢false, ltb-true, le-ltb}
+use Rattle.std.proofs.Common.{◌≡◌, ℕ, ◌+◌, ◌-◌, ◌<◌, ◌≤◌, ◌^◌, min, Bool, true, false, cond, ◌&&◌, ◌||◌, ◌==◌, List, [], ◌∷◌, ◌++◌, map, fold, Option, Some, None, refl, sym, ap, ◌∙◌, arith}
+use Rattle.std.proofs.Common.{append-nil, append_assoc, true≢false, ltb-true, le-ltb}
 use Rattle.std.specs.Prelude.{nat_lt}
 use Rattle.std.specs.List.{AllByRecursion}
 use Rattle.std.specs.Int.{w16, w64, to_be_bytes, from_be_bytes}
@@ -15,7 +16,8 @@ use Rattle.cpg_live.specs.declared.bad.Why.TheVariants.{Order, Frame as StrangeF
 use Rattle.cpg_live.specs.declared.event.Event.{Event}
 use Rattle.cpg_live.specs.declared.event.Event.TheVariants.{Frame as Arrival, End as Ending, Close}
 use Rattle.cpg_live.specs.Records.{Cut, cut_byte, record_of, event_of}
-use Rattle.cpg_live.specs.Stream.{NodeProgress, Step, LiveState, faulty, lawful, turned, may_end, arrived, ended, step, start, is_close, refused, settled, stepped, judged, take_record, with_rest, open_stream, outcome, after}
+use Rattle.cpg_live.specs.Stream.{NodeProgress, Step, LiveState, faulty, lawful, turned, may_end, arrived, ended, step, start, is_close, refused, settled, stepped, judged, take_record, with_rest}
+use Rattle.cpg_live.specs.Stream.{open_stream, outcome, after}
 use Rattle.cpg_live.specs.Told.{follow_if, follow}
 use Rattle.cpg_live.specs.Spelling.{bit, item_of, number_of, record_with, record_bytes, event_bytes, stream_bytes, HasRoom, RiseWithin, closed_at, BytesSpellEvents}
 use Rattle.cpg_live.proofs.Turns.{turned_table}

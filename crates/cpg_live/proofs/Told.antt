@@ -1,5 +1,6 @@
 -- A turn of a play is followed on the records of what it takes.
-use Rattle.std.proofs.Common.{◌≡◌, ℕ, zero, suc, ◌+◌, ◌≤◌, Bool, true, false, cond, not, ◌||◌, List, [], ◌∷◌, ◌++◌, map, Option, Some, None, refl, sym, ap, ap₂, ◌∙◌, subst, arith, inl, inr, lt-ltb, le-ltb, le-leb}
+use Rattle.std.proofs.Common.{◌≡◌, ℕ, zero, suc, ◌+◌, ◌≤◌, Bool, true, false, cond, not, ◌||◌, List, [], ◌∷◌, ◌++◌, map, Option, Some, None, refl, sym, ap, ap₂, ◌∙◌, subst, arith, inl, inr, lt-ltb}
+use Rattle.std.proofs.Common.{le-ltb, le-leb}
 use Rattle.std.specs.Prelude.{IfSome, is_none, is_some, nat_le}
 use Rattle.std.proofs.lemmas.Bool.{and_from}
 use Rattle.std.proofs.lemmas.List.Sums.{fold-append}
@@ -53,7 +54,8 @@ module _ (time : ℕ) (acts : List Act) where
   may_end_is : (d : Dispatcher) (moment : ℕ) (e : Ended) → MayFinish d moment e → may_end d moment e ≡ true
   may_end_is d moment e m = and_from (may_tell d e) (may_end_now d moment e (running_of d e.process))
       (and_from (nat_le e.faults d.table.faults) _ (le-leb e.faults d.table.faults m.few) (plain (own_of d.table e.process).condition e.value m.plain))
-      (ap (may_end_now d moment e) m.runs ∙ and_from _ _ (and_from _ _ (ap is_none m.unreported) (lt-ltb m.run.start moment m.started)) (le-leb moment (m.run.start + time_of d e.process e.faults) m.in_time))
+      (ap (may_end_now d moment e) m.runs ∙ and_from _ _ (and_from _ _ (ap is_none m.unreported) (lt-ltb m.run.start moment m.started))
+      (le-leb moment (m.run.start + time_of d e.process e.faults) m.in_time))
     where
       plain : (o : Option ℕ) (value : Bool) → (o ≡ None → value ≡ false) → (is_some o || not value) ≡ true
       plain None value h = ap (λ v. false || not v) (h refl)

@@ -62,7 +62,8 @@ no_more zero limit p h = elim (below_or_not limit (next p.dispatcher)) [
   | inr n ↦ sym (ap (turn_if p) n.none)
 ]
 no_more (suc n) limit p h = elim (below_or_not limit (next p.dispatcher)) [
-  | inl b ↦ no_more n limit (turn_below limit p) (subst (λ (q : NodeProgress). limit ≤ n + after_last q.dispatcher.last) (sym (ap (turn_if p) b.found)) (omega (arith, h, next_floor p.dispatcher b.time b.is)))
+  | inl b ↦ no_more n limit (turn_below limit p)
+      (subst (λ (q : NodeProgress). limit ≤ n + after_last q.dispatcher.last) (sym (ap (turn_if p) b.found)) (omega (arith, h, next_floor p.dispatcher b.time b.is)))
   | inr m ↦ ap (λ o. turns_below n limit (turn_if p o)) m.none ∙ still n limit p m.none
       ∙ sym (ap (λ o. turns_below (suc n) limit (turn_if p o)) m.none ∙ still (suc n) limit p m.none)
 ]
@@ -85,7 +86,8 @@ turns_end zero limit p h = elim (below_or_not limit (next p.dispatcher)) [
   | inr n ↦ n.past
 ]
 turns_end (suc n) limit p h = elim (below_or_not limit (next p.dispatcher)) [
-  | inl b ↦ turns_end n limit (turn_below limit p) (subst (λ (q : NodeProgress). limit ≤ n + after_last q.dispatcher.last) (sym (ap (turn_if p) b.found)) (omega (arith, h, next_floor p.dispatcher b.time b.is)))
+  | inl b ↦ turns_end n limit (turn_below limit p)
+      (subst (λ (q : NodeProgress). limit ≤ n + after_last q.dispatcher.last) (sym (ap (turn_if p) b.found)) (omega (arith, h, next_floor p.dispatcher b.time b.is)))
   | inr m ↦ subst (λ (q : NodeProgress). IsTurned q.dispatcher limit) (sym (still (suc n) limit p m.none)) m.past
 ]
 
@@ -129,7 +131,8 @@ unfolding turns_below
 few_none limit p = record { turns = 0; few = omega arith; is = refl }
 
 -- turns that a loop has taken, and the next one, which leaves fewer
-pub few_next : (limit : ℕ) (before now after : NodeProgress) (t : ℕ) → AreFewTurns limit before now → instant_below limit (next now.dispatcher) ≡ Some t → after ≡ take_turn t now → instants_left after.dispatcher < instants_left now.dispatcher →
+pub few_next : (limit : ℕ) (before now after : NodeProgress) (t : ℕ) → AreFewTurns limit before now → instant_below limit (next now.dispatcher) ≡ Some t → after ≡ take_turn t now →
+    instants_left after.dispatcher < instants_left now.dispatcher →
     AreFewTurns limit before after
 few_next limit before now after t h e is less = record {
   turns = suc h.turns;

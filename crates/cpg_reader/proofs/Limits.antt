@@ -52,7 +52,8 @@ AreIn-from_in_range table i (n ∷ ns) x h =
     let (low, high) = natural-within n.low n.high n.value here in
     (low, high, AreIn-from_in_range table i ns x rest)
 
-all_in_range-at : {T : Type 0} (table : Table) (numbers_of : T → List BoundedField) (i : ℕ) (xs : List T) (x : Unit {0}) → all_in_range table numbers_of i xs ≡ Ok x → All (λ y. AreIn (numbers_of y)) xs
+all_in_range-at : {T : Type 0} (table : Table) (numbers_of : T → List BoundedField) (i : ℕ) (xs : List T) (x : Unit {0}) → all_in_range table numbers_of i xs ≡ Ok x →
+    All (λ y. AreIn (numbers_of y)) xs
 all_in_range-at table numbers_of i [] x h k d l = absurd (omega arith)
 all_in_range-at table numbers_of i (y ∷ ys) x h zero d l =
     let (_, here, rest) = then-parts (in_range table i (numbers_of y)) (all_in_range table numbers_of (i + 1) ys) x h in

@@ -1,5 +1,6 @@
 -- A tree over slices leads each scenario to the cube that it matches.
-use Rattle.std.proofs.Common.{arith, cond, zero, suc, [], ◌∷◌, ◌++◌, max, min, ℕ, ◌+◌, ◌-◌, ◌<◌, ◌≤◌, ◌≡◌, ◌==◌, Bool, true, false, ◌&&◌, ◌||◌, nat_lt, List, get_or, length, take, Contains, sum_by, Option, None, Some, refl, sym, ap, ◌∙◌, subst, ⊎_elim, inl, inr, lt-ltb, le-ltb, eq-eqb}
+use Rattle.std.proofs.Common.{arith, cond, zero, suc, [], ◌∷◌, ◌++◌, max, min, ℕ, ◌+◌, ◌-◌, ◌<◌, ◌≤◌, ◌≡◌, ◌==◌, Bool, true, false, ◌&&◌, ◌||◌, nat_lt, List, get_or, length, take, Contains, sum_by}
+use Rattle.std.proofs.Common.{Option, None, Some, refl, sym, ap, ◌∙◌, subst, ⊎_elim, inl, inr, lt-ltb, le-ltb, eq-eqb}
 use Rattle.std.specs.Prelude.{nat_le, slice_set}
 use Rattle.std.specs.List.{list_any}
 use Rattle.std.proofs.lemmas.Bool.{cases_lt, cases_eq, and_parts, and_from, or_parts, ltb-true, leb-true, cond-true, cond-false, both_ways, eqb-true}
@@ -125,7 +126,8 @@ whole_reached k room whole lies = record {
     not_narrow v low high none all = ap (λ n. nat_lt 0 n || nat_lt high (top k v)) none ∙ le-ltb high (top k v) (omega (arith, all))
 
     wide : (v : ℕ) → v < 256 → narrowed k room v ≡ 0
-    wide v there = cond-false {A = ℕ} (nat_lt v 256 && is_narrow k room v) 1 0 (ap (λ b. nat_lt v 256 && b) (not_narrow v (get_or room.low v 0) (get_or room.high v 0) (whole.lows v there) (high_is v there)) ∙ and-false (nat_lt v 256))
+    wide v there = cond-false {A = ℕ} (nat_lt v 256 && is_narrow k room v) 1 0
+        (ap (λ b. nat_lt v 256 && b) (not_narrow v (get_or room.low v 0) (get_or room.high v 0) (whole.lows v there) (high_is v there)) ∙ and-false (nat_lt v 256))
 
 -- ---- as many literals on narrow variables as there are such variables: none is without
 
@@ -140,7 +142,8 @@ module _ (k : ℕ) (room : Space) (ls : List Literal) (narrow found : ℕ) (risi
   none_without v there on off =
       let f : ℕ → ℕ = narrowed k room in
       let few = weights_le (λ (l : Literal). f l.variable) 256 (without v f) ls rising (λ l c h. omega (arith, without_other v l.variable f (off l c))) (λ l past. is_none l.variable past) in
-      too_few _ _ _ (without v f v) (f v) narrow found few (sum_changed (without v f) f 256 v there (λ u d. without_other v u f d)) (without_here v f) (is_one v there on) reached.few enough bounds.narrow
+      too_few _ _ _ (without v f v) (f v) narrow found few (sum_changed (without v f) f 256 v there (λ u d. without_other v u f d)) (without_here v f)
+      (is_one v there on) reached.few enough bounds.narrow
 
   has_literal : (v : ℕ) → v < 256 → is_narrow k room v ≡ true → (l : Literal) × Contains ls l × (l.variable ≡ v)
   has_literal v there on = step (list_any (λ (l : Literal). l.variable == v) ls) refl
@@ -154,7 +157,8 @@ module _ (k : ℕ) (room : Space) (ls : List Literal) (narrow found : ℕ) (risi
     at_literal v l c is =
         let on = from_all (holds s) ls l all c in
         let inside = bounds.inside l c in
-        subst (λ (u : ℕ). (get_or room.low u 0 ≤ number_of s u) × (number_of s u ≤ get_or room.high u 0)) is (omega (arith, inside.low, holds-low s l on), omega (arith, inside.high, holds-high s l on))
+        subst (λ (u : ℕ). (get_or room.low u 0 ≤ number_of s u) × (number_of s u ≤ get_or room.high u 0)) is
+        (omega (arith, inside.low, holds-low s l on), omega (arith, inside.high, holds-high s l on))
 
     at_wide : (v : ℕ) → is_narrow k room v ≡ false → (get_or room.low v 0 ≤ number_of s v) × (number_of s v ≤ get_or room.high v 0)
     at_wide v off =
@@ -172,7 +176,8 @@ module _ (k : ℕ) (room : Space) (ls : List Literal) (narrow found : ℕ) (risi
   own = record { hold = λ s few lies. bounds.hold s lies; come = comes_here }
 
 module _ (k : ℕ) (room : Space) (ls : List Literal) (i found : ℕ) (d : Literal) (there : i < length ls) (before : AreBounds k room (take i ls) found) where
-  pub bounds_more : ((s : Scenario) → Lies room s → holds s (get_or ls i d) ≡ true) → IsInside room (get_or ls i d) → (n : ℕ) → n ≤ found + narrowed k room (get_or ls i d).variable → AreBounds k room (take (i + 1) ls) n
+  pub bounds_more : ((s : Scenario) → Lies room s → holds s (get_or ls i d) ≡ true) → IsInside room (get_or ls i d) → (n : ℕ) → n ≤ found + narrowed k room (get_or ls i d).variable →
+      AreBounds k room (take (i + 1) ls) n
   bounds_more holds_here inside_here n most = record {
     hold = λ s lies. matches_more s ls i d there (before.hold s lies) (holds_here s lies);
     inside = λ l c. ⊎_elim (λ (b : Contains (take i ls) l). before.inside l b) (λ (q : get_or ls i d ≡ l). subst (IsInside room) q inside_here)
@@ -228,7 +233,8 @@ module _ (cubes : List (List Literal)) (k : ℕ) (room one two : Space) (from bo
 
 -- a fork of a space that forks lead to
 module _ (k : ℕ) (room side : Space) (v cut narrow n : ℕ) (there : v < 256) where
-  module _ (long : length room.high ≡ 256) (reached : IsReached k room narrow) (open_ : AreOpen room v cut) (more : narrow + 1 ≤ n + narrowed k room v) (is : side ≡ below_cut room v cut) (goes : (s : Scenario) → Lies room s → number_of s v ≤ cut → Lies side s) where
+  module _ (long : length room.high ≡ 256) (reached : IsReached k room narrow) (open_ : AreOpen room v cut) (more : narrow + 1 ≤ n + narrowed k room v) (is : side ≡ below_cut room v cut)
+      (goes : (s : Scenario) → Lies room s → number_of s v ≤ cut → Lies side s) where
     to_under : (s : Scenario) → Lies room s → number_of s v ≤ cut → Lies (below_cut room v cut) s
     to_under s lies h = subst (λ (r : Space). Lies r s) is (goes s lies h)
 
@@ -241,7 +247,8 @@ module _ (k : ℕ) (room side : Space) (v cut narrow n : ℕ) (there : v < 256) 
     under_cut : (s : Scenario) → Lies side s → number_of s v ≤ cut
     under_cut s lies = number_below room v cut there s long (in_range (below_cut room v cut) s (subst (λ (r : Space). Lies r s) is lies))
 
-  module _ (long : length room.low ≡ 256) (reached : IsReached k room narrow) (open_ : AreOpen room v cut) (more : narrow + 1 ≤ n + narrowed k room v) (is : side ≡ above_cut room v cut) (goes : (s : Scenario) → Lies room s → cut < number_of s v → Lies side s) where
+  module _ (long : length room.low ≡ 256) (reached : IsReached k room narrow) (open_ : AreOpen room v cut) (more : narrow + 1 ≤ n + narrowed k room v) (is : side ≡ above_cut room v cut)
+      (goes : (s : Scenario) → Lies room s → cut < number_of s v → Lies side s) where
     to_over : (s : Scenario) → Lies room s → cut < number_of s v → Lies (above_cut room v cut) s
     to_over s lies h = subst (λ (r : Space). Lies r s) is (goes s lies h)
 
@@ -257,7 +264,8 @@ module _ (k : ℕ) (room side : Space) (v cut narrow n : ℕ) (there : v < 256) 
 module _ (cubes : List (List Literal)) (k : ℕ) (room under over : Space) (from border to v cut narrow n left : ℕ) (there : v < 256) (lows : length room.low ≡ 256) (highs : length room.high ≡ 256)
     (reached : IsReached k room narrow) (open_ : AreOpen room v cut) (more : narrow + 1 ≤ n + narrowed k room v) (is_under : under ≡ below_cut room v cut) (is_over : over ≡ above_cut room v cut)
     (goes_under : (s : Scenario) → Lies room s → number_of s v ≤ cut → Lies under s) (goes_over : (s : Scenario) → Lies room s → cut < number_of s v → Lies over s) where
-  pub led_parted : (below above : Sorted) (r : TreeNode (Option ℕ)) → IsForkOf v cut below.node above.node r → IsLed cubes k under from border left below → IsLed cubes k over border to below.left above → IsLed cubes k room from to left (record { node = r; left = above.left })
+  pub led_parted : (below above : Sorted) (r : TreeNode (Option ℕ)) → IsForkOf v cut below.node above.node r → IsLed cubes k under from border left below →
+      IsLed cubes k over border to below.left above → IsLed cubes k room from to left (record { node = r; left = above.left })
   led_parted below above r fork low high = record {
     leads = leads_apart cubes k room under over from border to v cut below.node above.node r fork low.leads high.leads goes_under goes_over
         (back_from_under k room under v cut narrow n there highs reached open_ more is_under goes_under) (back_from_over k room over v cut narrow n there lows reached open_ more is_over goes_over)
@@ -295,7 +303,8 @@ module _ (s : Scenario) (l : Literal) where
 
   matches_met : (ls : List Literal) (i : ℕ) (m : Literal) → i < length ls → get_or ls i m ≡ m → m.variable ≡ l.variable → matches (slice_set ls i (met_by m l)) s ≡ (matches ls s && holds s l)
   matches_met [] i m there is same = absurd (omega (arith, there))
-  matches_met (x ∷ xs) zero m there is same = ap (λ b. b && matches xs s) (met_holds m same) ∙ swapped (holds s m) (holds s l) (matches xs s) ∙ ap (λ (y : Literal). (holds s y && matches xs s) && holds s l) (sym is)
+  matches_met (x ∷ xs) zero m there is same = ap (λ b. b && matches xs s) (met_holds m same) ∙ swapped (holds s m) (holds s l) (matches xs s) ∙
+      ap (λ (y : Literal). (holds s y && matches xs s) && holds s l) (sym is)
   matches_met (x ∷ xs) (suc i) m there is same = ap (λ b. holds s x && b) (matches_met xs i m (omega (arith, there)) is same) ∙ together (holds s x) (matches xs s) (holds s l)
 
 last_back : (ls : List Literal) (i : ℕ) (m l : Literal) → get_or ls i m ≡ m → slice_set (slice_set ls i l) i m ≡ ls
@@ -330,7 +339,8 @@ entered_last ls new l m last is = subst (λ (xs : List Literal). IsEntered ls l 
 })
 
 -- a side of a fork
-module _ (k : ℕ) (room side : Space) (v cut narrow n : ℕ) (there : v < 256) (reached : IsReached k room narrow) (open_ : AreOpen room v cut) (more : narrow + 1 ≤ n + narrowed k room v) (old new : List Literal) (is_own : IsOwn k room old) where
+module _ (k : ℕ) (room side : Space) (v cut narrow n : ℕ) (there : v < 256) (reached : IsReached k room narrow) (open_ : AreOpen room v cut) (more : narrow + 1 ≤ n + narrowed k room v)
+    (old new : List Literal) (is_own : IsOwn k room old) where
   pub own_under : length room.high ≡ 256 → side ≡ below_cut room v cut → ((s : Scenario) → Lies room s → number_of s v ≤ cut → Lies side s)
       → (l : Literal) → l ≡ record { variable = v; low = 0; high = cut } → ((s : Scenario) → matches new s ≡ (matches old s && holds s l)) → IsOwn k side new
   own_under long is goes l says both = record {
@@ -345,7 +355,8 @@ module _ (k : ℕ) (room side : Space) (v cut narrow n : ℕ) (there : v < 256) 
       → (l : Literal) → l ≡ record { variable = v; low = cut + 1; high = top k v } → ((s : Scenario) → matches new s ≡ (matches old s && holds s l)) → IsOwn k side new
   own_over long is goes l says both = record {
     hold = λ s few lies. both s ∙ and_from (matches old s) (holds s l) (is_own.hold s few (back_from_over k room side v cut narrow n there long reached open_ more is goes s few lies))
-        (ap (holds s) says ∙ holds-from s (record { variable = v; low = cut + 1; high = top k v }) (omega (arith, over_cut k room side v cut narrow n there long reached open_ more is goes s lies)) (number_le_top k s few v));
+        (ap (holds s) says ∙ holds-from s (record { variable = v; low = cut + 1; high = top k v }) (omega (arith, over_cut k room side v cut narrow n there long reached open_ more is goes s lies))
+        (number_le_top k s few v));
     come = λ s few all.
         let parts = and_parts (matches old s) (holds s l) (sym (both s) ∙ all) in
         let low : cut + 1 ≤ number_of s v = holds-low s (record { variable = v; low = cut + 1; high = top k v }) (ap (holds s) (sym says) ∙ parts.1) in

@@ -1,5 +1,6 @@
 -- Places that scenarios of a space match are kept.
-use Rattle.std.proofs.Common.{arith, ℕ, ◌+◌, ◌<◌, ◌≤◌, ◌≡◌, List, [], ◌∷◌, ◌++◌, length, get_or, take, Contains, Option, None, Some, refl, sym, ap, ◌∙◌, ◌==◌, subst, ⊎_elim, inl, inr, true, Bool, Bor, map}
+use Rattle.std.proofs.Common.{arith, ℕ, ◌+◌, ◌<◌, ◌≤◌, ◌≡◌, List, [], ◌∷◌, ◌++◌, length, get_or, take, Contains, Option, None, Some, refl, sym, ap, ◌∙◌, ◌==◌, subst, ⊎_elim, inl, inr, true, Bool, Bor}
+use Rattle.std.proofs.Common.{map}
 use Rattle.std.proofs.lemmas.List.{take_more, get_or-map, length-map, map_push}
 use Rattle.std.proofs.lemmas.List.Elements.{Contains-push_cases, Contains-append_left, Contains-push}
 use Rattle.std.proofs.lemmas.Bool.{cases_lt, eqb-true}
@@ -72,11 +73,14 @@ module _ (cubes : List (List Literal)) (room one two : Space) (places low high :
     (goes_one : (s : Scenario) → Lies room s → number_of s v ≤ cut → Lies one s) (goes_two : (s : Scenario) → Lies room s → cut < number_of s v → Lies two s) where
   told_parted : IsToldAll (tells_place cubes places) room r
   told_parted s lies = elim (cases_lt cut (number_of s v)) [
-    | inl h ↦ let l = goes_two s lies h in subst (λ (x : Option ℕ). tells_place cubes places x s) (sym (fork.value_above s h)) (widen_place cubes (λ s. Lies room s × (cut < number_of s v)) places high keeps_above s (lies, h) (value_at above s) (of_two s l))
-    | inr h ↦ let l = goes_one s lies h in subst (λ (x : Option ℕ). tells_place cubes places x s) (sym (fork.value_below s h)) (widen_place cubes (λ s. number_of s v ≤ cut) places low keeps_below s h (value_at below s) (of_one s l))
+    | inl h ↦ let l = goes_two s lies h in subst (λ (x : Option ℕ). tells_place cubes places x s) (sym (fork.value_above s h))
+        (widen_place cubes (λ s. Lies room s × (cut < number_of s v)) places high keeps_above s (lies, h) (value_at above s) (of_two s l))
+    | inr h ↦ let l = goes_one s lies h in subst (λ (x : Option ℕ). tells_place cubes places x s) (sym (fork.value_below s h))
+        (widen_place cubes (λ s. number_of s v ≤ cut) places low keeps_below s h (value_at below s) (of_one s l))
   ]
 
-module _ (cubes : List (List Literal)) (room one two : Space) (places low high : List ℕ) (v cut left : ℕ) (below above : Sorted) (r : TreeNode (Option ℕ)) (fork : IsForkOf v cut below.node above.node r)
+module _ (cubes : List (List Literal)) (room one two : Space) (places low high : List ℕ) (v cut left : ℕ) (below above : Sorted) (r : TreeNode (Option ℕ))
+    (fork : IsForkOf v cut below.node above.node r)
     (keeps_below : KeepsWhere cubes (λ s. number_of s v ≤ cut) places low) (keeps_above : KeepsWhere cubes (λ s. Lies room s × (cut < number_of s v)) places high)
     (of_one : IsSorted cubes one low left below) (of_two : IsSorted cubes two high below.left above)
     (goes_one : (s : Scenario) → Lies room s → number_of s v ≤ cut → Lies one s) (goes_two : (s : Scenario) → Lies room s → cut < number_of s v → Lies two s) where

@@ -76,7 +76,8 @@ module _ {g : Graph} {columns : List Column} {tree : Places} (is : IsRowTree g c
       let at_d : column_at columns l.0 ≡ d = get_or_default columns l.0 (record { time = 0; cube = [] }) d l.1 ∙ l.2 in
       sym at_c ∙ ap (column_at columns) (one_place k.0 l.0 k.1 l.1 (ap (λ (x : Column). matches x.cube s) at_c ∙ m) (ap (λ (x : Column). matches x.cube s) at_d ∙ n)) ∙ at_d
 
-module _ {g : Graph} {columns : List Column} {tree : Places} (is : IsRowTree g columns tree) (s : Scenario) (law : IsScenario g s) (i : ℕ) (there : i < length columns) (m : matches (column_at columns i).cube s ≡ true) where
+module _ {g : Graph} {columns : List Column} {tree : Places} (is : IsRowTree g columns tree) (s : Scenario) (law : IsScenario g s) (i : ℕ) (there : i < length columns)
+    (m : matches (column_at columns i).cube s ≡ true) where
   -- no earlier column matches if one does
   pub none_earlier : list_any (λ (d : Column). matches d.cube s) (take i columns) ≡ false
   none_earlier = list_any_false (λ (d : Column). matches d.cube s) (take i columns) (λ d k. false_unless (matches d.cube s) (λ n. apart d k n))
@@ -92,5 +93,7 @@ module _ {g : Graph} {columns : List Column} {tree : Places} (is : IsRowTree g c
           omega (arith, less, one_place is s law k.0 i (omega (arith, less, there)) there (ap (λ (x : Column). matches x.cube s) at ∙ n) m)
 
 -- the tree of an item's row, if it has one
-pub tree_of_row : (g : Graph) (tables : List NodeTable) (trees : List (Option Places)) (x : ℕ) → AreRowTrees g tables trees → x < item_count g → (o : Option Places) → o ≡ get_or trees x o → IfSome o (IsRowTree g (columns_of tables x))
-tree_of_row g tables trees x are l o is = subst (λ (p : Option Places). IfSome p (IsRowTree g (columns_of tables x))) (get_or_default trees x None o (omega (arith, l, are.count)) ∙ sym is) (are.each x l)
+pub tree_of_row : (g : Graph) (tables : List NodeTable) (trees : List (Option Places)) (x : ℕ) → AreRowTrees g tables trees → x < item_count g → (o : Option Places) → o ≡ get_or trees x o →
+    IfSome o (IsRowTree g (columns_of tables x))
+tree_of_row g tables trees x are l o is = subst (λ (p : Option Places). IfSome p (IsRowTree g (columns_of tables x))) (get_or_default trees x None o (omega (arith, l, are.count)) ∙ sym is)
+    (are.each x l)

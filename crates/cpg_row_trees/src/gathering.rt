@@ -8,7 +8,7 @@ ghost use Rattle.cpg_row_trees.specs.Places.{IsAmong};
 
 use crate::walk::Test;
 use cpg_base::OutOfMemory;
-use cpg_tree::{TreeNode, Space};
+use cpg_tree::{Space, TreeNode};
 
 /// Adds a place, if there is one; whether there is.
 fn add_place(place: Option<u32>, found: &mut Vec<u32>) -> Result<bool, OutOfMemory>

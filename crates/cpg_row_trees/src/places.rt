@@ -14,7 +14,7 @@ use crate::slices::led_out;
 use crate::walk::{PairTest, Test, do_pass, do_pass_with};
 use cpg_base::{FIRST_VALUE, OutOfMemory};
 use cpg_cube::{Cube, Literal};
-use cpg_tree::{TreeNode, Space, Tally};
+use cpg_tree::{Space, Tally, TreeNode};
 use std::alloc::Global;
 
 /// A tree has at most this many nodes for each cube, and `FEW` besides.

@@ -14,7 +14,7 @@ ghost use Rattle.cpg_row_trees.specs.Slices.{IsReached, IsLead, IsLed, IsInside,
 use crate::places::{PlaceCut, Sorted, cut_of, literal_from, literal_up_to, open_value};
 use cpg_base::{OutOfMemory, top};
 use cpg_cube::{Cube, Literal};
-use cpg_tree::{TreeNode, Space};
+use cpg_tree::{Space, TreeNode};
 use std::alloc::Global;
 
 /// How the variable is found at which a slice parts: a guess, that no clause speaks of.
@@ -319,7 +319,12 @@ fn place_apart(literals: &[Literal], others: &[Literal]) -> Option<usize> {
 }
 
 /// Where the first and the last cube of a slice part a space: where its part did, if they do there still.
-fn part_by_ends(space: &Space, first: &[Literal], last: &[Literal], held: usize) -> Option<SlicePart>
+fn part_by_ends(
+    space: &Space,
+    first: &[Literal],
+    last: &[Literal],
+    held: usize,
+) -> Option<SlicePart>
     ensures { IfSome result (λ r. AreOpen space.now r.cut.variable r.cut.most) }
 {
     let mut at = held;
@@ -331,7 +336,12 @@ fn part_by_ends(space: &Space, first: &[Literal], last: &[Literal], held: usize)
 }
 
 /// Where a slice parts a space, by its first cube's literals and by the last cube, if it is to be seen by these.
-fn part_apart(space: &Space, cubes: &[&Cube], literals: &[Literal], slice: Slice) -> Option<SlicePart>
+fn part_apart(
+    space: &Space,
+    cubes: &[&Cube],
+    literals: &[Literal],
+    slice: Slice,
+) -> Option<SlicePart>
     ensures { IfSome result (λ r. AreOpen space.now r.cut.variable r.cut.most) }
 {
     match slice.way {

@@ -5,7 +5,7 @@ ghost use Rattle.cpg_base.specs.Scenario.{Scenario};
 ghost use Rattle.cpg_tree.specs.Space.{Lies};
 ghost use Rattle.cpg_tree.specs.Decision.{value_at};
 
-use cpg_tree::{TreeNode, Space};
+use cpg_tree::{Space, TreeNode};
 
 /// A test of the places that scenarios come to: what it tells if it passes.
 pub trait Test {

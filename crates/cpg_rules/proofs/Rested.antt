@@ -1,5 +1,6 @@
 -- A walk along the steps that it rests on finds what a walk along all steps finds.
-use Rattle.std.proofs.Common.{ℕ, zero, suc, ◌+◌, ◌<◌, ◌≤◌, ◌≡◌, Bool, true, false, ◌&&◌, ◌||◌, ◌==◌, if◌then◌else◌, List, [], ◌∷◌, All, length, get_or, set, map, filter, drop, replicate, Option, Some, None, is_some, arith, refl, sym, ap, ap₂, ◌∙◌, subst, inl, inr, eq-eqb, get_or-set_other, get_or-set_same, length-set}
+use Rattle.std.proofs.Common.{ℕ, zero, suc, ◌+◌, ◌<◌, ◌≤◌, ◌≡◌, Bool, true, false, ◌&&◌, ◌||◌, ◌==◌, if◌then◌else◌, List, [], ◌∷◌, All, length, get_or, set, map, filter, drop, replicate, Option, Some}
+use Rattle.std.proofs.Common.{None, is_some, arith, refl, sym, ap, ap₂, ◌∙◌, subst, inl, inr, eq-eqb, get_or-set_other, get_or-set_same, length-set}
 use Rattle.std.specs.Bool.{nat_lt}
 use Rattle.std.specs.Prelude.{count_by}
 use Rattle.std.specs.List.{list_any, list_all}
@@ -195,22 +196,27 @@ module _ (p : ℕ) where
       go : (a b : Bool) → (step.process == p) ≡ a → are_reading (rested (Process p) steps) step.process ≡ b
           → IsAlike (if a || b then step ∷ rested (Process p) steps else rested (Process p) steps) s u
           → ((t w : List (Option Bool)) → IsAlike (rested (Process p) steps) t w → is_some (found_from p steps t) ≡ is_some (found_from p (rested (Process p) steps) w))
-          → is_some (if a then (if are_two_live s step.inputs then Some s else None) else first_some (found_from p steps (settled s step false)) (if_other (choice (activation_in s step) step.condition) (found_from p steps (settled s step true))))
+          → is_some (if a then (if are_two_live s step.inputs then Some s else None) else first_some (found_from p steps (settled s step false))
+          (if_other (choice (activation_in s step) step.condition) (found_from p steps (settled s step true))))
           ≡ is_some (found_from p (if a || b then step ∷ rested (Process p) steps else rested (Process p) steps) u)
       go true b e f alike later = ap₂ (λ two at. is_some (if two then Some s else None)) (two_alike step (rested (Process p) steps) s u alike) e ∙ is_u (are_two_live u step.inputs)
-          ∙ ap (λ at. is_some (if at then (if are_two_live u step.inputs then Some u else None) else first_some (found_from p (rested (Process p) steps) (settled u step false)) (if_other (choice (activation_in u step) step.condition) (found_from p (rested (Process p) steps) (settled u step true))))) (sym e)
+          ∙ ap (λ at. is_some (if at then (if are_two_live u step.inputs then Some u else None) else first_some (found_from p (rested (Process p) steps) (settled u step false))
+          (if_other (choice (activation_in u step) step.condition) (found_from p (rested (Process p) steps) (settled u step true))))) (sym e)
         where
           is_u : (two : Bool) → is_some (if two then Some s else None) ≡ is_some (if two then Some u else None)
           is_u true = refl
           is_u false = refl
       go false true e f alike later =
-          ap (λ a. is_some (first_some (found_from p steps (settled s step false)) (if_other (choice a step.condition) (found_from p steps (settled s step true))))) (here_alike step (rested (Process p) steps) s u alike)
+          ap (λ a. is_some (first_some (found_from p steps (settled s step false)) (if_other (choice a step.condition) (found_from p steps (settled s step true)))))
+          (here_alike step (rested (Process p) steps) s u alike)
           ∙ some_kept (choice (activation_in u step) step.condition) (found_from p steps (settled s step false)) (found_from p steps (settled s step true))
           (found_from p (rested (Process p) steps) (settled u step false)) (found_from p (rested (Process p) steps) (settled u step true))
           (later (settled s step false) (settled u step false) (next_alike step (rested (Process p) steps) s u alike false))
           (later (settled s step true) (settled u step true) (next_alike step (rested (Process p) steps) s u alike true))
-          ∙ ap (λ at. is_some (if at then (if are_two_live u step.inputs then Some u else None) else first_some (found_from p (rested (Process p) steps) (settled u step false)) (if_other (choice (activation_in u step) step.condition) (found_from p (rested (Process p) steps) (settled u step true))))) (sym e)
-      go false false e f alike later = some_passed (choice (activation_in s step) step.condition) (found_from p steps (settled s step false)) (found_from p steps (settled s step true)) (found_from p (rested (Process p) steps) u)
+          ∙ ap (λ at. is_some (if at then (if are_two_live u step.inputs then Some u else None) else first_some (found_from p (rested (Process p) steps) (settled u step false))
+          (if_other (choice (activation_in u step) step.condition) (found_from p (rested (Process p) steps) (settled u step true))))) (sym e)
+      go false false e f alike later = some_passed (choice (activation_in s step) step.condition) (found_from p steps (settled s step false)) (found_from p steps (settled s step true))
+          (found_from p (rested (Process p) steps) u)
           (later (settled s step false) u (passed_alike step (rested (Process p) steps) s u alike f false))
           (later (settled s step true) u (passed_alike step (rested (Process p) steps) s u alike f true))
 
@@ -244,9 +250,11 @@ module _ (g : Graph) (order : List ℕ) (topological : IsTopological g order) (f
       long = length-set s q (standing (activation_in s (step_of g q)) v) ∙ sets.long;
       sets = λ r. elim (cases_eq r q) [
         | inl e ↦ ap (λ x. is_set (get_or (settled s (step_of g q) v) x None)) e
-            ∙ ap is_set (get_or-set_same s q (standing (activation_in s (step_of g q)) v) None (omega (arith, sets.long)) ∙ ap (λ a. standing a v) same ∙ sym (get_or-set_same u q (standing (activation_in u (step_of g q)) v) None (omega (arith, long))))
+            ∙ ap is_set (get_or-set_same s q (standing (activation_in s (step_of g q)) v) None (omega (arith, sets.long)) ∙ ap (λ a. standing a v) same ∙
+            sym (get_or-set_same u q (standing (activation_in u (step_of g q)) v) None (omega (arith, long))))
             ∙ sym (ap (λ x. is_set (get_or (settled u (step_of g q) v) x None)) e)
-        | inr n ↦ ap is_set (get_or-set_other s q r (standing (activation_in s (step_of g q)) v) None n) ∙ sets.sets r ∙ sym (ap is_set (get_or-set_other u q r (standing (activation_in u (step_of g q)) v) None n))
+        | inr n ↦ ap is_set (get_or-set_other s q r (standing (activation_in s (step_of g q)) v) None n) ∙ sets.sets r ∙
+            sym (ap is_set (get_or-set_other u q r (standing (activation_in u (step_of g q)) v) None n))
       ];
       fresh = λ r l m. get_or-set_other u q r (standing (activation_in u (step_of g q)) v) None (λ e. let f = ap (place order) e in omega (arith, at)) ∙ sets.fresh r l (omega arith);
     }
@@ -262,12 +270,17 @@ module _ (g : Graph) (order : List ℕ) (topological : IsTopological g order) (f
     where
       go : q < process_count g → place order q ≡ k → (a b : Bool) → (q == p) ≡ a → are_reading (rested (Process p) (map (step_of g) qs)) q ≡ b
           → IsAlike (if a || b then (step_of g q) ∷ (rested (Process p) (map (step_of g) qs)) else (rested (Process p) (map (step_of g) qs))) s u
-          → ((t w : List (Option Bool)) → IsAlike (rested (Process p) (map (step_of g) qs)) t w → AreSetAlike (k + 1) t w → AreFoundAlike (found_from p (map (step_of g) qs) t) (found_from p (rested (Process p) (map (step_of g) qs)) w))
-          → AreFoundAlike (if a then (if are_two_live s (step_of g q).inputs then Some s else None) else first_some (found_from p (map (step_of g) qs) (settled s (step_of g q) false)) (if_other (choice (activation_in s (step_of g q)) (step_of g q).condition) (found_from p (map (step_of g) qs) (settled s (step_of g q) true))))
+          → ((t w : List (Option Bool)) → IsAlike (rested (Process p) (map (step_of g) qs)) t w → AreSetAlike (k + 1) t w →
+          AreFoundAlike (found_from p (map (step_of g) qs) t) (found_from p (rested (Process p) (map (step_of g) qs)) w))
+          → AreFoundAlike (if a then (if are_two_live s (step_of g q).inputs then Some s else None) else first_some (found_from p (map (step_of g) qs) (settled s (step_of g q) false))
+          (if_other (choice (activation_in s (step_of g q)) (step_of g q).condition) (found_from p (map (step_of g) qs) (settled s (step_of g q) true))))
           (found_from p (if a || b then (step_of g q) ∷ (rested (Process p) (map (step_of g) qs)) else (rested (Process p) (map (step_of g) qs))) u)
       go h at true b e f alike later =
-          subst (λ a. AreFoundAlike (if are_two_live s (step_of g q).inputs then Some s else None) (if a then (if are_two_live u (step_of g q).inputs then Some u else None) else first_some (found_from p (rested (Process p) (map (step_of g) qs)) (settled u (step_of g q) false)) (if_other (choice (activation_in u (step_of g q)) (step_of g q).condition) (found_from p (rested (Process p) (map (step_of g) qs)) (settled u (step_of g q) true))))) (sym e)
-          (subst (λ two. AreFoundAlike (if two then Some s else None) (if are_two_live u (step_of g q).inputs then Some u else None)) (sym (two_alike p (step_of g q) (rested (Process p) (map (step_of g) qs)) s u alike)) (at_join (are_two_live u (step_of g q).inputs)))
+          subst (λ a. AreFoundAlike (if are_two_live s (step_of g q).inputs then Some s else None)
+          (if a then (if are_two_live u (step_of g q).inputs then Some u else None) else first_some (found_from p (rested (Process p) (map (step_of g) qs)) (settled u (step_of g q) false))
+          (if_other (choice (activation_in u (step_of g q)) (step_of g q).condition) (found_from p (rested (Process p) (map (step_of g) qs)) (settled u (step_of g q) true))))) (sym e)
+          (subst (λ two. AreFoundAlike (if two then Some s else None) (if are_two_live u (step_of g q).inputs then Some u else None))
+          (sym (two_alike p (step_of g q) (rested (Process p) (map (step_of g) qs)) s u alike)) (at_join (are_two_live u (step_of g q).inputs)))
         where
           at_join : (two : Bool) → AreFoundAlike (if two then Some s else None) (if two then Some u else None)
           at_join true = sets.sets
@@ -275,13 +288,24 @@ module _ (g : Graph) (order : List ℕ) (topological : IsTopological g order) (f
       go h at false true e f alike later =
           let here = here_alike (step_of g q) (rested (Process p) (map (step_of g) qs)) s u alike in
           let long : length u ≡ 128 = sym alike.long ∙ sets.long in
-          subst (λ a. AreFoundAlike (first_some (found_from p (map (step_of g) qs) (settled s (step_of g q) false)) (if_other (choice (activation_in s (step_of g q)) (step_of g q).condition) (found_from p (map (step_of g) qs) (settled s (step_of g q) true)))) (if a then (if are_two_live u (step_of g q).inputs then Some u else None) else first_some (found_from p (rested (Process p) (map (step_of g) qs)) (settled u (step_of g q) false)) (if_other (choice (activation_in u (step_of g q)) (step_of g q).condition) (found_from p (rested (Process p) (map (step_of g) qs)) (settled u (step_of g q) true))))) (sym e)
-          (subst (λ a. AreFoundAlike (first_some (found_from p (map (step_of g) qs) (settled s (step_of g q) false)) (if_other (choice a (step_of g q).condition) (found_from p (map (step_of g) qs) (settled s (step_of g q) true)))) (first_some (found_from p (rested (Process p) (map (step_of g) qs)) (settled u (step_of g q) false)) (if_other (choice (activation_in u (step_of g q)) (step_of g q).condition) (found_from p (rested (Process p) (map (step_of g) qs)) (settled u (step_of g q) true))))) (sym here)
-          (found_kept (choice (activation_in u (step_of g q)) (step_of g q).condition) (found_from p (map (step_of g) qs) (settled s (step_of g q) false)) (found_from p (map (step_of g) qs) (settled s (step_of g q) true)) (found_from p (rested (Process p) (map (step_of g) qs)) (settled u (step_of g q) false)) (found_from p (rested (Process p) (map (step_of g) qs)) (settled u (step_of g q) true))
-          (later (settled s (step_of g q) false) (settled u (step_of g q) false) (next_alike (step_of g q) (rested (Process p) (map (step_of g) qs)) s u alike false) (sets_kept k q h at s u sets long false here))
-          (later (settled s (step_of g q) true) (settled u (step_of g q) true) (next_alike (step_of g q) (rested (Process p) (map (step_of g) qs)) s u alike true) (sets_kept k q h at s u sets long true here))))
+          subst (λ a. AreFoundAlike (first_some (found_from p (map (step_of g) qs) (settled s (step_of g q) false))
+          (if_other (choice (activation_in s (step_of g q)) (step_of g q).condition) (found_from p (map (step_of g) qs) (settled s (step_of g q) true))))
+          (if a then (if are_two_live u (step_of g q).inputs then Some u else None) else first_some (found_from p (rested (Process p) (map (step_of g) qs)) (settled u (step_of g q) false))
+          (if_other (choice (activation_in u (step_of g q)) (step_of g q).condition) (found_from p (rested (Process p) (map (step_of g) qs)) (settled u (step_of g q) true))))) (sym e)
+          (subst (λ a. AreFoundAlike (first_some (found_from p (map (step_of g) qs) (settled s (step_of g q) false))
+          (if_other (choice a (step_of g q).condition) (found_from p (map (step_of g) qs) (settled s (step_of g q) true))))
+          (first_some (found_from p (rested (Process p) (map (step_of g) qs)) (settled u (step_of g q) false))
+          (if_other (choice (activation_in u (step_of g q)) (step_of g q).condition) (found_from p (rested (Process p) (map (step_of g) qs)) (settled u (step_of g q) true))))) (sym here)
+          (found_kept (choice (activation_in u (step_of g q)) (step_of g q).condition) (found_from p (map (step_of g) qs) (settled s (step_of g q) false))
+          (found_from p (map (step_of g) qs) (settled s (step_of g q) true)) (found_from p (rested (Process p) (map (step_of g) qs)) (settled u (step_of g q) false))
+          (found_from p (rested (Process p) (map (step_of g) qs)) (settled u (step_of g q) true))
+          (later (settled s (step_of g q) false) (settled u (step_of g q) false) (next_alike (step_of g q) (rested (Process p) (map (step_of g) qs)) s u alike false)
+          (sets_kept k q h at s u sets long false here))
+          (later (settled s (step_of g q) true) (settled u (step_of g q) true) (next_alike (step_of g q) (rested (Process p) (map (step_of g) qs)) s u alike true)
+          (sets_kept k q h at s u sets long true here))))
       go h at false false e f alike later =
-          found_passed (choice (activation_in s (step_of g q)) (step_of g q).condition) (found_from p (map (step_of g) qs) (settled s (step_of g q) false)) (found_from p (map (step_of g) qs) (settled s (step_of g q) true)) (found_from p (rested (Process p) (map (step_of g) qs)) u)
+          found_passed (choice (activation_in s (step_of g q)) (step_of g q).condition) (found_from p (map (step_of g) qs) (settled s (step_of g q) false))
+          (found_from p (map (step_of g) qs) (settled s (step_of g q) true)) (found_from p (rested (Process p) (map (step_of g) qs)) u)
           (later (settled s (step_of g q) false) u (passed_alike (step_of g q) (rested (Process p) (map (step_of g) qs)) s u alike f false) (sets_passed k q h at s u sets))
           (some_alike p (map (step_of g) qs) (settled s (step_of g q) true) u (passed_alike (step_of g q) (rested (Process p) (map (step_of g) qs)) s u alike f true))
 
@@ -317,6 +341,7 @@ module _ (g : Graph) (order : List ℕ) (topological : IsTopological g order) (f
       same : (other : List (Option Bool)) → AreFoundAlike (Some other) (Some found) → scenario_of g other ≡ scenario_of g found
       same other a = ap (λ f. let s : Scenario = record { values = map f (numbers_below (condition_count g)); faults = replicate (process_count g) 0 } in s) (λ i c. a (process_of g c) i)
 
-      go : (x : Option (List (Option Bool))) → found_from p (map (step_of g) order) start ≡ x → AreFoundAlike x (Some found) → IsLeast g order (λ t. has_two_live g t.values p ≡ true) (scenario_of g found)
+      go : (x : Option (List (Option Bool))) → found_from p (map (step_of g) order) start ≡ x → AreFoundAlike x (Some found) →
+          IsLeast g order (λ t. has_two_live g t.values p ≡ true) (scenario_of g found)
       go None f a = absurd a
       go (Some other) f a = subst (IsLeast g order (λ t. has_two_live g t.values p ≡ true)) (same other a) (search_some g order topological few p within other f)

@@ -1,5 +1,6 @@
 -- What is composed with shared parts.
-use Rattle.std.proofs.Common.{ℕ, zero, suc, ◌<◌, ◌≡◌, Bool, true, false, not, ◌==◌, if◌then◌else◌, List, [], ◌∷◌, length, set, replicate, Option, Some, None, refl, sym, ap, ap₂, ◌∙◌, subst, length-set}
+use Rattle.std.proofs.Common.{ℕ, zero, suc, ◌<◌, ◌≡◌, Bool, true, false, not, ◌==◌, if◌then◌else◌, List, [], ◌∷◌, length, set, replicate, Option, Some, None, refl, sym, ap, ap₂, ◌∙◌, subst}
+use Rattle.std.proofs.Common.{length-set}
 use Rattle.std.proofs.lemmas.List.Elements.{All-set}
 use Rattle.cpg_base.specs.Graph.{Graph}
 use Rattle.cpg_order.specs.Guard.{Guard}
@@ -147,8 +148,10 @@ pub apart_more : (g : Graph) (a b c : Sharing) (count : ℕ) (roots : List ℕ) 
     (n m : ℕ) (y : Option ℕ) → y ≡ Some m → MakesUnion a b (union g a.ranks (trees_of a.parts roots) left) y → Makes b c (input_tree g true (trees_of b.parts roots) input) n
     → not (are_both_live c.ranks (tree_at c.parts n) (tree_at c.parts m)) ≡ are_apart g a.ranks (trees_of a.parts roots) inputs
 apart_more g a b c count roots are input left inputs all n m y e h made =
-    apart_first g a b c roots (input_tree g true (trees_of b.parts roots) input) n m (union g a.ranks (trees_of a.parts roots) left) (subst (MakesUnion a b (union g a.ranks (trees_of a.parts roots) left)) e h) made
-    ∙ ap (λ trees. is_apart a.ranks (input_tree g true trees input) (union g a.ranks (trees_of a.parts roots) left)) (same_trees a b roots (union_extends a b (union g a.ranks (trees_of a.parts roots) left) y h) are.within)
+    apart_first g a b c roots (input_tree g true (trees_of b.parts roots) input) n m (union g a.ranks (trees_of a.parts roots) left)
+    (subst (MakesUnion a b (union g a.ranks (trees_of a.parts roots) left)) e h) made
+    ∙ ap (λ trees. is_apart a.ranks (input_tree g true trees input) (union g a.ranks (trees_of a.parts roots) left))
+    (same_trees a b roots (union_extends a b (union g a.ranks (trees_of a.parts roots) left) y h) are.within)
     ∙ ap (are_apart g a.ranks (trees_of a.parts roots)) (sym all)
 
 -- a union stays

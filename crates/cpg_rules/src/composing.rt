@@ -12,7 +12,7 @@ ghost use Rattle.cpg_rules.specs.Sharing.{trees_of, AreRoots, Extends, Makes};
 use crate::GuardTree;
 use crate::edges::test_of;
 use crate::shared::SharedParts;
-use crate::steps::{Input, ActivationStep};
+use crate::steps::{ActivationStep, Input};
 use cpg_base::{Activation, Order, OutOfMemory, Problem};
 use std::alloc::Global;
 
@@ -108,7 +108,11 @@ fn composed(
 }
 
 /// For each of `count` processes the part that says that it is inactive.
-pub fn seeds(alloc: Global, parts: &mut SharedParts, count: usize) -> Result<Vec<usize>, OutOfMemory>
+pub fn seeds(
+    alloc: Global,
+    parts: &mut SharedParts,
+    count: usize,
+) -> Result<Vec<usize>, OutOfMemory>
     ensures more { IfOk result (λ roots. Extends parts.old parts.new) }
     ensures roots { IfOk result (λ roots. AreRoots parts.new.parts count roots.items) }
     ensures trees { IfOk result (λ roots. trees_of parts.new.parts roots.items ≡ replicate count (Leaf Inactive)) }

@@ -3,7 +3,7 @@ ghost use Rattle.std.specs.Prelude.{◌≡◌, ◌<◌, All, length, min};
 ghost use Rattle.cpg_rules.specs.Growing.{activation_in, standing, settled, choice, tracks_from};
 ghost use Rattle.cpg_rules.specs.Steps.{IsStepBelow};
 
-use crate::steps::{Standings, ActivationStep};
+use crate::steps::{ActivationStep, Standings};
 use cpg_base::Activation;
 
 /// The standing of a process that is active in this way, whose condition has the value.
@@ -29,7 +29,12 @@ pub fn choice(activation: Activation, condition: Option<u32>) -> Option<u32>
 }
 
 /// The standings after a step, if the condition of its process has the value.
-pub fn settled(standings: Standings, step: &ActivationStep, activation: Activation, value: bool) -> Standings
+pub fn settled(
+    standings: Standings,
+    step: &ActivationStep,
+    activation: Activation,
+    value: bool,
+) -> Standings
     requires process { step.now.process < 128 }
     requires activation { activation ≡ activation_in standings step.now }
     ensures { result ≡ settled standings step.now value }

@@ -11,7 +11,7 @@ ghost use Rattle.cpg_rules.specs.Alternatives.{AreAlternatives, IsSingleJoin, ha
 use crate::apart::is_single_join;
 use crate::growing::{choice, settled};
 use crate::shared::SharedParts;
-use crate::steps::{Aim, Standings, ActivationStep, rested, steps_of};
+use crate::steps::{ActivationStep, Aim, Standings, rested, steps_of};
 use cpg_base::{Order, OutOfMemory, Problem, Scenario};
 use std::alloc::Global;
 

@@ -206,7 +206,11 @@ fn step_of(alloc: Global, problem: &Problem, process: u32) -> Result<ActivationS
 }
 
 /// The steps of all processes, in the order.
-pub fn steps_of(alloc: Global, problem: &Problem, order: &Order) -> Result<Vec<ActivationStep>, OutOfMemory>
+pub fn steps_of(
+    alloc: Global,
+    problem: &Problem,
+    order: &Order,
+) -> Result<Vec<ActivationStep>, OutOfMemory>
     requires { length order.now ≡ process_count problem.now }
     ensures { IfOk result (λ steps. steps.items ≡ map (step_of problem.now) order.now) }
 {
@@ -255,7 +259,11 @@ fn is_rested(aim: Aim, step: &ActivationStep, later: &[ActivationStep]) -> bool
 }
 
 /// Those of these steps that a walk rests on.
-pub fn rested(alloc: Global, aim: Aim, steps: &[ActivationStep]) -> Result<Vec<ActivationStep>, OutOfMemory>
+pub fn rested(
+    alloc: Global,
+    aim: Aim,
+    steps: &[ActivationStep],
+) -> Result<Vec<ActivationStep>, OutOfMemory>
     ensures { IfOk result (λ kept. kept.items ≡ rested aim steps.now) }
 {
     let Some((step, left)) = steps.split_first() else {

@@ -1,5 +1,6 @@
 -- Each cause is there exactly if its test fails, and the tests stand in the order of the causes.
-use Rattle.std.proofs.Common.{ℕ, zero, suc, ℤ, pos, negsuc, ◌≡◌, ◌<◌, ◌≤◌, ◌⊎◌, Bool, true, false, not, ◌&&◌, ◌||◌, if◌then◌else◌, List, [], ◌∷◌, Contains, Option, Some, None, Ok, Err, is_some, sum_by, codes, refl, sym, ap, subst, ◌∙◌, inl, inr, arith, true≢false}
+use Rattle.std.proofs.Common.{ℕ, zero, suc, ℤ, pos, negsuc, ◌≡◌, ◌<◌, ◌≤◌, ◌⊎◌, Bool, true, false, not, ◌&&◌, ◌||◌, if◌then◌else◌, List, [], ◌∷◌, Contains, Option, Some, None, Ok, Err, is_some}
+use Rattle.std.proofs.Common.{sum_by, codes, refl, sym, ap, subst, ◌∙◌, inl, inr, arith, true≢false}
 use Rattle.std.specs.Prelude.{◌↔◌, ⊤, IsSomeAnd, bytes_eq, nat_le, option_and_then}
 use Rattle.std.specs.List.{list_any, list_all}
 use Rattle.std.proofs.lemmas.Bool.{cases_Bool, both_ways, false_from_ne_true, true_from_ne_false, cases_lt, leb-false, lt-leb}
@@ -13,8 +14,10 @@ use Rattle.cpg_scenario.specs.declared.fault.Cause.{Cause}
 use Rattle.cpg_scenario.specs.declared.fault.Cause.TheVariants.{Toml, Field, Unknown, Condition, Budget, Length}
 use Rattle.cpg_scenario.specs.declared.fault.ScenarioFault.TheVariants.{Bad}
 use Rattle.cpg_scenario.specs.declared.reading.Played.{Played}
-use Rattle.cpg_scenario.specs.File.{top_keys, are_among, is_typed, are_typed, is_table_of, has_fields, process_names, are_named, has_names, value_given, may_have_value, has_conditions, count_given, count_of, is_natural, keeps_budget, length_given, is_length, is_length_if, keeps_lengths, lengths_of, scenario_of, Reading, played_if, file_of}
-use Rattle.cpg_scenario.specs.Causes.{document_of, Stands, HasEntry, HasOtherKey, HasOtherType, IsNoTableOf, HasBadField, HasUnknownName, HasBadValue, IsNegative, HasNegativeCount, IsOverBudget, IsNoLength, HasBadLength, IsIn, rank_of_cause, FirstCausesAreTold}
+use Rattle.cpg_scenario.specs.File.{top_keys, are_among, is_typed, are_typed, is_table_of, has_fields, process_names, are_named, has_names, value_given, may_have_value, has_conditions, count_given}
+use Rattle.cpg_scenario.specs.File.{count_of, is_natural, keeps_budget, length_given, is_length, is_length_if, keeps_lengths, lengths_of, scenario_of, Reading, played_if, file_of}
+use Rattle.cpg_scenario.specs.Causes.{document_of, Stands, HasEntry, HasOtherKey, HasOtherType, IsNoTableOf, HasBadField, HasUnknownName, HasBadValue, IsNegative, HasNegativeCount, IsOverBudget}
+use Rattle.cpg_scenario.specs.Causes.{IsNoLength, HasBadLength, IsIn, rank_of_cause, FirstCausesAreTold}
 use Rattle.cpg_scenario.proofs.Filling.{all_pass, one_fails}
 
 -- ---- a test and what is so if it fails
@@ -313,7 +316,8 @@ judged g None = (
     back Length h = absurd h
 judged g (Some ms) = (
   λ cause. (
-    λ e. let first = told_first (test g ms) (played g ms) order 1 rise start cause e in ((fails g ms cause).0 first.0, λ other l h. both_ways (test g ms other) ((fails g ms other).1 h) (first.1 other l)),
+    λ e. let first = told_first (test g ms) (played g ms) order 1 rise start cause e in
+        ((fails g ms cause).0 first.0, λ other l h. both_ways (test g ms other) ((fails g ms other).1 h) (first.1 other l)),
     λ h. first_told (test g ms) (played g ms) order 1 rise cause (behind cause h.0) ((fails g ms cause).1 h.0, λ other l. passes g ms other (h.1 other l)),
   ),
   (

@@ -28,7 +28,8 @@ use Rattle.cpg_inputs.specs.Shapes.{HavePeriods, OnGraph, OnTables, part_values}
 use Rattle.cpg_inputs.proofs.OneReading.{reads_grown, stops_grown}
 use Rattle.cpg_app.specs.Causes.{IsUncompiled, StopsVerdict as Unverified, StopsWork, StopsNaming as Unnamed}
 use Rattle.cpg_app.specs.Outputs.{PutsOut}
-use Rattle.cpg_shelf_laws.specs.Causes.{Admits, AreSaid, GRAPH_LIMIT, IsAfterReading, IsUnsaid, PACK_LIMIT, Says, SaysLog, SaysPlayed, Spells, StopsCommand, StopsGraph, StopsNaming, StopsReading, StopsTables, StopsVerdict, seen}
+use Rattle.cpg_shelf_laws.specs.Causes.{Admits, AreSaid, GRAPH_LIMIT, IsAfterReading, IsUnsaid, PACK_LIMIT, Says, SaysLog, SaysPlayed, Spells, StopsCommand, StopsGraph, StopsNaming, StopsReading}
+use Rattle.cpg_shelf_laws.specs.Causes.{StopsTables, StopsVerdict, seen}
 use Rattle.cpg_shelf_laws.specs.Outputs.{PrintsCommand}
 use Rattle.cpg_shelf_laws.proofs.Fetched.{IsLast, agreed, last, tells_whole}
 use Rattle.cpg_shelf_laws.proofs.Parts.{some_parts}
@@ -113,7 +114,8 @@ module _ (old new : ShelfState) (k : KeepsShelf old new) where
 
   -- ---- parts
 
-  pub unsaid : (g : Option Graph) (pairs : List Pair) (past older : List Fetch) (halt : Halt) → past ≡ older ++ old.history → StopsFiles g (part_files pairs) past new.history halt → IsUnsaid (seen old new) pairs halt
+  pub unsaid : (g : Option Graph) (pairs : List Pair) (past older : List Fetch) (halt : Halt) → past ≡ older ++ old.history → StopsFiles g (part_files pairs) past new.history halt →
+      IsUnsaid (seen old new) pairs halt
   unsaid g [] past older halt e s = absurd s
   unsaid g (pair ∷ pairs) past older halt e (f, inl (stops, is)) = record {
     place = 0;
@@ -134,7 +136,8 @@ module _ (old new : ShelfState) (k : KeepsShelf old new) where
         stops = rest.stops;
       }
 
-  pub parts_said : (g : Option Graph) (pairs : List Pair) (parts : List Part) (past older : List Fetch) → past ≡ older ++ old.history → Reads g (part_files pairs) past new.history (part_values parts) → HavePeriods pairs parts → AreSaid old.stands pairs parts
+  pub parts_said : (g : Option Graph) (pairs : List Pair) (parts : List Part) (past older : List Fetch) → past ≡ older ++ old.history →
+      Reads g (part_files pairs) past new.history (part_values parts) → HavePeriods pairs parts → AreSaid old.stands pairs parts
   parts_said g [] [] past older e r h = tt
   parts_said g [] (part ∷ parts) past older e r h = absurd h
   parts_said g (pair ∷ pairs) [] past older e r h = absurd h
@@ -143,7 +146,8 @@ module _ (old new : ShelfState) (k : KeepsShelf old new) where
       let ag = agreed old new k f (record { newer = grown.fetches; older = older; is = grown.is ∙ ap (λ h. grown.fetches ++ f ∷ h) e }) in
       (h.0, part_is g pair.graph f part.problem r ag, parts_said g pairs parts (f ∷ past) (f ∷ older) (ap (λ h. f ∷ h) e) rest h.1)
 
-  pub parts_within : (g : Option Graph) (pairs : List Pair) (parts : List Part) (past older : List Fetch) → past ≡ older ++ old.history → 0 < length pairs → Reads g (part_files pairs) past new.history (part_values parts) → HavePeriods pairs parts → given_count new ≤ GRAPH_LIMIT
+  pub parts_within : (g : Option Graph) (pairs : List Pair) (parts : List Part) (past older : List Fetch) → past ≡ older ++ old.history → 0 < length pairs →
+      Reads g (part_files pairs) past new.history (part_values parts) → HavePeriods pairs parts → given_count new ≤ GRAPH_LIMIT
   parts_within g [] parts past older e some r h = absurd (omega (arith, some))
   parts_within g (pair ∷ pairs) [] past older e some r h = absurd h
   parts_within g (pair ∷ []) (part ∷ []) past older e some (f, r, is) h = within f (limit_of PartFile) (last old new k f older (is ∙ ap (λ h. f ∷ h) e)) r.whole.short
@@ -171,7 +175,16 @@ module _ (old new : ShelfState) (k : KeepsShelf old new) where
   stops_files (Play name pack scenario turns) halt (f, inr (v, r, (p, inr (w, q, (c, inl (stops, e)))))) =
       let a = graph_of None name f v r (first_three f p c e) in
       let t = tables_of (graph_after None v) pack p w q (second_three f p c e) in
-      inr (a.0, a.2, inr (t.0, t.2, inl (stops_scenario old new c (three f p c e) scenario a.0.graph halt (subst (λ g. StopsAt g (file ScenarioFile scenario) c halt) (behind v w a.0 t.0 a.1 t.1) stops))))
+      inr (
+        a.0,
+        a.2,
+        inr (
+          t.0,
+          t.2,
+          inl (stops_scenario old new c (three f p c e) scenario a.0.graph halt
+              (subst (λ g. StopsAt g (file ScenarioFile scenario) c halt) (behind v w a.0 t.0 a.1 t.1) stops)),
+        ),
+      )
   stops_files (Play name pack scenario turns) halt (f, inr (v, r, (p, inr (w, q, (c, inr (u, s, none)))))) = absurd none
   stops_files (Audit name pack log) halt (f, inl (stops, e)) = inl (stops_graph old new f (one f e) name None halt stops)
   stops_files (Audit name pack log) halt (f, inr (v, r, (p, inl (stops, e)))) =
@@ -206,7 +219,8 @@ module _ (old new : ShelfState) (k : KeepsShelf old new) where
     q : IsRead (Some a.graph) (file PackFile pack) p (tables_value t)
     end : new.history ≡ p ∷ f ∷ old.history
 
-  two_read : (name pack : Text) (a : Admission) (t : Tables) → Reads None (file GraphFile name ∷ file PackFile pack ∷ []) old.history new.history (graph_value a ∷ tables_value t ∷ []) → TwoRead name pack a t
+  two_read : (name pack : Text) (a : Admission) (t : Tables) → Reads None (file GraphFile name ∷ file PackFile pack ∷ []) old.history new.history (graph_value a ∷ tables_value t ∷ []) →
+      TwoRead name pack a t
   two_read name pack a t (f, r, (p, q, e)) = record { f = f; p = p; r = r; q = q; end = e }
 
   record ThreeRead (kind : FileKind) (name pack third : Text) (a : Admission) (t : Tables) (v : Value) : Type 0 where
@@ -218,7 +232,8 @@ module _ (old new : ShelfState) (k : KeepsShelf old new) where
     s : IsRead (Some a.graph) (file kind third) c v
     end : new.history ≡ c ∷ p ∷ f ∷ old.history
 
-  three_read : (kind : FileKind) (name pack third : Text) (a : Admission) (t : Tables) (v : Value) → Reads None (file GraphFile name ∷ file PackFile pack ∷ file kind third ∷ []) old.history new.history (graph_value a ∷ tables_value t ∷ v ∷ []) → ThreeRead kind name pack third a t v
+  three_read : (kind : FileKind) (name pack third : Text) (a : Admission) (t : Tables) (v : Value) →
+      Reads None (file GraphFile name ∷ file PackFile pack ∷ file kind third ∷ []) old.history new.history (graph_value a ∷ tables_value t ∷ v ∷ []) → ThreeRead kind name pack third a t v
   three_read kind name pack third a t v (f, r, (p, q, (c, s, e))) = record { f = f; p = p; c = c; r = r; q = q; s = s; end = e }
 
   abbrev Files : Command → List Value → Type 0
@@ -263,12 +278,14 @@ module _ (old new : ShelfState) (k : KeepsShelf old new) where
 
   -- ---- the work stops a command
 
-  compiled_stops : (name : Text) (halt : Halt) (values : List Value) → Reads None (file GraphFile name ∷ []) old.history new.history values → OnGraph values (λ a. IsUncompiled a halt) → StopsGraph (seen old new) (old.stands name) (IsAfterReading (given_count new) GRAPH_LIMIT IsUncompiled) halt
+  compiled_stops : (name : Text) (halt : Halt) (values : List Value) → Reads None (file GraphFile name ∷ []) old.history new.history values → OnGraph values (λ a. IsUncompiled a halt) →
+      StopsGraph (seen old new) (old.stands name) (IsAfterReading (given_count new) GRAPH_LIMIT IsUncompiled) halt
   compiled_stops name halt values reads (a, e, un) =
       let h = one_read GraphFile name (graph_value a) (subst (λ vs. Reads None (file GraphFile name ∷ []) old.history new.history vs) e reads) in
       inr (a, one_graph name a h, record { stops = un; within = one_within name a h })
 
-  naming_stops : (pack name : Text) (halt : Halt) (values : List Value) → Reads None (file PackFile pack ∷ []) old.history new.history values → OnTables values (λ t. Unnamed t name halt) → StopsTables (seen old new) (old.stands pack) (IsAfterReading (given_count new) PACK_LIMIT (λ t. StopsNaming t name)) halt
+  naming_stops : (pack name : Text) (halt : Halt) (values : List Value) → Reads None (file PackFile pack ∷ []) old.history new.history values → OnTables values (λ t. Unnamed t name halt) →
+      StopsTables (seen old new) (old.stands pack) (IsAfterReading (given_count new) PACK_LIMIT (λ t. StopsNaming t name)) halt
   naming_stops pack name halt values reads (t, e, un) =
       let h = one_read PackFile pack (tables_value t) (subst (λ vs. Reads None (file PackFile pack ∷ []) old.history new.history vs) e reads) in
       inr (t, one_pack pack t h, record { stops = naming_told t name halt un; within = pack_within pack t h })
@@ -341,7 +358,11 @@ module _ (old new : ShelfState) (k : KeepsShelf old new) where
         output = (
           a,
           three_graph ScenarioFile name pack scenario a t v h,
-          (t, three_pack ScenarioFile name pack scenario a t v h, record { judged = made.judged; played = p; says = said; lawful = (says_played a.graph h.c.given p h.s.says).lawful; played_text = made.play }),
+          (
+            t,
+            three_pack ScenarioFile name pack scenario a t v h,
+            record { judged = made.judged; played = p; says = said; lawful = (says_played a.graph h.c.given p h.s.says).lawful; played_text = made.play },
+          ),
         );
         within = three_within ScenarioFile name pack scenario a t v h;
       }

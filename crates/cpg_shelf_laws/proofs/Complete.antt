@@ -132,7 +132,8 @@ parts_alone (part ∷ parts) (tables_value t ∷ ws) x = absurd x.0
 parts_alone (part ∷ parts) (played_value p ∷ ws) x = absurd x.0
 parts_alone (part ∷ parts) (log_value l ∷ ws) x = absurd x.0
 
-parts_told : (stands : Text → Option Text) (pairs : List Pair) (parts : List Part) → AreTellingParts stands pairs parts → AreTold stands None (part_files pairs) (part_values parts) × HavePeriods pairs parts
+parts_told : (stands : Text → Option Text) (pairs : List Pair) (parts : List Part) → AreTellingParts stands pairs parts → AreTold stands None (part_files pairs) (part_values parts) ×
+    HavePeriods pairs parts
 parts_told stands [] [] t = (tt, tt)
 parts_told stands [] (part ∷ parts) t = absurd t
 parts_told stands (pair ∷ pairs) [] t = absurd t
@@ -166,7 +167,8 @@ module _ (r : Run) (w : IsLawfulRun r) (k : KeepsShelf r.shelf.old r.shelf.new) 
       let also : Has r c ws = subst (λ d. Has r d ws) same h in
       inl (ws, also, read_as_told r.shelf.old r.shelf.new k None (files_of c) r.shelf.old.history [] values ws refl t also.reads)
 
-  by_stop : (c : Command) (values : List Value) → command_of r.words ≡ Some c → AreTold r.shelf.old.stands None (files_of c) values → (halt : Halt) → (IsToldRun r halt ⊎ IsMutedRun r halt) → StopsRun r halt → Comes c values
+  by_stop : (c : Command) (values : List Value) → command_of r.words ≡ Some c → AreTold r.shelf.old.stands None (files_of c) values → (halt : Halt) → (IsToldRun r halt ⊎ IsMutedRun r halt) →
+      StopsRun r halt → Comes c values
   by_stop c values e t halt ending (inl x) = elim x.cause [
     | inl formless ↦ absurd (no_command c (sym formless.1 ∙ e))
     | inr memory ↦ inr (inl (of_memory halt memory ending))
@@ -184,7 +186,8 @@ module _ (r : Run) (w : IsLawfulRun r) (k : KeepsShelf r.shelf.old r.shelf.new) 
   comes c values e t (inr (inr (inr x))) = inr (inr x.follows)
 
   -- for each command but `live`: its files were read, or memory ran out
-  asked : (c : Command) (values : List Value) → is_live (Some c) ≡ false → command_of r.words ≡ Some c → AreTold r.shelf.old.stands None (files_of c) values → ((ws : List Value) × Has r c ws × AllAlike values ws) ⊎ (r.status ≡ 8)
+  asked : (c : Command) (values : List Value) → is_live (Some c) ≡ false → command_of r.words ≡ Some c → AreTold r.shelf.old.stands None (files_of c) values →
+      ((ws : List Value) × Has r c ws × AllAlike values ws) ⊎ (r.status ≡ 8)
   asked c values other e t = elim (comes c values e t w.ends) [
     | inl h ↦ inl h
     | inr rest ↦ elim rest [
@@ -198,7 +201,9 @@ module _ (r : Run) (w : IsLawfulRun r) (k : KeepsShelf r.shelf.old r.shelf.new) 
 
   -- ---- tables of a graph
 
-  of_graph : (make : Text → Command) (graph : Text) (a : Admission) → is_live (Some (make graph)) ≡ false → files_of (make graph) ≡ file GraphFile graph ∷ [] → command_of r.words ≡ Some (make graph) → AreTold r.shelf.old.stands None (file GraphFile graph ∷ []) (graph_value a ∷ []) → ((b : Admission) × AsksRun r (make graph) (graph_value b ∷ []) × AreAlike a b) ⊎ (r.status ≡ 8)
+  of_graph : (make : Text → Command) (graph : Text) (a : Admission) → is_live (Some (make graph)) ≡ false → files_of (make graph) ≡ file GraphFile graph ∷ [] →
+      command_of r.words ≡ Some (make graph) → AreTold r.shelf.old.stands None (file GraphFile graph ∷ []) (graph_value a ∷ []) →
+      ((b : Admission) × AsksRun r (make graph) (graph_value b ∷ []) × AreAlike a b) ⊎ (r.status ≡ 8)
   of_graph make graph a other files e t = elim (asked (make graph) (graph_value a ∷ []) other e (subst (λ fs. AreTold r.shelf.old.stands None fs (graph_value a ∷ [])) (sym files) t)) [
     | inl h ↦ (let b = graph_alone a h.0 h.2 in inl (b.0, record { has = subst (Has r (make graph)) b.1 h.1; faultless = faultless }, b.2))
     | inr memory ↦ inr memory
@@ -206,7 +211,8 @@ module _ (r : Run) (w : IsLawfulRun r) (k : KeepsShelf r.shelf.old r.shelf.new) 
 
   tables_asked : (a : Admission) → Asks (told_of r) a → ((b : Admission) × AsksForTables r b × AreAlike a b) ⊎ (r.status ≡ 8)
   tables_asked a q =
-      let t : AreTold r.shelf.old.stands None (file GraphFile q.graph ∷ []) (graph_value a ∷ []) = (q.bytes, q.told, q.file.short, (a, refl, record { says = q.file.says; admitted = q.file.admitted }), tt) in
+      let t : AreTold r.shelf.old.stands None (file GraphFile q.graph ∷ []) (graph_value a ∷ []) =
+      (q.bytes, q.told, q.file.short, (a, refl, record { says = q.file.says; admitted = q.file.admitted }), tt) in
       elim q.words [
         | inl show ↦ elim (of_graph Show q.graph a refl refl show t) [
           | inl h ↦ inl (h.0, (q.graph, inl h.1), h.2)
@@ -266,7 +272,8 @@ module _ (r : Run) (w : IsLawfulRun r) (k : KeepsShelf r.shelf.old r.shelf.new) 
         ]
         | inr rest ↦ elim rest [
           | inl play ↦ (let n = play.3 in let c = Play q.graph q.pack play.0 play.1 in
-              elim (asked c (graph_value a ∷ tables_value t ∷ played_value n.played ∷ []) refl play.2 (q.bytes, q.told, q.file.short, graph_told, (spelling t, q.spelled, short, pack_told, (n.bytes, n.told, n.short, (n.played, refl, n.says), tt)))) [
+              elim (asked c (graph_value a ∷ tables_value t ∷ played_value n.played ∷ []) refl play.2
+              (q.bytes, q.told, q.file.short, graph_told, (spelling t, q.spelled, short, pack_told, (n.bytes, n.told, n.short, (n.played, refl, n.says), tt)))) [
                 | inl h ↦ (
                     let b = graph_first a (tables_value t ∷ played_value n.played ∷ []) h.0 h.2 in
                     let u = tables_first t (played_value n.played ∷ []) b.1 b.4 in
@@ -276,7 +283,13 @@ module _ (r : Run) (w : IsLawfulRun r) (k : KeepsShelf r.shelf.old r.shelf.new) 
                 | inr memory ↦ inr memory
               ])
           | inr audit ↦ (let n = audit.2 in let c = Audit q.graph q.pack audit.0 in
-              elim (asked c (graph_value a ∷ tables_value t ∷ log_value n.log ∷ []) refl audit.1 (q.bytes, q.told, q.file.short, graph_told, (spelling t, q.spelled, short, pack_told, (n.bytes, n.told, n.short, (n.log, refl, record { says = n.says; lawful = n.says.lawful }), tt)))) [
+              elim (asked c (graph_value a ∷ tables_value t ∷ log_value n.log ∷ []) refl audit.1 (
+                q.bytes,
+                q.told,
+                q.file.short,
+                graph_told,
+                (spelling t, q.spelled, short, pack_told, (n.bytes, n.told, n.short, (n.log, refl, record { says = n.says; lawful = n.says.lawful }), tt)),
+              )) [
                 | inl h ↦ (
                     let b = graph_first a (tables_value t ∷ log_value n.log ∷ []) h.0 h.2 in
                     let u = tables_first t (log_value n.log ∷ []) b.1 b.4 in

@@ -16,7 +16,8 @@ use Rattle.cpg_live.specs.declared.following.StreamFault.TheVariants.{Long}
 use Rattle.cpg_live.specs.declared.following.TheConstants.{STREAM_LIMIT}
 use Rattle.cpg_live.specs.Following.{Breaks as BreaksFetch}
 use Rattle.cpg_live.specs.Streams.{IsClosed as IsClosedFetch, IsRefused as IsRefusedFetch}
-use Rattle.cpg_app.specs.Endings.{Ran as Run, Ends as EndsRun, Follows as FollowsRun, IsCut as IsCutRun, IsMuted as IsMutedRun, IsPrinted as IsPrintedRun, IsTold as IsToldRun, Prints as PrintsRun, Stops as StopsRun, stream_of as stream_of_run, table_of as table_in}
+use Rattle.cpg_app.specs.Endings.{Ran as Run, Ends as EndsRun, Follows as FollowsRun, IsCut as IsCutRun, IsMuted as IsMutedRun, IsPrinted as IsPrintedRun, IsTold as IsToldRun, Prints as PrintsRun}
+use Rattle.cpg_app.specs.Endings.{Stops as StopsRun, stream_of as stream_of_run, table_of as table_in}
 use Rattle.cpg_app.specs.Lawful.{IsRefusedStream as IsRefusedRun, IsUnreadStream as IsUnreadRun}
 use Rattle.cpg_shelf_laws.specs.Causes.{StopsAsked, seen}
 use Rattle.cpg_shelf_laws.specs.Outputs.{PrintsAsked}
@@ -49,7 +50,8 @@ module _ (r : Run) (k : KeepsShelf r.shelf.old r.shelf.new) where
   ]
 
   pub prints_told : (text : Text) → PrintsRun r text → PrintsAsked (seen r.shelf.old r.shelf.new) (command_of r.words) text
-  prints_told text p = subst (λ asked. PrintsAsked (seen r.shelf.old r.shelf.new) asked text) (sym p.has.words) (prints r.shelf.old r.shelf.new k r.words p.command text p.values p.has.words p.has.reads p.puts)
+  prints_told text p = subst (λ asked. PrintsAsked (seen r.shelf.old r.shelf.new) asked text) (sym p.has.words)
+      (prints r.shelf.old r.shelf.new k r.words p.command text p.values p.has.words p.has.reads p.puts)
 
   pub told : (halt : Halt) → IsToldRun r halt → IsTold (told_of r) halt
   told halt t = record { status = t.status; out = t.out; err = t.err }
@@ -112,8 +114,12 @@ module _ (r : Run) (k : KeepsShelf r.shelf.old r.shelf.new) where
     within = (let m = c.short in let n = (last_of f).count in omega (arith, m, n));
   })
 
-  breaks_told : (f : FollowsRun r) (broken : Broken) → BreaksFetch f.tables.head (table_in f) (stream_of_run r f) broken → Breaks f.tables.head (table_in f) (stream_of (told_of r) (follows_told f)) broken
-  breaks_told f Shelf (lines, c, wrote) = ((last_of f).rose c.failed, (lines, lawful_told f.tables.head (table_in f) f.fetch (r.shelf.old.stands f.stream) (given_count r.shelf.new) lines (last_of f).count (front_of f) c, wrote))
+  breaks_told : (f : FollowsRun r) (broken : Broken) → BreaksFetch f.tables.head (table_in f) (stream_of_run r f) broken →
+      Breaks f.tables.head (table_in f) (stream_of (told_of r) (follows_told f)) broken
+  breaks_told f Shelf (lines, c, wrote) = (
+    (last_of f).rose c.failed,
+    (lines, lawful_told f.tables.head (table_in f) f.fetch (r.shelf.old.stands f.stream) (given_count r.shelf.new) lines (last_of f).count (front_of f) c, wrote),
+  )
   breaks_told f Sink (rose, c) = (rose, cut_told f.tables.head (table_in f) f.fetch (r.shelf.old.stands f.stream) r.out.old r.out.new (front_of f) c)
   breaks_told f (Refused fault) (lines, c, wrote) = (lines, refused_told f.tables.head (table_in f) f.fetch (r.shelf.old.stands f.stream) fault lines (front_of f) c, wrote, over f fault lines c)
 
@@ -121,4 +127,5 @@ module _ (r : Run) (k : KeepsShelf r.shelf.old r.shelf.new) where
   ends_told (inl (text, e)) = inl (text, record { prints = prints_told text e.prints; ending = elim e.ending [ inl p ↦ inl (printed text p) | inr c ↦ inr (cut text c) ] })
   ends_told (inr (inl (halt, e))) = inr (inl (halt, record { stops = stops_told halt e.stops; ending = elim e.ending [ inl t ↦ inl (told halt t) | inr m ↦ inr (muted halt m) ] }))
   ends_told (inr (inr (inl e))) = let c = e.completes in inl (c.0, record { prints = closed_prints e.follows c.0 c.1; ending = inl (record { status = e.status; out = c.2; err = e.err }) })
-  ends_told (inr (inr (inr e))) = inr (inr (record { follows = follows_told e.follows; broken = e.broken; breaks = breaks_told e.follows e.broken e.breaks; said = said_told r.err r.status e.broken e.said }))
+  ends_told (inr (inr (inr e))) = inr (inr (record
+      { follows = follows_told e.follows; broken = e.broken; breaks = breaks_told e.follows e.broken e.breaks; said = said_told r.err r.status e.broken e.said }))

@@ -67,7 +67,8 @@ whole_front : (bytes : Text) (f : Fetch) → f.ended ≡ true → IsFrontOf byte
 whole_front bytes f ended h = h.front ∙ ap (λ rest. f.given ++ rest) (h.all ended) ∙ append-nil f.given
 
 pub tells_whole : (stands : Text → Option Text) (file : File) (f : Fetch) → IsWhole file f → Agrees stands f → TellsAs (stands file.name) f.given
-tells_whole stands file f w agrees = subst (λ name. TellsAs (stands name) f.given) w.named (on_some (stands f.name) (λ bytes. IsFrontOf bytes f) (λ bytes. bytes ≡ f.given) (λ bytes h. whole_front bytes f w.ended h) agrees)
+tells_whole stands file f w agrees = subst (λ name. TellsAs (stands name) f.given) w.named
+    (on_some (stands f.name) (λ bytes. IsFrontOf bytes f) (λ bytes. bytes ≡ f.given) (λ bytes h. whole_front bytes f w.ended h) agrees)
 
 long_front : (bytes : Text) (f : Fetch) (limit : ℕ) → limit < length f.given → IsFrontOf bytes f → limit < length bytes
 long_front bytes f limit over h = let l = ap (λ (b : Text). length b) h.front in let k = length-append f.given h.rest in omega (arith, over, l, k)
@@ -76,6 +77,8 @@ long_front bytes f limit over h = let l = ap (λ (b : Text). length b) h.front i
 pub more : (count limit : ℕ) → count ≡ limit + 1 → limit < count
 more count limit is = omega (arith, is)
 
-pub tells_long : (stands : Text → Option Text) (file : File) (f : Fetch) → IsFetchOf file f → limit_of file.kind < length f.given → Agrees stands f → IfSome (stands file.name) (λ bytes. limit_of file.kind < length bytes)
+pub tells_long : (stands : Text → Option Text) (file : File) (f : Fetch) → IsFetchOf file f → limit_of file.kind < length f.given → Agrees stands f →
+    IfSome (stands file.name) (λ bytes. limit_of file.kind < length bytes)
 tells_long stands file f of over agrees =
-    subst (λ name. IfSome (stands name) (λ bytes. limit_of file.kind < length bytes)) of.named (on_some (stands f.name) (λ bytes. IsFrontOf bytes f) (λ bytes. limit_of file.kind < length bytes) (λ bytes h. long_front bytes f (limit_of file.kind) over h) agrees)
+    subst (λ name. IfSome (stands name) (λ bytes. limit_of file.kind < length bytes)) of.named
+    (on_some (stands f.name) (λ bytes. IsFrontOf bytes f) (λ bytes. limit_of file.kind < length bytes) (λ bytes h. long_front bytes f (limit_of file.kind) over h) agrees)

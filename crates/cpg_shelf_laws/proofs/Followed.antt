@@ -25,7 +25,8 @@ use Rattle.cpg_live.specs.declared.following.StreamFault.{StreamFault}
 use Rattle.cpg_live.specs.Following.{Breaks}
 use Rattle.cpg_live.specs.Streams.{stream_end}
 use Rattle.cpg_app.specs.Causes.{StopsNaming, StopsWork, first_named}
-use Rattle.cpg_app.specs.Endings.{Ran as Run, Ends as EndsRun, Follows as FollowsRun, Has, IsMuted as IsMutedRun, IsTold as IsToldRun, Stops as StopsRun, StopsInFiles, StopsInWords, StopsInWork, stream_of, table_of}
+use Rattle.cpg_app.specs.Endings.{Ran as Run, Ends as EndsRun, Follows as FollowsRun, Has, IsMuted as IsMutedRun, IsTold as IsToldRun, Stops as StopsRun, StopsInFiles, StopsInWords, StopsInWork}
+use Rattle.cpg_app.specs.Endings.{stream_of, table_of}
 use Rattle.cpg_outputs.specs.Said.{IsSaid}
 use Rattle.cpg_app.specs.Lawful.{IsLawful as IsLawfulRun}
 use Rattle.cpg_app.specs.Outputs.{PutsOut}
@@ -97,7 +98,8 @@ module _ (r : Run) (w : IsLawfulRun r) (k : KeepsShelf r.shelf.old r.shelf.new) 
       let same : x.command ≡ Live q.pack name q.stream = same_command (command_of r.words) x.command (Live q.pack name q.stream) x.has.words q.words in
       let values : x.values ≡ tables_value t ∷ [] = value_is x.command x.values same x.has in
       elim x.stops [
-        | inl stops ↦ (let on : OnTables x.values (λ u. StopsNaming u name halt) = subst (λ c. StopsWork c x.values halt) same stops in none (ap (λ (u : Tables). first_named u.head name) (ap (tables_or t) (sym values ∙ on.1)) ∙ on.2.none))
+        | inl stops ↦ (let on : OnTables x.values (λ u. StopsNaming u name halt) = subst (λ c. StopsWork c x.values halt) same stops in
+            none (ap (λ (u : Tables). first_named u.head name) (ap (tables_or t) (sym values ∙ on.1)) ∙ on.2.none))
         | inr e ↦ memory e
       ]
 
@@ -108,7 +110,8 @@ module _ (r : Run) (w : IsLawfulRun r) (k : KeepsShelf r.shelf.old r.shelf.new) 
   ]
   by_stop P halt (inr (inl x)) none memory =
       let same : x.command ≡ Live q.pack name q.stream = same_command (command_of r.words) x.command (Live q.pack name q.stream) x.words q.words in
-      memory (none_stops r.shelf.old r.shelf.new k q.faultless.shelf None (file PackFile q.pack ∷ []) r.shelf.old.history [] (tables_value t ∷ []) halt refl told (subst (λ d. StopsReading None (files_of d) r.shelf.old.history r.shelf.new.history halt) same x.stops))
+      memory (none_stops r.shelf.old r.shelf.new k q.faultless.shelf None (file PackFile q.pack ∷ []) r.shelf.old.history [] (tables_value t ∷ []) halt refl told
+      (subst (λ d. StopsReading None (files_of d) r.shelf.old.history r.shelf.new.history halt) same x.stops))
   by_stop P halt (inr (inr x)) none memory = by_work P halt x none memory
 
   no_text : (c : Command) (values : List Value) (text : Text) → c ≡ Live q.pack name q.stream → PutsOut c values text → ⊥
@@ -120,7 +123,8 @@ module _ (r : Run) (w : IsLawfulRun r) (k : KeepsShelf r.shelf.old r.shelf.new) 
     table_is : (f : FollowsRun r) → table_of f ≡ table_at t.nodes node
     table_is f = ap₂ (λ (t : Tables) n. table_at t.nodes n) (tables_are f) (ap (node_or node) (sym (named_so f) ∙ is))
 
-    answers : (f : FollowsRun r) (ends : Result ℕ StreamFault) → stream_end (table_of f) bytes ≡ ends → r.status ≡ status_of_end ends → r.status ≡ status_of_end (stream_end (table_at t.nodes node) bytes)
+    answers : (f : FollowsRun r) (ends : Result ℕ StreamFault) → stream_end (table_of f) bytes ≡ ends → r.status ≡ status_of_end ends →
+        r.status ≡ status_of_end (stream_end (table_at t.nodes node) bytes)
     answers f ends e status = status ∙ sym (ap status_of_end (ap (λ table. stream_end table bytes) (sym (table_is f)) ∙ e))
 
     in_stream : (f : FollowsRun r) (b : Broken) → Breaks f.tables.head (table_of f) (stream_of r f) b → IsSaid r.err r.status b → r.status ≡ status_of_end (stream_end (table_at t.nodes node) bytes)
@@ -130,8 +134,10 @@ module _ (r : Run) (w : IsLawfulRun r) (k : KeepsShelf r.shelf.old r.shelf.new) 
         answers f (Err fault) (refused_ends f.tables.head (table_of f) f.fetch bytes fault lines (front f) c) (said.whole (λ e. q.faultless.err (said.part e).rose)).0
 
     pub followed : EndsRun r → (r.status ≡ status_of_end (stream_end (table_at t.nodes node) bytes)) ⊎ (r.status ≡ 8)
-    followed (inl (text, x)) = absurd (no_text x.prints.command x.prints.values text (same_command (command_of r.words) x.prints.command (Live q.pack name q.stream) x.prints.has.words q.words) x.prints.puts)
-    followed (inr (inl (halt, x))) = by_stop ((r.status ≡ status_of_end (stream_end (table_at t.nodes node) bytes)) ⊎ (r.status ≡ 8)) halt x.stops (λ none. absurd (not_both_named _ node none is)) (λ e. inr (of_memory r w k q.faultless halt e x.ending))
+    followed (inl (text, x)) = absurd (no_text x.prints.command x.prints.values text (same_command (command_of r.words) x.prints.command (Live q.pack name q.stream) x.prints.has.words q.words)
+        x.prints.puts)
+    followed (inr (inl (halt, x))) = by_stop ((r.status ≡ status_of_end (stream_end (table_at t.nodes node) bytes)) ⊎ (r.status ≡ 8)) halt x.stops (λ none. absurd (not_both_named _ node none is))
+        (λ e. inr (of_memory r w k q.faultless halt e x.ending))
     followed (inr (inr (inl x))) = let f = x.follows in let c = x.completes in inl (answers f (Ok c.1.time) (closed_ends f.tables.head (table_of f) f.fetch bytes c.0 (front f) c.1) x.status)
     followed (inr (inr (inr x))) = inl (in_stream x.follows x.broken x.breaks x.said)
 
@@ -146,18 +152,21 @@ module _ (r : Run) (w : IsLawfulRun r) (k : KeepsShelf r.shelf.old r.shelf.new) 
   of_files : (halt : Halt) → (IsToldRun r halt ⊎ IsMutedRun r halt) → StopsInFiles r halt → r.status ≡ 8
   of_files halt ending x =
       let same : x.command ≡ Live q.pack name q.stream = same_command (command_of r.words) x.command (Live q.pack name q.stream) x.words q.words in
-      of_memory r w k q.faultless halt (none_stops r.shelf.old r.shelf.new k q.faultless.shelf None (file PackFile q.pack ∷ []) r.shelf.old.history [] (tables_value t ∷ []) halt refl told (subst (λ d. StopsReading None (files_of d) r.shelf.old.history r.shelf.new.history halt) same x.stops)) ending
+      of_memory r w k q.faultless halt (none_stops r.shelf.old r.shelf.new k q.faultless.shelf None (file PackFile q.pack ∷ []) r.shelf.old.history [] (tables_value t ∷ []) halt refl told
+      (subst (λ d. StopsReading None (files_of d) r.shelf.old.history r.shelf.new.history halt) same x.stops)) ending
 
   by_halt : first_named t.head name ≡ None → (halt : Halt) → (IsToldRun r halt ⊎ IsMutedRun r halt) → StopsRun r halt → (r.status ≡ 4) ⊎ (r.status ≡ 8)
   by_halt none halt ending (inl x) = inr (of_words halt ending x)
   by_halt none halt ending (inr (inl x)) = inr (of_files halt ending x)
   by_halt none halt ending (inr (inr x)) =
       let same : x.command ≡ Live q.pack name q.stream = same_command (command_of r.words) x.command (Live q.pack name q.stream) x.has.words q.words in
-      let has : Has r (Live q.pack name q.stream) (tables_value t ∷ []) = subst (λ vs. Has r (Live q.pack name q.stream) vs) (value_is x.command x.values same x.has) (subst (λ c. Has r c x.values) same x.has) in
+      let has : Has r (Live q.pack name q.stream) (tables_value t ∷ []) = subst (λ vs. Has r (Live q.pack name q.stream) vs) (value_is x.command x.values same x.has)
+      (subst (λ c. Has r c x.values) same x.has) in
       w.unfollowed q.pack name q.stream t (record { has = has; faultless = record { out = q.faultless.out; err = q.faultless.err } }) none
 
   pub unfollowed : first_named t.head name ≡ None → EndsRun r → (r.status ≡ 4) ⊎ (r.status ≡ 8)
-  unfollowed none (inl (text, x)) = absurd (no_text x.prints.command x.prints.values text (same_command (command_of r.words) x.prints.command (Live q.pack name q.stream) x.prints.has.words q.words) x.prints.puts)
+  unfollowed none (inl (text, x)) = absurd (no_text x.prints.command x.prints.values text (same_command (command_of r.words) x.prints.command (Live q.pack name q.stream) x.prints.has.words q.words)
+      x.prints.puts)
   unfollowed none (inr (inl (halt, x))) = by_halt none halt x.ending x.stops
   unfollowed none (inr (inr (inl x))) = absurd (not_both_named _ x.follows.node none (named_so x.follows))
   unfollowed none (inr (inr (inr x))) = absurd (not_both_named _ x.follows.node none (named_so x.follows))

@@ -98,7 +98,13 @@ parted fs name None h = tt
 parted fs name (Some p) h = named fs name p h
 
 all_forms : AllHave forms
-all_forms = (one_has Show (λ a. tt), (one_has Compile (λ a. tt), (two_have Check (λ a b. tt), (play_has, (two_have Node (λ a b. tt), (trial_has, (three_have Live (λ a b c. tt), (hyper_has, (one_has Tune (λ a. tt), (three_have Audit (λ a b c. tt), tt))))))))))
+all_forms = (
+  one_has Show (λ a. tt),
+  (
+    one_has Compile (λ a. tt),
+    (two_have Check (λ a b. tt), (play_has, (two_have Node (λ a b. tt), (trial_has, (three_have Live (λ a b c. tt), (hyper_has, (one_has Tune (λ a. tt), (three_have Audit (λ a b c. tt), tt)))))))),
+  ),
+)
 
 have : (words : List Text) → HasParts (command_of words)
 have [] = tt

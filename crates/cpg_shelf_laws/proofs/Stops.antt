@@ -83,7 +83,8 @@ module _ (old new : ShelfState) (f : Fetch) (is : IsLast old new f) (name : Text
   stops_part g halt (inr (inr (inl r))) = inr (inr (faulty halt r.whole.short (tells PartFile r.whole) r.refuses))
   stops_part g halt (inr (inr (inr w))) = inr (inr (no_graph halt w.halt_is))
 
-  refused_graph : (halt : Halt) (short : length f.given ≤ limit_of GraphFile) → TellsAs (old.stands name) f.given → (AreFaulty f.given halt ⊎ AreOfNone f.given halt) → StopsAdmission (seen old new) (old.stands name) halt
+  refused_graph : (halt : Halt) (short : length f.given ≤ limit_of GraphFile) → TellsAs (old.stands name) f.given → (AreFaulty f.given halt ⊎ AreOfNone f.given halt) →
+      StopsAdmission (seen old new) (old.stands name) halt
   refused_graph halt short alike (inl x) = inl (inr (inr (faulty halt short alike x)))
   refused_graph halt short alike (inr x) = inr (x.graph, says (old.stands name) f.given x.graph alike short x.says, record { stops = x.breaks; within = within (limit_of GraphFile) short })
 

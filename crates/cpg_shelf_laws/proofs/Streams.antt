@@ -1,5 +1,6 @@
 -- How a stream ends, by what the shelf tells of it: of a part that came, if the rest changes nothing.
-use Rattle.std.proofs.Common.{◌≡◌, ℕ, ◌+◌, ◌-◌, ◌<◌, ◌≤◌, true, cond, ◌&&◌, List, [], ◌++◌, length, take, Option, Some, None, IfSome, refl, sym, ap, ap₂, ◌∙◌, subst, arith, append_assoc, append-nil, true≢false, inl, inr}
+use Rattle.std.proofs.Common.{◌≡◌, ℕ, ◌+◌, ◌-◌, ◌<◌, ◌≤◌, true, cond, ◌&&◌, List, [], ◌++◌, length, take, Option, Some, None, IfSome, refl, sym, ap, ap₂, ◌∙◌, subst, arith, append_assoc, append-nil}
+use Rattle.std.proofs.Common.{true≢false, inl, inr}
 use Rattle.std.specs.Prelude.{is_none, nat_lt, Ok, Err}
 use Rattle.std.proofs.Math.Seq.{take-append-add}
 use Rattle.std.proofs.lemmas.Grind.{flat_map-append}
@@ -15,7 +16,8 @@ use Rattle.cpg_live.specs.Stream.{LiveState, after, outcome_if}
 use Rattle.cpg_live.specs.declared.following.StreamFault.{StreamFault}
 use Rattle.cpg_live.specs.declared.following.StreamFault.TheVariants.{Lawless, Long}
 use Rattle.cpg_live.specs.declared.following.TheConstants.{STREAM_LIMIT}
-use Rattle.cpg_live.specs.Streams.{act_line, act_lines, close_of, end_by, end_of, read_part, stream_end, stream_lines, IsTooLong, IsClosed as IsClosedFetch, IsRefused as IsRefusedFetch, IsLawfulSoFar as IsLawfulFetch, IsCutOff as IsCutFetch}
+use Rattle.cpg_live.specs.Streams.{act_line, act_lines, close_of, end_by, end_of, read_part, stream_end, stream_lines, IsTooLong, IsClosed as IsClosedFetch, IsRefused as IsRefusedFetch}
+use Rattle.cpg_live.specs.Streams.{IsLawfulSoFar as IsLawfulFetch, IsCutOff as IsCutFetch}
 use Rattle.cpg_live.proofs.Cutting.{bad_stays}
 use Rattle.cpg_live.proofs.Streams.{acts_more, after_more, not_long, took_more}
 use Rattle.cpg_shelf_laws.specs.Streams.{IsClosed, IsCutOff, IsLawfulSoFar, IsRefused}
@@ -73,7 +75,8 @@ module _ (h : Head) (table : NodeTable) (f : Fetch) (whole : List ℕ) (w : IsFr
   refused_bad fault lines bad c e =
       let state : after table (read_part whole) ≡ after table (read_part f.given) = ap (after table) read_whole ∙ (after_bad table f.given _ bad e ∙ sym (ap (after table) read_given)) in
       let bad_given : (after table (read_part f.given)).bad ≡ Some bad = ap (λ bytes. (after table bytes).bad) read_given ∙ e in
-      let ends : stream_end table whole ≡ stream_end table f.given = ap (λ (s : LiveState). end_of s (length (read_part whole))) state ∙ (end_bad (after table (read_part f.given)) (length (read_part whole)) bad bad_given ∙ sym (end_bad (after table (read_part f.given)) (length (read_part f.given)) bad bad_given)) in
+      let ends : stream_end table whole ≡ stream_end table f.given = ap (λ (s : LiveState). end_of s (length (read_part whole))) state ∙
+      (end_bad (after table (read_part f.given)) (length (read_part whole)) bad bad_given ∙ sym (end_bad (after table (read_part f.given)) (length (read_part f.given)) bad bad_given)) in
       record {
         ends = ends ∙ c.ends;
         long = λ is. absurd (none_some bad (sym (c.long is).lawful ∙ bad_given));
@@ -111,7 +114,8 @@ module _ (h : Head) (table : NodeTable) (f : Fetch) where
   pub closed_ends : (whole : List ℕ) (lines : List ℕ) → IsFrontOf whole f → (c : IsClosedFetch h table f lines) → stream_end table whole ≡ Ok c.time
   closed_ends whole lines w c = ap (stream_end table) (sym (ended_whole f whole c.ended w)) ∙ c.ends
 
-  pub refused_told : (told : Option (List ℕ)) (fault : StreamFault) (lines : List ℕ) → IfSome told (λ whole. IsFrontOf whole f) → IsRefusedFetch h table f fault lines → IsRefused h table told fault lines
+  pub refused_told : (told : Option (List ℕ)) (fault : StreamFault) (lines : List ℕ) → IfSome told (λ whole. IsFrontOf whole f) → IsRefusedFetch h table f fault lines →
+      IsRefused h table told fault lines
   refused_told None fault lines w c = record { bytes = f.given; of = tt; ends = c.ends; long = c.long; spelled = c.spelled }
   refused_told (Some whole) fault lines w c =
       let by = by_bad h table f whole w c.few fault lines c (after table f.given).bad refl in
@@ -129,7 +133,8 @@ module _ (h : Head) (table : NodeTable) (f : Fetch) where
       none_more : (n : ℕ) → n - n ≡ 0
       none_more n = omega arith
 
-  pub lawful_told : (told : Option (List ℕ)) (count : ℕ) (lines : List ℕ) → count ≡ length f.given → IfSome told (λ whole. IsFrontOf whole f) → IsLawfulFetch h table f lines → IsLawfulSoFar h table told count lines
+  pub lawful_told : (told : Option (List ℕ)) (count : ℕ) (lines : List ℕ) → count ≡ length f.given → IfSome told (λ whole. IsFrontOf whole f) → IsLawfulFetch h table f lines →
+      IsLawfulSoFar h table told count lines
   lawful_told told count lines e w c = record { bytes = f.given; count = e; first = given_first told count e w; lawful = c.lawful; spelled = c.spelled }
 
   pub cut_told : (told : Option (List ℕ)) (a b : List ℕ) → IfSome told (λ whole. IsFrontOf whole f) → IsCutFetch h table f a b → IsCutOff h table told (Some a) (Some b)

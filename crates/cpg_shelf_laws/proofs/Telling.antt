@@ -67,7 +67,8 @@ module _ (old new : ShelfState) (k : KeepsShelf old new) where
   given_is : (f : File) (fetch : Fetch) (bytes : Text) → old.stands f.name ≡ Some bytes → IsWhole f fetch → Agrees old.stands fetch → bytes ≡ fetch.given
   given_is f fetch bytes e w ag = known (old.stands f.name) bytes (λ b. b ≡ fetch.given) e (tells_whole old.stands f fetch w ag)
 
-  pub none_stops : (Rose old.faults new.faults → ⊥) → (g : Option Graph) (files : List File) (past older : List Fetch) (vs : List Value) (h : Halt) → past ≡ older ++ old.history → AreTold old.stands g files vs → StopsReading g files past new.history h → h ≡ Memory
+  pub none_stops : (Rose old.faults new.faults → ⊥) → (g : Option Graph) (files : List File) (past older : List Fetch) (vs : List Value) (h : Halt) → past ≡ older ++ old.history →
+      AreTold old.stands g files vs → StopsReading g files past new.history h → h ≡ Memory
   none_stops still g [] past older vs h e t s = absurd s
   none_stops still g (f ∷ fs) past older [] h e t s = absurd t
   none_stops still g (f ∷ fs) past older (v ∷ vs) h e t (fetch, inl (stops, is)) =
@@ -75,7 +76,8 @@ module _ (old new : ShelfState) (k : KeepsShelf old new) where
       elim stops [
         | inl u ↦ absurd (still (l.rose u.failed))
         | inr rest ↦ elim rest [
-          | inl long ↦ absurd (let o = known (old.stands f.name) t.0 (λ b. limit_of f.kind < length b) t.1 (tells_long old.stands f fetch long.of (more (length fetch.given) (limit_of f.kind) long.over) l.agrees) in let s = t.2 in omega (arith, o, s))
+          | inl long ↦ absurd (let o = known (old.stands f.name) t.0 (λ b. limit_of f.kind < length b) t.1
+              (tells_long old.stands f fetch long.of (more (length fetch.given) (limit_of f.kind) long.over) l.agrees) in let s = t.2 in omega (arith, o, s))
           | inr other ↦ elim other [
             | inl r ↦ tells_no_refusal g f.kind fetch.given v h (subst (λ b. Tells g f.kind b v) (given_is f fetch t.0 t.1 r.whole l.agrees) t.3) r.refuses
             | inr w ↦ w.halt_is
@@ -86,9 +88,11 @@ module _ (old new : ShelfState) (k : KeepsShelf old new) where
       let grown = stops_grown (graph_after g w) fs (fetch ∷ past) new.history h there in
       let ag = agreed old new k fetch (record { newer = grown.fetches; older = older; is = grown.is ∙ ap (λ p. grown.fetches ++ fetch ∷ p) e }) in
       let x = subst (λ b. Tells g f.kind b v) (given_is f fetch t.0 t.1 read.whole ag) t.3 in
-      none_stops still (graph_after g w) fs (fetch ∷ past) (fetch ∷ older) vs h (ap (λ p. fetch ∷ p) e) (subst (λ o. AreTold old.stands o fs vs) (sym (tells_after g f.kind fetch.given v w x read.says)) t.4) there
+      none_stops still (graph_after g w) fs (fetch ∷ past) (fetch ∷ older) vs h (ap (λ p. fetch ∷ p) e)
+      (subst (λ o. AreTold old.stands o fs vs) (sym (tells_after g f.kind fetch.given v w x read.says)) t.4) there
 
-  pub read_as_told : (g : Option Graph) (files : List File) (past older : List Fetch) (vs ws : List Value) → past ≡ older ++ old.history → AreTold old.stands g files vs → Reads g files past new.history ws → AllAlike vs ws
+  pub read_as_told : (g : Option Graph) (files : List File) (past older : List Fetch) (vs ws : List Value) → past ≡ older ++ old.history → AreTold old.stands g files vs →
+      Reads g files past new.history ws → AllAlike vs ws
   read_as_told g [] past older [] [] e t r = tt
   read_as_told g [] past older [] (w ∷ ws) e t r = absurd r
   read_as_told g [] past older (v ∷ vs) ws e t r = absurd t
@@ -97,5 +101,8 @@ module _ (old new : ShelfState) (k : KeepsShelf old new) where
   read_as_told g (f ∷ fs) past older (v ∷ vs) (w ∷ ws) e t (fetch, read, rest) =
       let grown = reads_grown (graph_after g w) fs (fetch ∷ past) new.history ws rest in
       let ag = agreed old new k fetch (record { newer = grown.fetches; older = older; is = grown.is ∙ ap (λ p. grown.fetches ++ fetch ∷ p) e }) in
-      let x = subst (λ b. Tells g f.kind b v) (given_is f fetch t.0 t.1 read.whole ag) t.3 in
-      (tells_alike g f.kind fetch.given v w x read.says, read_as_told (graph_after g w) fs (fetch ∷ past) (fetch ∷ older) vs ws (ap (λ p. fetch ∷ p) e) (subst (λ o. AreTold old.stands o fs vs) (sym (tells_after g f.kind fetch.given v w x read.says)) t.4) rest)
+      let x = subst (λ b. Tells g f.kind b v) (given_is f fetch t.0 t.1 read.whole ag) t.3 in (
+        tells_alike g f.kind fetch.given v w x read.says,
+        read_as_told (graph_after g w) fs (fetch ∷ past) (fetch ∷ older) vs ws (ap (λ p. fetch ∷ p) e)
+            (subst (λ o. AreTold old.stands o fs vs) (sym (tells_after g f.kind fetch.given v w x read.says)) t.4) rest,
+      )

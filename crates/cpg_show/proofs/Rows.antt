@@ -24,10 +24,12 @@ pushed labels rows part = flat_map-append (part_text labels) rows (part ∷ []) 
 
 module _ (g : Graph) (tables : List NodeTable) (labels : Labels) (n : ℕ) (rows : List SheetPart) where
   next : flat_map (item_text g tables) (numbers_below (n + 1)) ≡ flat_map (item_text g tables) (numbers_below n) ++ item_text g tables n
-  next = ap (flat_map (item_text g tables)) (below_push n) ∙ flat_map-append (item_text g tables) (numbers_below n) (n ∷ []) ∙ ap (λ t. flat_map (item_text g tables) (numbers_below n) ++ t) (append-nil (item_text g tables n))
+  next = ap (flat_map (item_text g tables)) (below_push n) ∙ flat_map-append (item_text g tables) (numbers_below n) (n ∷ []) ∙
+      ap (λ t. flat_map (item_text g tables) (numbers_below n) ++ t) (append-nil (item_text g tables n))
 
   -- an item without lines
-  pub hidden_more : is_shown g n ≡ false → flat_map (item_text g tables) (numbers_below n) ≡ flat_map (part_text labels) rows → flat_map (item_text g tables) (numbers_below (n + 1)) ≡ flat_map (part_text labels) rows
+  pub hidden_more : is_shown g n ≡ false → flat_map (item_text g tables) (numbers_below n) ≡ flat_map (part_text labels) rows →
+      flat_map (item_text g tables) (numbers_below (n + 1)) ≡ flat_map (part_text labels) rows
   hidden_more hidden e =
       let none : item_text g tables n ≡ [] = rw hidden refl in
       next ∙ ap (λ t. flat_map (item_text g tables) (numbers_below n) ++ t) none ∙ append-nil (flat_map (item_text g tables) (numbers_below n)) ∙ e

@@ -26,7 +26,11 @@ fn add_acts(
 }
 
 /// Adds the ends of a node.
-fn add_ends(events: &mut Vec<TraceEvent>, node: u32, ends: &[(u64, Ended)]) -> Result<(), OutOfMemory>
+fn add_ends(
+    events: &mut Vec<TraceEvent>,
+    node: u32,
+    ends: &[(u64, Ended)],
+) -> Result<(), OutOfMemory>
     ensures { OnOk result (events.new.items ≡ events.old.items ++ map (event_of_end node) ends.now) }
 {
     for end in ends {
@@ -36,7 +40,11 @@ fn add_ends(events: &mut Vec<TraceEvent>, node: u32, ends: &[(u64, Ended)]) -> R
 }
 
 /// All events, node by node.
-fn gathered(alloc: Global, problem: &Problem, cluster: &Cluster) -> Result<Vec<TraceEvent>, OutOfMemory>
+fn gathered(
+    alloc: Global,
+    problem: &Problem,
+    cluster: &Cluster,
+) -> Result<Vec<TraceEvent>, OutOfMemory>
     requires same { cluster.now.graph ≡ problem.now }
     requires playing { IsPlaying cluster.now }
     ensures { IfOk result (λ events. events.items ≡ all_events problem.now cluster.now.cluster.acts cluster.now.cluster.ends) }

@@ -6,7 +6,7 @@ ghost use Rattle.cpg_label.specs.ItemText.{act_text, hear_text, item_of};
 ghost use Rattle.cpg_show.specs.NodeText.{act_row, hear_row, name_line, node_text, rows_text};
 ghost use Rattle.cpg_show.specs.Sheet.{part_text, sheet_text};
 
-use crate::sheet::{SheetPart, Sheet, write_sheet};
+use crate::sheet::{Sheet, SheetPart, write_sheet};
 use cpg_base::OutOfMemory;
 use cpg_codec::WriteFault;
 use cpg_head::Head;

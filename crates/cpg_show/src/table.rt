@@ -8,7 +8,7 @@ ghost use Rattle.cpg_label.specs.Labels.{labels_of, process_name};
 ghost use Rattle.cpg_show.specs.Sheet.{part_text, sheet_text};
 ghost use Rattle.cpg_show.specs.TableText.{head_line, is_shown, item_text, order_line, table_text, worst_line};
 
-use crate::sheet::{SheetPart, Sheet, write_sheet};
+use crate::sheet::{Sheet, SheetPart, write_sheet};
 use cpg_base::{Item, Order, OutOfMemory, Problem};
 use cpg_codec::WriteFault;
 use cpg_io::Sink;

@@ -132,7 +132,12 @@ struct RowParts {
 }
 
 /// Parts the rows of what a node starts and sends from the others.
-fn parted(alloc: Global, problem: &Problem, node: u32, rows: Vec<Row>) -> Result<RowParts, OutOfMemory>
+fn parted(
+    alloc: Global,
+    problem: &Problem,
+    node: u32,
+    rows: Vec<Row>,
+) -> Result<RowParts, OutOfMemory>
     requires { All (λ row. row.item < item_count problem.now) rows.items }
     ensures own { IfOk result (λ p. p.own.items ≡ own_rows problem.now node rows.items) }
     ensures others { IfOk result (λ p. p.others.items ≡ other_rows problem.now node rows.items) }

@@ -41,7 +41,8 @@ module _ (bounds sides : List Bound) (last : Bound) (cut : IsLastAndRest bounds 
   above_is e = ap (λ n. drop n sides) (forks_are (ap (λ (b : Bound). b.forks) last_is ∙ e)) ∙ ap (drop (length front)) sides_are ∙ drop-append_seam front back
 
 -- the bounds of the sides of a tree that is a fork
-module _ {T : Type 0} (number : T → ℕ) (v cut : ℕ) (below above n : TreeNode T) {p : Box (Unit {0}) Global} (is : n ≡ Fork' v cut p below above) (bounds part : List Bound) (are : bounds ≡ bounds_in number n) where
+module _ {T : Type 0} (number : T → ℕ) (v cut : ℕ) (below above n : TreeNode T) {p : Box (Unit {0}) Global} (is : n ≡ Fork' v cut p below above) (bounds part : List Bound)
+    (are : bounds ≡ bounds_in number n) where
   fork_are : bounds ≡ bounds_in number (Fork' v cut p below above)
   fork_are = are ∙ ap (bounds_in number) is
 

@@ -78,7 +78,8 @@ module _ {T : Type 0} (domain : Scenario → Type 0) (fact : Scenario → T → 
     high_is : (k : ℕ) (s : Scenario) (u : ℕ) → domain s → (cut < number_of s v) ⊎ (number_of s v ≤ cut) → (u ≡ v) ⊎ (u ≢ v) → high k s u ≤ high_at k r s u
     high_is k s u d (inr h) (inl e) = let side = first s d h in subst (λ w. high k s w ≤ high_at k r s w) (sym e) (omega (arith, fork.high_here k s h, of_lo.highs k s v side.lies, first_high k s d h))
     high_is k s u d (inr h) (inr n) = let side = first s d h in omega (arith, fork.high_below k s u h n, of_lo.highs k s u side.lies, side.highs k u n)
-    high_is k s u d (inl h) (inl e) = let side = second s d h in subst (λ w. high k s w ≤ high_at k r s w) (sym e) (omega (arith, fork.high_above k s v h, of_hi.highs k s v side.lies, second_high k s d h))
+    high_is k s u d (inl h) (inl e) = let side = second s d h in subst (λ w. high k s w ≤ high_at k r s w) (sym e)
+        (omega (arith, fork.high_above k s v h, of_hi.highs k s v side.lies, second_high k s d h))
     high_is k s u d (inl h) (inr n) = let side = second s d h in omega (arith, fork.high_above k s u h, of_hi.highs k s u side.lies, side.highs k u n)
 
     pub made_of_sides : IsMade domain fact low high r
@@ -89,8 +90,10 @@ module _ {T : Type 0} (domain : Scenario → Type 0) (fact : Scenario → T → 
     }
 
 -- what tells more is made too
-pub made_weaker : {T : Type 0} (domain : Scenario → Type 0) (fact other_fact : Scenario → T → Type 0) (low other_low : Scenario → ℕ → ℕ) (high other_high : ℕ → Scenario → ℕ → ℕ) (r : TreeNode T) → IsMade domain fact low high r →
-    ((s : Scenario) (z : T) → domain s → fact s z → other_fact s z) → ((s : Scenario) (u : ℕ) → domain s → low s u ≤ other_low s u) → ((k : ℕ) (s : Scenario) (u : ℕ) → domain s → other_high k s u ≤ high k s u) →
+pub made_weaker : {T : Type 0} (domain : Scenario → Type 0) (fact other_fact : Scenario → T → Type 0) (low other_low : Scenario → ℕ → ℕ) (high other_high : ℕ → Scenario → ℕ → ℕ) (r : TreeNode T) →
+    IsMade domain fact low high r →
+    ((s : Scenario) (z : T) → domain s → fact s z → other_fact s z) → ((s : Scenario) (u : ℕ) → domain s → low s u ≤ other_low s u) →
+    ((k : ℕ) (s : Scenario) (u : ℕ) → domain s → other_high k s u ≤ high k s u) →
     IsMade domain other_fact other_low other_high r
 made_weaker domain fact other_fact low other_low high other_high r made tells lows highs = record {
   value = λ s d. tells s (value_at r s) d (made.value s d);
@@ -99,7 +102,8 @@ made_weaker domain fact other_fact low other_low high other_high r made tells lo
 }
 
 -- what is made in some scenarios is made in fewer
-pub made_narrower : {T : Type 0} (domain fewer : Scenario → Type 0) (fact : Scenario → T → Type 0) (low : Scenario → ℕ → ℕ) (high : ℕ → Scenario → ℕ → ℕ) (r : TreeNode T) → IsMade domain fact low high r →
+pub made_narrower : {T : Type 0} (domain fewer : Scenario → Type 0) (fact : Scenario → T → Type 0) (low : Scenario → ℕ → ℕ) (high : ℕ → Scenario → ℕ → ℕ) (r : TreeNode T) →
+    IsMade domain fact low high r →
     ((s : Scenario) → fewer s → domain s) → IsMade fewer fact low high r
 made_narrower domain fewer fact low high r made only = record {
   value = λ s d. made.value s (only s d);
@@ -264,7 +268,8 @@ from_true true e h = h
 from_true false e h = cc
 
 -- the same of a tree that is a fork
-module _ {T U : Type 0} (fact : Scenario → T → U → Type 0) (domain : Scenario → Type 0) (v cut : ℕ) (below above n : TreeNode T) {p : Box (Unit {0}) Global} (is : n ≡ Fork' v cut p below above) (r : TreeNode U) where
+module _ {T U : Type 0} (fact : Scenario → T → U → Type 0) (domain : Scenario → Type 0) (v cut : ℕ) (below above n : TreeNode T) {p : Box (Unit {0}) Global} (is : n ≡ Fork' v cut p below above)
+    (r : TreeNode U) where
   pub one_below_of : IsOne fact domain below r → ((s : Scenario) → domain s → number_of s v ≤ cut) → IsOne fact domain n r
   one_below_of made only = subst (λ (m : TreeNode T). IsOne fact domain m r) (sym is) (one_below fact domain v cut p below above r made only)
 
@@ -273,10 +278,12 @@ module _ {T U : Type 0} (fact : Scenario → T → U → Type 0) (domain : Scena
 
   pub one_fork_of : (one two : Scenario → Type 0) (lo hi : TreeNode U) → IsOne fact one below lo → IsOne fact two above hi → IsForkOf v cut lo hi r →
       ((s : Scenario) → domain s → number_of s v ≤ cut → one s) → ((s : Scenario) → domain s → cut < number_of s v → two s) → IsOne fact domain n r
-  one_fork_of one two lo hi of_lo of_hi fork goes_one goes_two = subst (λ (m : TreeNode T). IsOne fact domain m r) (sym is) (one_fork fact domain v cut p below above r one two lo hi of_lo of_hi fork goes_one goes_two)
+  one_fork_of one two lo hi of_lo of_hi fork goes_one goes_two = subst (λ (m : TreeNode T). IsOne fact domain m r) (sym is)
+      (one_fork fact domain v cut p below above r one two lo hi of_lo of_hi fork goes_one goes_two)
 
 -- the same of a tree that is a fork
-module _ {T U : Type 0} (fact : Scenario → T → U → Type 0) (more_low : Scenario → T → ℕ → ℕ) (more_high : ℕ → Scenario → T → ℕ → ℕ) (domain : Scenario → Type 0) (v cut : ℕ) (below above n : TreeNode T) {p : Box (Unit {0}) Global} (is : n ≡ Fork' v cut p below above) (r : TreeNode U) where
+module _ {T U : Type 0} (fact : Scenario → T → U → Type 0) (more_low : Scenario → T → ℕ → ℕ) (more_high : ℕ → Scenario → T → ℕ → ℕ) (domain : Scenario → Type 0) (v cut : ℕ)
+    (below above n : TreeNode T) {p : Box (Unit {0}) Global} (is : n ≡ Fork' v cut p below above) (r : TreeNode U) where
   pub two_below_of : IsTwo fact more_low more_high domain below r → ((s : Scenario) → domain s → number_of s v ≤ cut) → IsTwo fact more_low more_high domain n r
   two_below_of made only = subst (λ (m : TreeNode T). IsTwo fact more_low more_high domain m r) (sym is) (two_below fact more_low more_high domain v cut p below above r made only)
 
@@ -285,16 +292,19 @@ module _ {T U : Type 0} (fact : Scenario → T → U → Type 0) (more_low : Sce
 
   pub two_fork_of : (one two : Scenario → Type 0) (lo hi : TreeNode U) → IsTwo fact more_low more_high one below lo → IsTwo fact more_low more_high two above hi → IsForkOf v cut lo hi r →
       ((s : Scenario) → domain s → number_of s v ≤ cut → one s) → ((s : Scenario) → domain s → cut < number_of s v → two s) → IsTwo fact more_low more_high domain n r
-  two_fork_of one two lo hi of_lo of_hi fork goes_one goes_two = subst (λ (m : TreeNode T). IsTwo fact more_low more_high domain m r) (sym is) (two_fork fact more_low more_high domain v cut p below above r one two lo hi of_lo of_hi fork goes_one goes_two)
+  two_fork_of one two lo hi of_lo of_hi fork goes_one goes_two = subst (λ (m : TreeNode T). IsTwo fact more_low more_high domain m r) (sym is)
+      (two_fork fact more_low more_high domain v cut p below above r one two lo hi of_lo of_hi fork goes_one goes_two)
 
 -- the same of a tree that is one value
-module _ {T U : Type 0} (fact : Scenario → T → U → Type 0) (more_low : Scenario → T → ℕ → ℕ) (more_high : ℕ → Scenario → T → ℕ → ℕ) (domain : Scenario → Type 0) (x : T) (n : TreeNode T) (is : n ≡ Leaf x) (r : TreeNode U) where
+module _ {T U : Type 0} (fact : Scenario → T → U → Type 0) (more_low : Scenario → T → ℕ → ℕ) (more_high : ℕ → Scenario → T → ℕ → ℕ) (domain : Scenario → Type 0) (x : T) (n : TreeNode T)
+    (is : n ≡ Leaf x) (r : TreeNode U) where
   pub two_leaf_of : IsMade domain (λ s z. fact s x z) (λ s u. more_low s x u) (λ k s u. more_high k s x u) r → IsTwo fact more_low more_high domain n r
   two_leaf_of made = subst (λ (m : TreeNode T). IsTwo fact more_low more_high domain m r) (sym is)
       (made_weaker domain _ _ _ _ _ _ r made (λ s z d t. t) (λ s u d. omega arith) (λ k s u d. omega arith))
 
 -- if the forks of a tree that is a fork pass a test, so do those of its sides
-pub passes_parts : {T : Type 0} (test : ℕ → Bool) (v cut : ℕ) (below above n : TreeNode T) {p : Box (Unit {0}) Global} → n ≡ Fork' v cut p below above → DoForksPass test n → (test v ≡ true) × DoForksPass test below × DoForksPass test above
+pub passes_parts : {T : Type 0} (test : ℕ → Bool) (v cut : ℕ) (below above n : TreeNode T) {p : Box (Unit {0}) Global} → n ≡ Fork' v cut p below above → DoForksPass test n → (test v ≡ true) ×
+    DoForksPass test below × DoForksPass test above
 passes_parts test v cut below above n is pass = subst (DoForksPass test) is pass
 
 -- if such a tree fits, so do its sides
@@ -316,7 +326,8 @@ module _ (rooms shut inner opened : Rooms) (v : ℕ) (highs : Highs) (back : low
   both_opened = put ∙ ap (λ (r : Rooms). lowered r v highs) same ∙ back
 
   -- what is above the cut in them is in those closed below it
-  pub both_reopened : (upper : Rooms) (cut : ℕ) → ((s : Scenario) → LiesInBoth opened s → cut < number_of s v → LiesInBoth upper s) → (s : Scenario) → LiesInBoth rooms s → cut < number_of s v → LiesInBoth upper s
+  pub both_reopened : (upper : Rooms) (cut : ℕ) → ((s : Scenario) → LiesInBoth opened s → cut < number_of s v → LiesInBoth upper s) → (s : Scenario) → LiesInBoth rooms s → cut < number_of s v →
+      LiesInBoth upper s
   both_reopened upper cut lies_upper s lies h = lies_upper s (subst (λ r. LiesInBoth r s) (sym both_opened) lies) h
 
 -- ---- a fork at which all scenarios of two spaces go one way

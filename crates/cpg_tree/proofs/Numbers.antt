@@ -83,7 +83,8 @@ module _ (k : ℕ) (room : Space) (whole : IsWhole k room) (v : ℕ) (value : 12
 
 -- ---- said of paths
 
-pub number_paths : {T : Type 0} (v k : ℕ) (number : T → ℕ) (node : TreeNode T) → IsGood k node → ((s : Scenario) → HasFew k s → number (value_at node s) ≡ number_of s v) → ForksOnly v node → IsNumber v k number (state k node)
+pub number_paths : {T : Type 0} (v k : ℕ) (number : T → ℕ) (node : TreeNode T) → IsGood k node → ((s : Scenario) → HasFew k s → number (value_at node s) ≡ number_of s v) → ForksOnly v node →
+    IsNumber v k number (state k node)
 number_paths v k number node good value only = record {
   faults = refl;
   value = λ s x few on. ap number (found k node good s x on).value ∙ value s few;

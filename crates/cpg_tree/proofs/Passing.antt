@@ -84,15 +84,17 @@ module _ (test : ℕ → Bool) where
     | inl e ↦ subst (λ (z : Path T). Passes z.0) e on
     | inr none ↦ absurd (Contains-nil x none)
   ]
-  paths_pass k (Fork' v cut p below upper) cube on pass x c = elim (Contains-append_cases (paths_from k (narrowed_by (up_to v cut) cube) below) (paths_from k (narrowed_by (above k v cut) cube) upper) x c) [
-    | inl i ↦ paths_pass k below (narrowed_by (up_to v cut) cube) (passes_narrowed (up_to v cut) cube pass.0 on) pass.1 x i
-    | inr i ↦ paths_pass k upper (narrowed_by (above k v cut) cube) (passes_narrowed (above k v cut) cube pass.0 on) pass.2 x i
-  ]
+  paths_pass k (Fork' v cut p below upper) cube on pass x c =
+      elim (Contains-append_cases (paths_from k (narrowed_by (up_to v cut) cube) below) (paths_from k (narrowed_by (above k v cut) cube) upper) x c) [
+        | inl i ↦ paths_pass k below (narrowed_by (up_to v cut) cube) (passes_narrowed (up_to v cut) cube pass.0 on) pass.1 x i
+        | inr i ↦ paths_pass k upper (narrowed_by (above k v cut) cube) (passes_narrowed (above k v cut) cube pass.0 on) pass.2 x i
+      ]
 
   -- ---- of a whole tree
 
   pub forks_of_paths : {T : Type 0} (k : ℕ) (node : TreeNode T) → DoPathsPass test (paths_of k node) → DoForksPass test node
-  forks_of_paths {T} k node h = forks_from k node [] (λ p c. λ l. All-contains (λ (m : Literal). test m.variable ≡ true) p.0 l (All-contains (λ (q : Path T). All (λ (m : Literal). test m.variable ≡ true) q.0) (paths_of k node) p h c))
+  forks_of_paths {T} k node h = forks_from k node []
+      (λ p c. λ l. All-contains (λ (m : Literal). test m.variable ≡ true) p.0 l (All-contains (λ (q : Path T). All (λ (m : Literal). test m.variable ≡ true) q.0) (paths_of k node) p h c))
 
   pub paths_of_forks : {T : Type 0} (k : ℕ) (node : TreeNode T) → DoForksPass test node → DoPathsPass test (paths_of k node)
   paths_of_forks k node pass i d l j e m =

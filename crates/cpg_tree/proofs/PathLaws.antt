@@ -1,5 +1,6 @@
 -- The paths of a tree: each scenario is on one, which has the value and the ranges that it finds on its way down.
-use Rattle.std.proofs.Common.{ℕ, ◌+◌, ◌<◌, ◌≤◌, ◌≡◌, ◌≢◌, max, min, true, false, List, [], ◌∷◌, length, filter, get_or, Contains, arith, refl, sym, ap, ap₂, ◌∙◌, subst, inl, inr, ◌⊎◌, length-append, lt-ltb, le-ltb, rules, Box, Global}
+use Rattle.std.proofs.Common.{ℕ, ◌+◌, ◌<◌, ◌≤◌, ◌≡◌, ◌≢◌, max, min, true, false, List, [], ◌∷◌, length, filter, get_or, Contains, arith, refl, sym, ap, ap₂, ◌∙◌, subst, inl, inr, ◌⊎◌, length-append}
+use Rattle.std.proofs.Common.{lt-ltb, le-ltb, rules, Box, Global}
 use Rattle.std.specs.Prelude.{nat_lt, slice_set}
 use Rattle.std.proofs.lemmas.Bool.{cases_lt, cases_eq, cond-true, cond-false, and_parts, and_from, both_ways, false_from_ne_true, ltb-true}
 use Rattle.std.proofs.lemmas.List.{get_or-set_same, get_or-set_other, get_or_past}
@@ -103,7 +104,8 @@ module _ {T : Type 0} (k : ℕ) (s : Scenario) where
         came = both.1;
         value = t.value ∙ sym (value_below v cut p below upper s le);
         low = λ u. elim (cases_eq v u) [
-          | inl e ↦ subst (λ w. low_in x.0 w ≡ max (low_in cube w) (low_at (Fork' v cut p below upper) s w)) e (omega (arith, t.low v, low-same k (up_to v cut) cube tidy.rising, low_below v cut p below upper s le v))
+          | inl e ↦ subst (λ w. low_in x.0 w ≡ max (low_in cube w) (low_at (Fork' v cut p below upper) s w)) e
+              (omega (arith, t.low v, low-same k (up_to v cut) cube tidy.rising, low_below v cut p below upper s le v))
           | inr n ↦ omega (arith, t.low u, low-other k (up_to v cut) cube u n, low_below v cut p below upper s le u)
         ];
         high = λ u. elim (cases_eq v u) [
@@ -122,7 +124,8 @@ module _ {T : Type 0} (k : ℕ) (s : Scenario) where
         came = both.1;
         value = t.value ∙ sym (value_above v cut p below upper s gt);
         low = λ u. elim (cases_eq v u) [
-          | inl e ↦ subst (λ w. low_in x.0 w ≡ max (low_in cube w) (low_at (Fork' v cut p below upper) s w)) e (omega (arith, t.low v, low-same k (above k v cut) cube tidy.rising, low_here v cut p below upper s gt))
+          | inl e ↦ subst (λ w. low_in x.0 w ≡ max (low_in cube w) (low_at (Fork' v cut p below upper) s w)) e
+              (omega (arith, t.low v, low-same k (above k v cut) cube tidy.rising, low_here v cut p below upper s gt))
           | inr n ↦ omega (arith, t.low u, low-other k (above k v cut) cube u n, low_above v cut p below upper s gt u (λ i. n (sym i)))
         ];
         high = λ u. elim (cases_eq v u) [
@@ -143,14 +146,16 @@ module _ {T : Type 0} (k : ℕ) (s : Scenario) where
         high = λ v. omega (arith, tidy.within v);
       })
       only (inr none) = absurd (Contains-nil x none)
-  tells (Fork' v cut p below upper) cube tidy cuts x c m = elim (Contains-append_cases (paths_from k (narrowed_by (up_to v cut) cube) below) (paths_from k (narrowed_by (above k v cut) cube) upper) x c) [
-    | inl i ↦ tells_below cube tidy v cut p below upper cuts.1 x (tells below (narrowed_by (up_to v cut) cube) (tidy_below k cube tidy v cut cuts.1) cuts.2 x i m)
-    | inr i ↦ tells_above cube tidy v cut p below upper cuts.1 x (tells upper (narrowed_by (above k v cut) cube) (tidy_above k cube tidy v cut cuts.1) cuts.3 x i m)
-  ]
+  tells (Fork' v cut p below upper) cube tidy cuts x c m =
+      elim (Contains-append_cases (paths_from k (narrowed_by (up_to v cut) cube) below) (paths_from k (narrowed_by (above k v cut) cube) upper) x c) [
+        | inl i ↦ tells_below cube tidy v cut p below upper cuts.1 x (tells below (narrowed_by (up_to v cut) cube) (tidy_below k cube tidy v cut cuts.1) cuts.2 x i m)
+        | inr i ↦ tells_above cube tidy v cut p below upper cuts.1 x (tells upper (narrowed_by (above k v cut) cube) (tidy_above k cube tidy v cut cuts.1) cuts.3 x i m)
+      ]
 
   -- a scenario that the cube doesn't match is on no path
   none_from : (node : TreeNode T) (cube : List Literal) → IsTidy k cube → HasCuts k node → matches cube s ≡ false → length (filter (is_on s) (paths_from k cube node)) ≡ 0
-  none_from node cube tidy cuts off = ap length (filter_none (is_on s) (paths_from k cube node) (λ x c. false_from_ne_true (matches x.0 s) (λ m. both_ways (matches cube s) off (tells node cube tidy cuts x c m).came)))
+  none_from node cube tidy cuts off = ap length
+      (filter_none (is_on s) (paths_from k cube node) (λ x c. false_from_ne_true (matches x.0 s) (λ m. both_ways (matches cube s) off (tells node cube tidy cuts x c m).came)))
 
   -- one that it matches is on one
   pub one_from : HasFew k s → (node : TreeNode T) (cube : List Literal) → IsTidy k cube → HasCuts k node → matches cube s ≡ true → length (filter (is_on s) (paths_from k cube node)) ≡ 1
@@ -160,13 +165,17 @@ module _ {T : Type 0} (k : ℕ) (s : Scenario) where
       ∙ length-append (filter (is_on s) (paths_from k (narrowed_by (up_to v cut) cube) below)) (filter (is_on s) (paths_from k (narrowed_by (above k v cut) cube) upper))
       ∙ elim (cases_lt cut (number_of s v)) [
         | inr le ↦ ap₂ ◌+◌
-            (one_from few below (narrowed_by (up_to v cut) cube) (tidy_below k cube tidy v cut cuts.1) cuts.2 (matches-narrowed s (up_to v cut) cube ∙ and_from _ _ (holds-from s (up_to v cut) (omega arith) le) on))
+            (one_from few below (narrowed_by (up_to v cut) cube) (tidy_below k cube tidy v cut cuts.1) cuts.2
+            (matches-narrowed s (up_to v cut) cube ∙ and_from _ _ (holds-from s (up_to v cut) (omega arith) le) on))
             (none_from upper (narrowed_by (above k v cut) cube) (tidy_above k cube tidy v cut cuts.1) cuts.3
-            (false_from_ne_true _ (λ m. let l = holds-low s (above k v cut) (and_parts (holds s (above k v cut)) (matches cube s) (sym (matches-narrowed s (above k v cut) cube) ∙ m)).0 in absurd (omega (arith, l, le)))))
+            (false_from_ne_true _ (λ m. let l = holds-low s (above k v cut) (and_parts (holds s (above k v cut)) (matches cube s) (sym (matches-narrowed s (above k v cut) cube) ∙ m)).0 in
+            absurd (omega (arith, l, le)))))
         | inl gt ↦ ap₂ ◌+◌
             (none_from below (narrowed_by (up_to v cut) cube) (tidy_below k cube tidy v cut cuts.1) cuts.2
-            (false_from_ne_true _ (λ m. let l = holds-high s (up_to v cut) (and_parts (holds s (up_to v cut)) (matches cube s) (sym (matches-narrowed s (up_to v cut) cube) ∙ m)).0 in absurd (omega (arith, l, gt)))))
-            (one_from few upper (narrowed_by (above k v cut) cube) (tidy_above k cube tidy v cut cuts.1) cuts.3 (matches-narrowed s (above k v cut) cube ∙ and_from _ _ (holds-from s (above k v cut) (omega (arith, gt)) (number_le_top k s few v)) on))
+            (false_from_ne_true _ (λ m. let l = holds-high s (up_to v cut) (and_parts (holds s (up_to v cut)) (matches cube s) (sym (matches-narrowed s (up_to v cut) cube) ∙ m)).0 in
+            absurd (omega (arith, l, gt)))))
+            (one_from few upper (narrowed_by (above k v cut) cube) (tidy_above k cube tidy v cut cuts.1) cuts.3
+            (matches-narrowed s (above k v cut) cube ∙ and_from _ _ (holds-from s (above k v cut) (omega (arith, gt)) (number_le_top k s few v)) on))
       ]
 
 -- ---- of a whole tree

@@ -44,7 +44,8 @@ module _ (k : ℕ) (room : Space) (all : (s : Scenario) → HasFew k s → Lies 
         let fx = found k a good_a s x on_x in
         let fy = found k b good_b s y on_y in
         let fz = found k r good_r s z on_z in
-        subst (λ v. answers x.1 y.1 v) (sym fz.value) (subst (λ v. answers x.1 v (value_at r s)) (sym fy.value) (subst (λ v. answers v (value_at b s) (value_at r s)) (sym fx.value) (made.value s (all s few))));
+        subst (λ v. answers x.1 y.1 v) (sym fz.value)
+        (subst (λ v. answers x.1 v (value_at r s)) (sym fy.value) (subst (λ v. answers v (value_at b s) (value_at r s)) (sym fx.value) (made.value s (all s few))));
     ranges = λ s x y z few on_x on_y on_z.
         let fx = found k a good_a s x on_x in
         let fy = found k b good_b s y on_y in
@@ -104,8 +105,10 @@ map_paths k answers a r good_a good_r made = record {
 }
 
 -- what is made of two trees, said of what callers see of them
-module _ {T U V : Type 0} (k l : ℕ) (a : TreeNode T) (b : TreeNode U) (r : TreeNode V) (first : TreeState T) (second : TreeState U) (is_first : state k a ≡ first) (is_second : state l b ≡ second) where
-  pub joined_seen : (answers : T → U → V → Type 0) → first.faults ≡ second.faults → IsGood k a → IsGood l b → (room : Space) → IsWhole k room → ((s : Scenario) → HasFew k s → Lies room s) → IsFit room r → IsJoinOf answers room a b r →
+module _ {T U V : Type 0} (k l : ℕ) (a : TreeNode T) (b : TreeNode U) (r : TreeNode V) (first : TreeState T) (second : TreeState U) (is_first : state k a ≡ first)
+    (is_second : state l b ≡ second) where
+  pub joined_seen : (answers : T → U → V → Type 0) → first.faults ≡ second.faults → IsGood k a → IsGood l b → (room : Space) → IsWhole k room → ((s : Scenario) → HasFew k s → Lies room s) →
+      IsFit room r → IsJoinOf answers room a b r →
       IsJoin answers first second (state k r)
   joined_seen answers same good_a good_b room whole all fit made =
       let equal : k ≡ l = ap (λ (t : TreeState T). t.faults) is_first ∙ same ∙ sym (ap (λ (t : TreeState U). t.faults) is_second) in

@@ -56,7 +56,8 @@ module _ (k : ℕ) (room : Space) (is : IsRoom k room) where
   ]
 
   lowest_few : HasFew k (lowest room)
-  lowest_few = fewer _ _ room.left (same_sum_by (fault_of (lowest room)) (λ p. get_or room.low p 0) (numbers_below 128) (λ p c. lowest_faults room p (omega (arith, numbers-Contains 128 p c)))) is.budget
+  lowest_few = fewer _ _ room.left (same_sum_by (fault_of (lowest room)) (λ p. get_or room.low p 0) (numbers_below 128) (λ p c. lowest_faults room p (omega (arith, numbers-Contains 128 p c))))
+      is.budget
     where
       fewer : (new old left : ℕ) → new ≡ old → old + left ≤ k → new ≤ k
       fewer new old left e h = omega (arith, e, h)

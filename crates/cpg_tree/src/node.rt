@@ -181,7 +181,13 @@ impl<T: Copy + Eq> TreeNode<T> {
             return Ok(below);
         }
         match above {
-            TreeNode::Leaf(value) => TreeNode::fork_of(alloc, variable, cut, below, TreeNode::Leaf(value)),
+            TreeNode::Leaf(value) => TreeNode::fork_of(
+                alloc,
+                variable,
+                cut,
+                below,
+                TreeNode::Leaf(value),
+            ),
             TreeNode::Fork {
                 variable: next,
                 cut: farther,
@@ -208,7 +214,11 @@ impl<T: Copy + Eq> TreeNode<T> {
     /// This tree for the scenarios of a space.
     #[cycle(within)]
     #[inline]
-    pub(crate) fn within(&self, alloc: Global, space: &mut Space) -> Result<TreeNode<T>, OutOfMemory>
+    pub(crate) fn within(
+        &self,
+        alloc: Global,
+        space: &mut Space,
+    ) -> Result<TreeNode<T>, OutOfMemory>
         requires { (x y : T) → T.eq x y ≡ true → x ≡ y }
         ensures made { IfOk result (IsWithin space.old self.now) }
         ensures back { IfOk result (λ _. space.new ≡ space.old) }

@@ -48,12 +48,14 @@ rises k (Fork' v cut p below upper) cube rising x c u = elim (Contains-append_ca
       | inr n ↦ omega (arith, low-other k l cube u n)
     ]
 
-falls : {T : Type 0} (k : ℕ) (node : TreeNode T) (cube : List Literal) → IsRising cube → HasCuts k node → (x : Path T) → Contains (paths_from k cube node) x → (u : ℕ) → high_in k x.0 u ≤ high_in k cube u
+falls : {T : Type 0} (k : ℕ) (node : TreeNode T) (cube : List Literal) → IsRising cube → HasCuts k node → (x : Path T) → Contains (paths_from k cube node) x → (u : ℕ) →
+    high_in k x.0 u ≤ high_in k cube u
 falls k (Leaf y) cube rising cuts x c u = omega (arith, ap (λ z. high_in k z u) (only cube y x c))
-falls k (Fork' v cut p below upper) cube rising cuts x c u = elim (Contains-append_cases (paths_from k (narrowed_by (up_to v cut) cube) below) (paths_from k (narrowed_by (above k v cut) cube) upper) x c) [
-  | inl i ↦ omega (arith, step (up_to v cut) (omega (arith, cuts.1)), falls k below (narrowed_by (up_to v cut) cube) (rising-narrowed (up_to v cut) cube rising) cuts.2 x i u)
-  | inr i ↦ omega (arith, step (above k v cut) (omega arith), falls k upper (narrowed_by (above k v cut) cube) (rising-narrowed (above k v cut) cube rising) cuts.3 x i u)
-]
+falls k (Fork' v cut p below upper) cube rising cuts x c u =
+    elim (Contains-append_cases (paths_from k (narrowed_by (up_to v cut) cube) below) (paths_from k (narrowed_by (above k v cut) cube) upper) x c) [
+      | inl i ↦ omega (arith, step (up_to v cut) (omega (arith, cuts.1)), falls k below (narrowed_by (up_to v cut) cube) (rising-narrowed (up_to v cut) cube rising) cuts.2 x i u)
+      | inr i ↦ omega (arith, step (above k v cut) (omega arith), falls k upper (narrowed_by (above k v cut) cube) (rising-narrowed (above k v cut) cube rising) cuts.3 x i u)
+    ]
   where
     step : (l : Literal) → l.high ≤ top k l.variable → high_in k (narrowed_by l cube) u ≤ high_in k cube u
     step l within = elim (cases_eq l.variable u) [
@@ -64,7 +66,8 @@ falls k (Fork' v cut p below upper) cube rising cuts x c u = elim (Contains-appe
 -- ---- the lows of variables that stand before all forks stay
 
 module _ (places : List ℕ) where
-  stays : {T : Type 0} (k left : ℕ) (node : TreeNode T) (cube : List Literal) → IsAlong places left node → (x : Path T) → Contains (paths_from k cube node) x → (u : ℕ) → left < get_or places u 0 → low_in x.0 u ≡ low_in cube u
+  stays : {T : Type 0} (k left : ℕ) (node : TreeNode T) (cube : List Literal) → IsAlong places left node → (x : Path T) → Contains (paths_from k cube node) x → (u : ℕ) → left < get_or places u 0 →
+      low_in x.0 u ≡ low_in cube u
   stays k left (Leaf y) cube along x c u l = ap (λ z. low_in z u) (only cube y x c)
   stays k left (Fork' v cut p below upper) cube along x c u l =
       let other : v ≢ u = λ e. omega (arith, along.0, l, ap (λ w. get_or places w 0) e) in
@@ -85,7 +88,8 @@ module _ (g : Graph) (order places : List ℕ) (are : ArePlaces (variables_along
 
   sorted_paths : {T : Type 0} (left : ℕ) (node : TreeNode T) (cube : List Literal) → IsRising cube → HasCuts k node → IsAlong places left node → HasNumbers (paths_from k cube node) →
       AllPairs (λ (x y : Path T). Stands x.0 y.0) (paths_from k cube node)
-  sorted_paths {T} left (Leaf y) cube rising cuts along numbers = AllPairs-cons_by (λ (x z : Path T). Stands x.0 z.0) (cube, y) [] (λ z c. absurd (Contains-nil z c)) (AllPairs-nil (λ (x z : Path T). Stands x.0 z.0))
+  sorted_paths {T} left (Leaf y) cube rising cuts along numbers = AllPairs-cons_by (λ (x z : Path T). Stands x.0 z.0) (cube, y) [] (λ z c. absurd (Contains-nil z c))
+      (AllPairs-nil (λ (x z : Path T). Stands x.0 z.0))
   sorted_paths {T} left (Fork' v cut p below upper) cube rising cuts along numbers =
       let lower = narrowed_by (up_to v cut) cube in
       let higher = narrowed_by (above k v cut) cube in
@@ -119,7 +123,8 @@ module _ (g : Graph) (order places : List ℕ) (are : ArePlaces (variables_along
     where
       alone : (cube : List Literal) (x : Option ℕ) → AllPairs (λ (c d : Column). Stands c.cube d.cube) (column_of cube x)
       alone cube None = AllPairs-nil (λ (c d : Column). Stands c.cube d.cube)
-      alone cube (Some t) = AllPairs-cons_by (λ (c d : Column). Stands c.cube d.cube) (record { time = t; cube = cube }) [] (λ z c. absurd (Contains-nil z c)) (AllPairs-nil (λ (c d : Column). Stands c.cube d.cube))
+      alone cube (Some t) = AllPairs-cons_by (λ (c d : Column). Stands c.cube d.cube) (record { time = t; cube = cube }) [] (λ z c. absurd (Contains-nil z c))
+          (AllPairs-nil (λ (c d : Column). Stands c.cube d.cube))
 
   pub sorted_columns : (node : TreeNode (Option ℕ)) → IsGood k node → IsAlong places 256 node → AreByLows (λ (c : Column). c.cube) g order (columns_of_paths (paths_of k node))
   sorted_columns node good along = columns_stand (paths_of k node)

@@ -21,7 +21,8 @@ use Rattle.cpg_tree_columns.specs.Columns.{column_of, columns_of_paths, columns_
 range_low : (l : Literal) (cube : List Literal) → (range_left l cube).low ≡ max l.low (low_in cube l.variable)
 range_low l [] = omega arith
 range_low l (m ∷ ms) = elim (cases_eq l.variable m.variable) [
-  | inl e ↦ ap (λ (x : Literal). x.low) (cond-true (l.variable == m.variable) (meet_literal l m) (range_left l ms) (eq-eqb _ _ e)) ∙ ap (max l.low) (sym (cond-true (m.variable == l.variable) m.low (low_in ms l.variable) (eq-eqb _ _ (sym e))))
+  | inl e ↦ ap (λ (x : Literal). x.low) (cond-true (l.variable == m.variable) (meet_literal l m) (range_left l ms) (eq-eqb _ _ e)) ∙
+      ap (max l.low) (sym (cond-true (m.variable == l.variable) m.low (low_in ms l.variable) (eq-eqb _ _ (sym e))))
   | inr n ↦ ap (λ (x : Literal). x.low) (cond-false (l.variable == m.variable) (meet_literal l m) (range_left l ms) (ne_eqb _ _ n)) ∙ range_low l ms
       ∙ ap (max l.low) (sym (cond-false (m.variable == l.variable) m.low (low_in ms l.variable) (ne_eqb _ _ (λ e. n (sym e)))))
 ]
@@ -29,26 +30,49 @@ range_low l (m ∷ ms) = elim (cases_eq l.variable m.variable) [
 range_high : (k : ℕ) (l : Literal) (cube : List Literal) → l.high ≤ top k l.variable → (range_left l cube).high ≡ min l.high (high_in k cube l.variable)
 range_high k l [] h = omega (arith, h)
 range_high k l (m ∷ ms) h = elim (cases_eq l.variable m.variable) [
-  | inl e ↦ ap (λ (x : Literal). x.high) (cond-true (l.variable == m.variable) (meet_literal l m) (range_left l ms) (eq-eqb _ _ e)) ∙ ap (min l.high) (sym (cond-true (m.variable == l.variable) m.high (high_in k ms l.variable) (eq-eqb _ _ (sym e))))
+  | inl e ↦ ap (λ (x : Literal). x.high) (cond-true (l.variable == m.variable) (meet_literal l m) (range_left l ms) (eq-eqb _ _ e)) ∙
+      ap (min l.high) (sym (cond-true (m.variable == l.variable) m.high (high_in k ms l.variable) (eq-eqb _ _ (sym e))))
   | inr n ↦ ap (λ (x : Literal). x.high) (cond-false (l.variable == m.variable) (meet_literal l m) (range_left l ms) (ne_eqb _ _ n)) ∙ range_high k l ms h
       ∙ ap (min l.high) (sym (cond-false (m.variable == l.variable) m.high (high_in k ms l.variable) (ne_eqb _ _ (λ e. n (sym e)))))
 ]
 
 -- ---- neither side's range is empty
 
-module _ (k : ℕ) (room : Space) (is : IsRoom k room) (v cut : ℕ) (there : v < 256) (below : is_open_below room v cut ≡ true) (upper : is_open_above room v cut ≡ true) (cube : List Literal) (told : IsTold k room cube) where
+module _ (k : ℕ) (room : Space) (is : IsRoom k room) (v cut : ℕ) (there : v < 256) (below : is_open_below room v cut ≡ true) (upper : is_open_above room v cut ≡ true) (cube : List Literal)
+    (told : IsTold k room cube) where
   pub some_below : with_literal (up_to v cut) cube ≡ Some (narrowed_by (up_to v cut) cube)
-  some_below = cond-true _ _ _ (le-leb (range_left (up_to v cut) cube).low (range_left (up_to v cut) cube).high (omega (arith, range_low (up_to v cut) cube, range_high k (up_to v cut) cube (omega (arith, cut_under k room is v cut there below upper)), told.low v there, told.high v there, low_at_most k room is v cut there below upper, is.opens v there)))
+  some_below = cond-true _ _ _ (le-leb (range_left (up_to v cut) cube).low (range_left (up_to v cut) cube).high
+      (omega (
+        arith,
+        range_low (up_to v cut) cube,
+        range_high k (up_to v cut) cube (omega (arith, cut_under k room is v cut there below upper)),
+        told.low v there,
+        told.high v there,
+        low_at_most k room is v cut there below upper,
+        is.opens v there,
+      )))
 
   pub some_above : with_literal (above k v cut) cube ≡ Some (narrowed_by (above k v cut) cube)
-  some_above = cond-true _ _ _ (le-leb (range_left (above k v cut) cube).low (range_left (above k v cut) cube).high (omega (arith, range_low (above k v cut) cube, range_high k (above k v cut) cube (omega arith), told.low v there, told.high v there, cut_under k room is v cut there below upper, cut_less k room is v cut there below upper, is.opens v there, is.tops v there)))
+  some_above = cond-true _ _ _ (le-leb (range_left (above k v cut) cube).low (range_left (above k v cut) cube).high
+      (omega (
+        arith,
+        range_low (above k v cut) cube,
+        range_high k (above k v cut) cube (omega arith),
+        told.low v there,
+        told.high v there,
+        cut_under k room is v cut there below upper,
+        cut_less k room is v cut there below upper,
+        is.opens v there,
+        is.tops v there,
+      )))
 
 -- ---- the columns that are found are those of the paths
 
 flat_both : (xs ys : List (Path (Option ℕ))) → columns_of_paths (xs ++ ys) ≡ columns_of_paths xs ++ columns_of_paths ys
 flat_both xs ys = flat_map-append (λ (p : Path (Option ℕ)). column_of p.0 p.1) xs ys
 
-pub columns_are : (k : ℕ) (node : TreeNode (Option ℕ)) (room : Space) (cube : List Literal) → IsRoom k room → IsTold k room cube → IsFit room node → columns_from k cube node ≡ columns_of_paths (paths_from k cube node)
+pub columns_are : (k : ℕ) (node : TreeNode (Option ℕ)) (room : Space) (cube : List Literal) → IsRoom k room → IsTold k room cube → IsFit room node →
+    columns_from k cube node ≡ columns_of_paths (paths_from k cube node)
 columns_are k (Leaf x) room cube is told fit = sym (append-nil (column_of cube x))
 columns_are k (Fork' v cut p below upper) room cube is told fit =
     ap₂ ◌++◌
@@ -62,5 +86,6 @@ pub all_columns : (k : ℕ) (node : TreeNode (Option ℕ)) → IsGood k node →
 all_columns k node good = columns_are k node good.0 [] (room_whole k good.0 good.1) (told_whole k good.0 good.1) good.2
 
 -- the columns that are found from the root of a tree on are those of its paths
-pub columns_seen : (k : ℕ) (node : TreeNode (Option ℕ)) → IsGood k node → (paths : List (Path (Option ℕ))) → paths ≡ paths_from k [] node → (faults : ℕ) → faults ≡ k → (whole : List Literal) → whole ≡ [] → columns_from faults whole node ≡ columns_of_paths paths
+pub columns_seen : (k : ℕ) (node : TreeNode (Option ℕ)) → IsGood k node → (paths : List (Path (Option ℕ))) → paths ≡ paths_from k [] node → (faults : ℕ) → faults ≡ k → (whole : List Literal) →
+    whole ≡ [] → columns_from faults whole node ≡ columns_of_paths paths
 columns_seen k node good paths seen faults same whole none = ap₂ (λ (m : ℕ) (cube : List Literal). columns_from m cube node) same none ∙ all_columns k node good ∙ ap columns_of_paths (sym seen)

@@ -1,5 +1,6 @@
 -- If the columns of paths stand by their least scenarios, the first with a time has the least scenario with it.
-use Rattle.std.proofs.Common.{ℕ, ◌+◌, ◌≤◌, ◌≡◌, ◌≢◌, ◌==◌, true, false, List, [], ◌∷◌, ◌++◌, get_or, Option, Some, None, unwrap_or, option_map, Box, Global, All, Contains, IsPermutation, refl, sym, ap, ap₂, ◌∙◌, subst, inl, inr, eq-eqb, ne_eqb}
+use Rattle.std.proofs.Common.{ℕ, ◌+◌, ◌≤◌, ◌≡◌, ◌≢◌, ◌==◌, true, false, List, [], ◌∷◌, ◌++◌, get_or, Option, Some, None, unwrap_or, option_map, Box, Global, All, Contains, IsPermutation, refl, sym}
+use Rattle.std.proofs.Common.{ap, ap₂, ◌∙◌, subst, inl, inr, eq-eqb, ne_eqb}
 use Rattle.std.specs.Option.{IfNone, IfSome, option_map_or}
 use Rattle.std.proofs.lemmas.Bool.{cases_eq, cond-true, cond-false}
 use Rattle.std.proofs.lemmas.List.Elements.{All-contains, Contains-get_or}
@@ -68,15 +69,18 @@ module _ (wanted : ℕ) where
     of_above high e = ap (λ (o : Option (List Literal)). option_map_or (λ c. columns_from k c upper) o []) e
 
     -- the first is below the cut
-    pub fork_below : (low found : List Literal) → with_literal (up_to v cut) cube ≡ Some low → first_with wanted (columns_from k low below) ≡ Some found → first_with wanted (columns_from k cube node) ≡ Some found
+    pub fork_below : (low found : List Literal) → with_literal (up_to v cut) cube ≡ Some low → first_with wanted (columns_from k low below) ≡ Some found →
+        first_with wanted (columns_from k cube node) ≡ Some found
     fork_below low found e first =
         ap (λ (n : TreeNode (Option ℕ)). first_with wanted (columns_from k cube n)) is
         ∙ first_left (option_map_or (λ c. columns_from k c below) (with_literal (up_to v cut) cube) []) (option_map_or (λ c. columns_from k c upper) (with_literal (above k v cut) cube) []) found
         (ap (first_with wanted) (of_below low e) ∙ first)
 
     -- none is below the cut: then it is the first above, once the cube is narrowed to that
-    pub fork_above : (n : Narrowing) (most : ℕ) (low after high : List Literal) (found : Option (List Literal)) → most ≡ top k v → with_literal (up_to v cut) cube ≡ Some low → IsUndo n low cube → first_with wanted (columns_from k low below) ≡ None →
-        after ≡ low → with_literal (record { variable = v; low = cut + 1; high = most }) (restored n after) ≡ Some high → first_with wanted (columns_from k high upper) ≡ found → first_with wanted (columns_from k cube node) ≡ found
+    pub fork_above : (n : Narrowing) (most : ℕ) (low after high : List Literal) (found : Option (List Literal)) → most ≡ top k v → with_literal (up_to v cut) cube ≡ Some low → IsUndo n low cube →
+        first_with wanted (columns_from k low below) ≡ None →
+        after ≡ low → with_literal (record { variable = v; low = cut + 1; high = most }) (restored n after) ≡ Some high → first_with wanted (columns_from k high upper) ≡ found →
+        first_with wanted (columns_from k cube node) ≡ found
     fork_above n most low after high found whole e undo none same exchanged first =
         let i : with_literal (above k v cut) cube ≡ Some high =
         ap₂ (λ (h : ℕ) (ls : List Literal). let l : Literal = record { variable = v; low = cut + 1; high = h } in with_literal l ls) (sym whole) (sym (ap (restored n) same ∙ undo.back)) ∙ exchanged in
@@ -89,7 +93,8 @@ module _ (wanted : ℕ) where
   is_there : (xs : List Column) (cube : List Literal) → first_with wanted xs ≡ Some cube → Contains xs (With cube)
   is_there [] cube e = absurd (none-some cube e)
   is_there (x ∷ xs) cube e = elim (cases_eq x.time wanted) [
-    | inl same ↦ subst (Contains (x ∷ xs)) (ap₂ (λ (t : ℕ) (c : List Literal). let d : Column = record { time = t; cube = c } in d) same (ap (λ (o : Option (List Literal)). unwrap_or o cube) (sym (at_first x xs same) ∙ e))) (Contains-first x xs)
+    | inl same ↦ subst (Contains (x ∷ xs)) (ap₂ (λ (t : ℕ) (c : List Literal). let d : Column = record { time = t; cube = c } in d) same
+        (ap (λ (o : Option (List Literal)). unwrap_or o cube) (sym (at_first x xs same) ∙ e))) (Contains-first x xs)
     | inr differs ↦ Contains-rest x xs (With cube) (is_there xs cube (sym (past_first x xs differs) ∙ e))
   ]
 
@@ -108,7 +113,8 @@ module _ (wanted : ℕ) where
     Stands c d = is_below (lows_along g order (low_in d.cube)) (lows_along g order (low_in c.cube)) ≡ false
 
     -- no other with the time stands before the first
-    none_before : (xs : List Column) → AreByLows (λ (c : Column). c.cube) g order xs → (cube : List Literal) → first_with wanted xs ≡ Some cube → (d : Column) → Contains xs d → d.time ≡ wanted → Stands (With cube) d
+    none_before : (xs : List Column) → AreByLows (λ (c : Column). c.cube) g order xs → (cube : List Literal) → first_with wanted xs ≡ Some cube → (d : Column) → Contains xs d → d.time ≡ wanted →
+        Stands (With cube) d
     none_before [] stand cube e d c t = absurd (Contains-nil d c)
     none_before (x ∷ xs) stand cube e d c t = elim (cases_eq x.time wanted) [
       | inl same ↦ subst (λ (b : List Literal). Stands (With b) d) (ap (λ (o : Option (List Literal)). unwrap_or o cube) (sym (at_first x xs same) ∙ e)) (elim (Contains-cases x xs d c) [
@@ -125,13 +131,15 @@ module _ (wanted : ℕ) where
 
 module _ (g : Graph) (paths : List (Path (Option ℕ))) (wanted : ℕ) where
   no_path : first_with wanted (columns_of_paths paths) ≡ None → (p : Path (Option ℕ)) → Contains paths p → p.1 ≢ Some wanted
-  no_path none p c e = nowhere wanted (columns_of_paths paths) none (record { time = wanted; cube = p.0 }) (column_there paths (columns_of_paths paths) (IsPermutation-refl (columns_of_paths paths)) p wanted c e) refl
+  no_path none p c e = nowhere wanted (columns_of_paths paths) none (record { time = wanted; cube = p.0 })
+      (column_there paths (columns_of_paths paths) (IsPermutation-refl (columns_of_paths paths)) p wanted c e) refl
 
   -- if no column has the number, no path has it
   pub none_first : (o : Option Scenario) → o ≡ option_map (lows g) (first_with wanted (columns_of_paths paths)) → IfNone o (All (λ (p : Path (Option ℕ)). p.1 ≢ Some wanted) paths)
   none_first o e = by_value (first_with wanted (columns_of_paths paths)) refl o e
     where
-      by_value : (f : Option (List Literal)) → first_with wanted (columns_of_paths paths) ≡ f → (r : Option Scenario) → r ≡ option_map (lows g) f → IfNone r (All (λ (p : Path (Option ℕ)). p.1 ≢ Some wanted) paths)
+      by_value : (f : Option (List Literal)) → first_with wanted (columns_of_paths paths) ≡ f → (r : Option Scenario) → r ≡ option_map (lows g) f →
+          IfNone r (All (λ (p : Path (Option ℕ)). p.1 ≢ Some wanted) paths)
       by_value f k (Some s) e = tt
       by_value None k None e = λ i d l. no_path k (get_or paths i d) (Contains-get_or paths i d l)
       by_value (Some cube) k None e = absurd (none-some (lows g cube) e)
@@ -141,13 +149,15 @@ module _ (g : Graph) (paths : List (Path (Option ℕ))) (wanted : ℕ) where
   some_sorted order all stand None h = tt
   some_sorted order all stand (Some s) h = h order all stand
 
-module _ (g : Graph) (few : process_count g ≤ 128) (k : ℕ) (node : TreeNode (Option ℕ)) (good : IsGood k node) (paths : List (Path (Option ℕ))) (seen : paths ≡ paths_of k node) (same : k ≡ g.faults) (known : All (λ (p : Path (Option ℕ)). IsKnown g p.0) paths)
+module _ (g : Graph) (few : process_count g ≤ 128) (k : ℕ) (node : TreeNode (Option ℕ)) (good : IsGood k node) (paths : List (Path (Option ℕ))) (seen : paths ≡ paths_of k node) (same : k ≡ g.faults)
+    (known : All (λ (p : Path (Option ℕ)). IsKnown g p.0) paths)
     (wanted : ℕ) (cube : List Literal) (first : first_with wanted (columns_of_paths paths) ≡ Some cube) where
   tidy : All (IsTidyColumn g) (columns_of_paths paths)
   tidy =
       let is : paths ≡ paths_of g.faults node = seen ∙ ap (λ (m : ℕ). paths_of m node) same in
       subst (λ (ps : List (Path (Option ℕ))). All (IsTidyColumn g) (columns_of_paths ps)) (sym is)
-      (tidy_columns g few node (subst (λ (m : ℕ). IsGood m node) same good) (subst (All (λ (p : Path (Option ℕ)). IsKnown g p.0)) is known) (columns_of_paths (paths_of g.faults node)) (IsPermutation-refl (columns_of_paths (paths_of g.faults node))))
+      (tidy_columns g few node (subst (λ (m : ℕ). IsGood m node) same good) (subst (All (λ (p : Path (Option ℕ)). IsKnown g p.0)) is known) (columns_of_paths (paths_of g.faults node))
+      (IsPermutation-refl (columns_of_paths (paths_of g.faults node))))
 
   tidy_at : (d : Column) → Contains (columns_of_paths paths) d → IsTidyColumn g d
   tidy_at d c = All-contains (IsTidyColumn g) (columns_of_paths paths) d tidy c
@@ -176,6 +186,7 @@ module _ (g : Graph) (few : process_count g ≤ 128) (k : ℕ) (node : TreeNode 
             let d : Column = record { time = wanted; cube = h.0.0 } in
             let there = column_there paths xs (IsPermutation-refl xs) h.0 wanted h.1.stands h.2 in
             not_before_transitive g order (lows g cube) (lows g h.0.0) u
-            (ap₂ is_below (sym (lows_are_key g few h.0.0 (tidy_at d there).met order all)) (sym (lows_are_key g few cube (tidy_at column here).met order all)) ∙ none_before wanted g order xs stand cube first d there refl)
+            (ap₂ is_below (sym (lows_are_key g few h.0.0 (tidy_at d there).met order all)) (sym (lows_are_key g few cube (tidy_at column here).met order all)) ∙
+            none_before wanted g order xs stand cube first d there refl)
             ((lows-least g few h.0.0 (tidy_at d there).cube (tidy_at d there).met order).least u law h.1.matched);
       }

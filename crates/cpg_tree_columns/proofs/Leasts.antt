@@ -37,7 +37,8 @@ from_time cube (Some t) c j = elim (Contains-cases (record { time = t; cube = cu
 module _ (paths : List (Path (Option ℕ))) (columns : List Column) (p : IsPermutation (columns_of_paths paths) columns) where
   pub column_there : (x : Path (Option ℕ)) (time : ℕ) → Contains paths x → x.1 ≡ Some time → Contains columns (record { time = time; cube = x.0 })
   column_there x time j e = Contains-permutation (columns_of_paths paths) columns (record { time = time; cube = x.0 }) p
-      (Contains-flat_map (λ (p : Path (Option ℕ)). column_of p.0 p.1) paths x (record { time = time; cube = x.0 }) j (subst (λ o. Contains (column_of x.0 o) (record { time = time; cube = x.0 })) (sym e) (of_time x.0 time)))
+      (Contains-flat_map (λ (p : Path (Option ℕ)). column_of p.0 p.1) paths x (record { time = time; cube = x.0 }) j
+      (subst (λ o. Contains (column_of x.0 o) (record { time = time; cube = x.0 })) (sym e) (of_time x.0 time)))
 
   pub path_there : (c : Column) → Contains columns c → (x : Path (Option ℕ)) × Contains paths x × (x.1 ≡ Some c.time) × (x.0 ≡ c.cube)
   path_there c j =
@@ -69,7 +70,8 @@ module _ (paths : List (Path (Option ℕ))) (columns : List Column) (p : IsPermu
     not_earlier u law d k m =
         let below : is_below (lows_along g order (low_in d.cube)) (lows_along g order (low_in c.cube)) ≡ false =
         subst (λ (b : Column). is_below (lows_along g order (low_in b.cube)) (lows_along g order (low_in c.cube)) ≡ false) k.2
-        (subst (λ (b : Column). is_below (lows_along g order (low_in (get_or columns k.0 d).cube)) (lows_along g order (low_in b.cube)) ≡ false) (get_or_default columns at d c first.there ∙ is) (first.first k.0 d k.1)) in
+        (subst (λ (b : Column). is_below (lows_along g order (low_in (get_or columns k.0 d).cube)) (lows_along g order (low_in b.cube)) ≡ false) (get_or_default columns at d c first.there ∙ is)
+        (first.first k.0 d k.1)) in
         let order_of : is_before g order (lows g d.cube) (lows g c.cube) ≡ false =
         ap₂ is_below (sym (lows_are_key g few d.cube (tidy_at d k).met order all)) (sym (lows_are_key g few c.cube (tidy_at c here).met order all)) ∙ below in
         not_before_transitive g order (lows g c.cube) (lows g d.cube) u order_of ((least_of_column g few d (tidy_at d k) order).least u law m)

@@ -1,5 +1,6 @@
 -- A scenario that two trees come to in a space, and the greatest number of the one where the other is true.
-use Rattle.std.proofs.Common.{ℕ, ◌+◌, ◌-◌, ◌<◌, ◌≤◌, ◌≡◌, Bool, true, false, nat_lt, Option, Some, None, unwrap_or, get_or, length, sum_by, arith, refl, sym, ap, ◌∙◌, subst, inl, inr, ◌⊎◌, lt-ltb, le-ltb, Box, Global}
+use Rattle.std.proofs.Common.{ℕ, ◌+◌, ◌-◌, ◌<◌, ◌≤◌, ◌≡◌, Bool, true, false, nat_lt, Option, Some, None, unwrap_or, get_or, length, sum_by, arith, refl, sym, ap, ◌∙◌, subst, inl, inr, ◌⊎◌, lt-ltb}
+use Rattle.std.proofs.Common.{le-ltb, Box, Global}
 use Rattle.std.specs.Prelude.{nat_le}
 use Rattle.std.specs.Option.{IfNone, IfSome}
 use Rattle.std.specs.Bool.{OnTrue}
@@ -54,7 +55,8 @@ module _ (g : Graph) (few : process_count g ≤ 128) (room : Space) (is : IsRoom
   other_number v none = elim (cases_lt v 128) [
     | inl l ↦ number_of-fault lowest v l ∙ get_or_past lowest.faults v 0 (elim (cases_lt v (process_count g)) [ inl k ↦ absurd (none (inl k)) | inr k ↦ omega (arith, k, lawful.faults) ])
     | inr l ↦ cond-false (nat_lt v 128) (fault_of lowest v) (number_of_value (get_or lowest.values (v - 128) false)) (le-ltb v 128 l)
-        ∙ ap number_of_value (get_or_past lowest.values (v - 128) false (elim (cases_lt v (128 + condition_count g)) [ inl k ↦ absurd (none (inr (l, k))) | inr k ↦ omega (arith, k, l, lawful.values) ]))
+        ∙ ap number_of_value (get_or_past lowest.values (v - 128) false
+        (elim (cases_lt v (128 + condition_count g)) [ inl k ↦ absurd (none (inr (l, k))) | inr k ↦ omega (arith, k, l, lawful.values) ]))
   ]
 
   number_is : (v : ℕ) → v < 256 → number_of lowest v ≡ low v
@@ -70,7 +72,11 @@ module _ (g : Graph) (few : process_count g ≤ 128) (room : Space) (is : IsRoom
   lies_lowest = record {
     low = λ v l. omega (arith, number_is v l);
     high = λ v l. omega (arith, number_is v l, is.opens v l);
-    left = omega (arith, sum_by_zeros (beyond room lowest) (numbers_below 128) (λ p c. let l = numbers-Contains 128 p c in nothing_beyond (fault_of lowest p) (low p) (number_of lowest p) (number_of-fault lowest p l) (number_is p (omega (arith, l)))));
+    left = omega (
+      arith,
+      sum_by_zeros (beyond room lowest) (numbers_below 128)
+          (λ p c. let l = numbers-Contains 128 p c in nothing_beyond (fault_of lowest p) (low p) (number_of lowest p) (number_of-fault lowest p l) (number_is p (omega (arith, l)))),
+    );
   }
 
   -- a space of a graph has a scenario
@@ -113,10 +119,12 @@ module _ (room : Space) (lows : length room.low ≡ 256) (highs : length room.hi
             let changed = sum_changed (beyond room s) (beyond (above_cut room v cut) s) 128 v l (λ u n. ap (λ m. fault_of s u - m) (sym (set_other room.low v (cut + 1) u n))) in
             let here = ap (λ m. fault_of s v - m) (set_same room.low v (cut + 1) v (omega (arith, lows, there)) refl) in
             more_left (sum_by (beyond room s) (numbers_below 128)) (sum_by (beyond (above_cut room v cut) s) (numbers_below 128)) (get_or room.low v 0) cut (fault_of s v) room.left
-            (turned _ _ _ _ _ changed here) (subst (λ n. sum_by (beyond (above_cut room v cut) s) (numbers_below 128) ≤ room.left - n) (cond-true (nat_lt v 128) (cut + 1 - get_or room.low v 0) 0 (lt-ltb v 128 l)) lies.left)
+            (turned _ _ _ _ _ changed here) (subst (λ n. sum_by (beyond (above_cut room v cut) s) (numbers_below 128) ≤ room.left - n)
+            (cond-true (nat_lt v 128) (cut + 1 - get_or room.low v 0) 0 (lt-ltb v 128 l)) lies.left)
             under (subst (λ n. cut < n) (number_of-fault s v l) at) (allows l)
         | inr l ↦
-            let same = same_sum_by (beyond room s) (beyond (above_cut room v cut) s) (numbers_below 128) (λ u c. ap (λ m. fault_of s u - m) (sym (set_other room.low v (cut + 1) u (λ e. absurd (omega (arith, numbers-Contains 128 u c, e, l)))))) in
+            let same = same_sum_by (beyond room s) (beyond (above_cut room v cut) s) (numbers_below 128)
+            (λ u c. ap (λ m. fault_of s u - m) (sym (set_other room.low v (cut + 1) u (λ e. absurd (omega (arith, numbers-Contains 128 u c, e, l)))))) in
             as_much _ _ _ _ same lies.left (cond-false (nat_lt v 128) (cut + 1 - get_or room.low v 0) 0 (le-ltb v 128 l))
       ];
     },
@@ -134,7 +142,8 @@ module _ (room : Space) (lows : length room.low ≡ 256) (highs : length room.hi
 
 -- ---- the sides of a fork
 
-module _ (g : Graph) (room : Space) (v cut : ℕ) (there : v < 256) (known : IsVariable g v) (is : IsRoomOf g room) (under : is_open_below room v cut ≡ true) (over : is_open_above room v cut ≡ true) where
+module _ (g : Graph) (room : Space) (v cut : ℕ) (there : v < 256) (known : IsVariable g v) (is : IsRoomOf g room) (under : is_open_below room v cut ≡ true)
+    (over : is_open_above room v cut ≡ true) where
   at_low : get_or room.low v 0 ≤ cut
   at_low = leb-true (get_or room.low v 0) cut under
 
@@ -168,16 +177,19 @@ module _ (g : Graph) (room : Space) (v cut : ℕ) (there : v < 256) (known : IsV
   in_above = lies_in_above room is.lows is.highs v cut there at_low allowed
 
 -- a scenario of a side is one of the whole
-module _ {T U V W : Type 0} (node : TreeNode T) (other : TreeNode U) (part : TreeNode V) (rest : TreeNode W) (room : Space) (v cut : ℕ) (there : v < 256) (parts : (g : Graph) → AreForksOf g node other → IsVariable g v × AreForksOf g part rest)
+module _ {T U V W : Type 0} (node : TreeNode T) (other : TreeNode U) (part : TreeNode V) (rest : TreeNode W) (room : Space) (v cut : ℕ) (there : v < 256)
+    (parts : (g : Graph) → AreForksOf g node other → IsVariable g v × AreForksOf g part rest)
     (fact inner : Scenario → Type 0) where
-  met_below : is_open_below room v cut ≡ true → is_open_above room v cut ≡ true → ((s : Scenario) → number_of s v ≤ cut → inner s → fact s) → IsMetIn (below_cut room v cut) part rest inner → IsMetIn room node other fact
+  met_below : is_open_below room v cut ≡ true → is_open_above room v cut ≡ true → ((s : Scenario) → number_of s v ≤ cut → inner s → fact s) → IsMetIn (below_cut room v cut) part rest inner →
+      IsMetIn room node other fact
   met_below under over follows met g forks is =
       let p = parts g forks in
       let r = met g p.1 (room_of_below g room v cut there p.0 is under over) in
       let l = in_below g room v cut there p.0 is under over r.0 r.2 in
       (r.0, r.1, l.0, follows r.0 l.1 r.3)
 
-  met_above : is_open_below room v cut ≡ true → is_open_above room v cut ≡ true → ((s : Scenario) → cut < number_of s v → inner s → fact s) → IsMetIn (above_cut room v cut) part rest inner → IsMetIn room node other fact
+  met_above : is_open_below room v cut ≡ true → is_open_above room v cut ≡ true → ((s : Scenario) → cut < number_of s v → inner s → fact s) → IsMetIn (above_cut room v cut) part rest inner →
+      IsMetIn room node other fact
   met_above under over follows met g forks is =
       let p = parts g forks in
       let r = met g p.1 (room_of_above g room v cut there p.0 is under over) in
@@ -265,7 +277,8 @@ most_never room node wanted best none = record {
 }
 
 -- a leaf whose number is greater than the best
-pub most_leaf : (room : Space) (node : TreeNode (Option ℕ)) (wanted : TreeNode Bool) (x best : Option ℕ) → node ≡ Leaf x → ((n : ℕ) → IsUpTo best n → IsUpTo x n) → IsTrueIn room wanted → IsMostIn room node wanted best x
+pub most_leaf : (room : Space) (node : TreeNode (Option ℕ)) (wanted : TreeNode Bool) (x best : Option ℕ) → node ≡ Leaf x → ((n : ℕ) → IsUpTo best n → IsUpTo x n) → IsTrueIn room wanted →
+    IsMostIn room node wanted best x
 most_leaf room node wanted None None is some met = record {
   above = λ s n lies comes. absurd (none-some n (sym (ap (λ (m : TreeNode (Option ℕ)). value_at m s) is) ∙ comes.0));
   from = λ n h. h;
@@ -362,7 +375,8 @@ whole_of g room whole =
     low_zero v (inl l) = whole.lows v l
     low_zero v (inr l) = get_or_past room.low v 0 (omega (arith, l, whole.long))
 
-module _ (k : ℕ) (node : TreeNode (Option ℕ)) (wanted : TreeNode Bool) (good : IsGood k node) (good_too : IsGood k wanted) (room : Space) (whole : IsWhole k room) (all : (s : Scenario) → HasFew k s → Lies room s) (o : Option ℕ) (most : IsMostIn room node wanted None o) where
+module _ (k : ℕ) (node : TreeNode (Option ℕ)) (wanted : TreeNode Bool) (good : IsGood k node) (good_too : IsGood k wanted) (room : Space) (whole : IsWhole k room)
+    (all : (s : Scenario) → HasFew k s → Lies room s) (o : Option ℕ) (most : IsMostIn room node wanted None o) where
   abbrev tree : TreeState (Option ℕ)
   tree = state k node
 
@@ -392,11 +406,13 @@ module _ (k : ℕ) (node : TreeNode (Option ℕ)) (wanted : TreeNode Bool) (good
     where
       reach : (g : Graph) → AreOf g tree chooser → IsFoundIn room node wanted (Some number) → IsReachedWhere g tree chooser number
       reach g of f =
-          let r = f g (record { few = of.few; first = forks_of_paths (is_variable g) k node of.known; second = forks_of_paths (is_variable g) k wanted of.known_too }) (whole_of g room (subst (λ n. IsWhole n room) of.faults whole)) in
+          let r = f g (record { few = of.few; first = forks_of_paths (is_variable g) k node of.known; second = forks_of_paths (is_variable g) k wanted of.known_too })
+          (whole_of g room (subst (λ n. IsWhole n room) of.faults whole)) in
           record { scenario = r.0; lawful = r.1; has = seen r.0 number (subst (λ n. HasFew n r.0) (sym of.faults) (scenario_few g r.0 r.1)) r.3 }
 
 -- the greatest number of what the caller sees of the trees
-module _ (first : TreeState (Option ℕ)) (second : TreeState Bool) (node : TreeNode (Option ℕ)) (wanted : TreeNode Bool) (good : IsGood first.faults node) (paths : first.paths ≡ paths_of first.faults node)
+module _ (first : TreeState (Option ℕ)) (second : TreeState Bool) (node : TreeNode (Option ℕ)) (wanted : TreeNode Bool) (good : IsGood first.faults node)
+    (paths : first.paths ≡ paths_of first.faults node)
     (good_too : IsGood second.faults wanted) (paths_too : second.paths ≡ paths_of second.faults wanted) (same : first.faults ≡ second.faults)
     (room : Space) (whole : IsWhole first.faults room) (all : (s : Scenario) → HasFew first.faults s → Lies room s) (o : Option ℕ) (most : IsMostIn room node wanted None o) where
   is_first : state first.faults node ≡ first
@@ -412,7 +428,8 @@ module _ (first : TreeState (Option ℕ)) (second : TreeState Bool) (node : Tree
   none_where = by o refl
     where
       by : (x : Option ℕ) → o ≡ x → IfNone x (IsNowhere first second)
-      by None e = subst (λ (t : TreeState (Option ℕ)). IsNowhere t second) is_first (subst (λ (u : TreeState Bool). IsNowhere (state first.faults node) u) is_there (no_number first.faults node wanted good good_there room whole all o most e))
+      by None e = subst (λ (t : TreeState (Option ℕ)). IsNowhere t second) is_first
+          (subst (λ (u : TreeState Bool). IsNowhere (state first.faults node) u) is_there (no_number first.faults node wanted good good_there room whole all o most e))
       by (Some n) e = tt
 
   pub some_where : IfSome o (IsMostWhere first second)
@@ -420,4 +437,5 @@ module _ (first : TreeState (Option ℕ)) (second : TreeState Bool) (node : Tree
     where
       by : (x : Option ℕ) → o ≡ x → IfSome x (IsMostWhere first second)
       by None e = tt
-      by (Some n) e = subst (λ (t : TreeState (Option ℕ)). IsMostWhere t second n) is_first (subst (λ (u : TreeState Bool). IsMostWhere (state first.faults node) u n) is_there (a_number first.faults node wanted good good_there room whole all o most n e))
+      by (Some n) e = subst (λ (t : TreeState (Option ℕ)). IsMostWhere t second n) is_first
+          (subst (λ (u : TreeState Bool). IsMostWhere (state first.faults node) u n) is_there (a_number first.faults node wanted good good_there room whole all o most n e))

@@ -1,5 +1,6 @@
 -- The greatest number of a tree; the least scenario of a number is that of the tree of this number alone.
-use Rattle.std.proofs.Common.{ℕ, ◌≤◌, ◌≡◌, ◌≢◌, ◌⊎◌, ◌==◌, max, List, [], length, filter, get_or, Option, Some, None, unwrap_or, All, Contains, arith, refl, sym, ap, ◌∙◌, subst, inl, inr, eq-eqb, ne_eqb}
+use Rattle.std.proofs.Common.{ℕ, ◌≤◌, ◌≡◌, ◌≢◌, ◌⊎◌, ◌==◌, max, List, [], length, filter, get_or, Option, Some, None, unwrap_or, All, Contains, arith, refl, sym, ap, ◌∙◌, subst, inl, inr, eq-eqb}
+use Rattle.std.proofs.Common.{ne_eqb}
 use Rattle.std.specs.Option.{IfNone, IfSome}
 use Rattle.std.proofs.lemmas.Bool.{cases_eq, cases_lt, cond-true, cond-false}
 use Rattle.std.proofs.lemmas.List.Elements.{All-contains, Contains-append_left, Contains-append_right, Contains-append_cases, Contains-get_or}
@@ -80,16 +81,20 @@ no_most k node none p c = by_value p.1 refl
     by_value (Some n) e = absurd (subst (λ o. IsUnder o n) none (under_most k node [] p n c e))
 
 -- some scenario has the number of a path
-path_reached : (g : Graph) (node : TreeNode (Option ℕ)) → IsGood g.faults node → (m : ℕ) → process_count g ≤ 128 → All (λ p. IsKnown g p.0) (paths_of g.faults node) → (p : Path (Option ℕ)) → Contains (paths_of g.faults node) p → p.1 ≡ Some m → IsReached g (paths_of g.faults node) m
+path_reached : (g : Graph) (node : TreeNode (Option ℕ)) → IsGood g.faults node → (m : ℕ) → process_count g ≤ 128 → All (λ p. IsKnown g p.0) (paths_of g.faults node) → (p : Path (Option ℕ)) →
+    Contains (paths_of g.faults node) p → p.1 ≡ Some m → IsReached g (paths_of g.faults node) m
 path_reached g node good m processes known p there is =
     let paths = paths_of g.faults node in
-    let column : Contains (columns_of_paths paths) (record { time = m; cube = p.0 }) = Contains-flat_map (λ (p : Path (Option ℕ)). column_of p.0 p.1) paths p (record { time = m; cube = p.0 }) there (subst (λ o. Contains (column_of p.0 o) (record { time = m; cube = p.0 })) (sym is) (Contains-first (record { time = m; cube = p.0 }) [])) in
-    let tidy = All-contains (IsTidyColumn g) (columns_of_paths paths) (record { time = m; cube = p.0 }) (tidy_columns g processes node good known (columns_of_paths paths) (IsPermutation-refl (columns_of_paths paths))) column in
+    let column : Contains (columns_of_paths paths) (record { time = m; cube = p.0 }) = Contains-flat_map (λ (p : Path (Option ℕ)). column_of p.0 p.1) paths p (record { time = m; cube = p.0 }) there
+    (subst (λ o. Contains (column_of p.0 o) (record { time = m; cube = p.0 })) (sym is) (Contains-first (record { time = m; cube = p.0 }) [])) in
+    let tidy = All-contains (IsTidyColumn g) (columns_of_paths paths) (record { time = m; cube = p.0 })
+    (tidy_columns g processes node good known (columns_of_paths paths) (IsPermutation-refl (columns_of_paths paths))) column in
     let least = lows-least g processes p.0 tidy.cube tidy.met [] in
     record { scenario = lows g p.0; lawful = least.lawful; has = (p, record { stands = there; matched = least.holds }, is) }
 
 -- some scenario has the greatest
-most_reached : (g : Graph) (node : TreeNode (Option ℕ)) → IsGood g.faults node → (m : ℕ) → most_of node ≡ Some m → process_count g ≤ 128 → All (λ p. IsKnown g p.0) (paths_of g.faults node) → IsReached g (paths_of g.faults node) m
+most_reached : (g : Graph) (node : TreeNode (Option ℕ)) → IsGood g.faults node → (m : ℕ) → most_of node ≡ Some m → process_count g ≤ 128 → All (λ p. IsKnown g p.0) (paths_of g.faults node) →
+    IsReached g (paths_of g.faults node) m
 most_reached g node good m most processes known =
     let x = most_there g.faults node [] m most in
     path_reached g node good m processes known x.0 x.1 x.2
@@ -99,7 +104,8 @@ most_is k node good m most = record {
   above = λ p n c e. subst (λ o. IsUnder o n) most (under_most k node [] p n c e);
   there = most_there k node [] m most;
   reached = λ g processes same known.
-      subst (λ n. IsReached g (paths_of n node) m) (sym same) (most_reached g node (subst (λ n. IsGood n node) same good) m most processes (subst (λ n. All (λ p. IsKnown g p.0) (paths_of n node)) same known));
+      subst (λ n. IsReached g (paths_of n node) m) (sym same)
+      (most_reached g node (subst (λ n. IsGood n node) same good) m most processes (subst (λ n. All (λ p. IsKnown g p.0) (paths_of n node)) same known));
 }
 
 -- ---- as what a call answers
@@ -120,7 +126,8 @@ not_without k node m most none =
     let x = most_there k node [] m most in
     All-contains (λ (p : Path (Option ℕ)). p.1 ≢ Some m) (paths_of k node) x.0 none x.1 x.2
 
-pub greatest_of : (g : Graph) (order : List ℕ) (k : ℕ) (node : TreeNode (Option ℕ)) (m : ℕ) → most_of node ≡ Some m → (s : Scenario) → IsLeast g order (HasValue (paths_of k node) (Some m)) s → IsGreatestOf g order (paths_of k node) m s
+pub greatest_of : (g : Graph) (order : List ℕ) (k : ℕ) (node : TreeNode (Option ℕ)) (m : ℕ) → most_of node ≡ Some m → (s : Scenario) → IsLeast g order (HasValue (paths_of k node) (Some m)) s →
+    IsGreatestOf g order (paths_of k node) m s
 greatest_of g order k node m most s least = record { most = λ p n c e. subst (λ o. IsUnder o n) most (under_most k node [] p n c e); least = least }
 
 -- ---- the tree of one number alone
@@ -173,7 +180,8 @@ module _ (g : Graph) (node : TreeNode (Option ℕ)) (good : IsGood g.faults node
 
   -- ---- as what a call answers
 
-  pub listed_none : process_count g ≤ 128 → All (λ p. IsKnown g p.0) (paths_of g.faults node) → (o : Option Scenario) → IfNone o (All (λ (p : Path (Option ℕ)). p.1 ≡ None) only.paths) → IfNone o (All (λ (p : Path (Option ℕ)). p.1 ≢ Some m) all.paths)
+  pub listed_none : process_count g ≤ 128 → All (λ p. IsKnown g p.0) (paths_of g.faults node) → (o : Option Scenario) → IfNone o (All (λ (p : Path (Option ℕ)). p.1 ≡ None) only.paths) →
+      IfNone o (All (λ (p : Path (Option ℕ)). p.1 ≢ Some m) all.paths)
   listed_none processes known None h = none_alone processes known h
   listed_none processes known (Some s) h = tt
 

@@ -9,7 +9,7 @@ ghost use Rattle.cpg_tree_columns.specs.Columns.{columns_of_paths};
 
 use cpg_base::{Order, OutOfMemory, Problem};
 use cpg_cube::{VARIABLES, places_along};
-use cpg_tree::{TreeNode, Tree};
+use cpg_tree::{Tree, TreeNode};
 
 /// How many places are left at the first variable along an order.
 const FIRST: u16 = 256;

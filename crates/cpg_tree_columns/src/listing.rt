@@ -11,7 +11,7 @@ ghost use Rattle.cpg_tree.specs.Decision.{HasCuts};
 use crate::along::count_along;
 use cpg_base::{Order, OutOfMemory, Problem, top};
 use cpg_cube::{Cube, Entry, Listing, Literal};
-use cpg_tree::{TreeNode, Tree};
+use cpg_tree::{Tree, TreeNode};
 
 /// Adds the columns on from a cube, which is narrowed on the way down and restored on the way up.
 fn push_columns(

@@ -6,7 +6,7 @@ ghost use Rattle.cpg_tree.specs.Space.{Lies};
 ghost use Rattle.cpg_tree.specs.Decision.{value_at};
 ghost use Rattle.cpg_tree_columns.specs.Meeting.{IsMetIn, IsMostIn, IsUpTo, IsMostWhere, IsNowhere};
 
-use cpg_tree::{TreeNode, Space, Tree};
+use cpg_tree::{Space, Tree, TreeNode};
 
 /// Whether a tree is true in some scenario of a space.
 fn holds_in(node: &TreeNode<bool>, space: &mut Space) -> bool

@@ -15,7 +15,7 @@ use crate::along::stand_along;
 use crate::listing::{listed, room_for};
 use cpg_base::{Order, OutOfMemory, Problem, Scenario, top};
 use cpg_cube::{Cube, Literal, first_by_least_scenario};
-use cpg_tree::{TreeNode, Tree};
+use cpg_tree::{Tree, TreeNode};
 
 /// The greater of two numbers, if there are two.
 fn greater(first: Option<u64>, second: Option<u64>) -> Option<u64>

@@ -20,14 +20,16 @@ loop-item-init c = record {
 
 pub producer-requires : goal.producer-requires
 producer-requires c =
-    next_within c.args.setting.now.problem.now c.args.setting.now.order.now c.requires.setting.topological c.args.items.now c.loop-item.item-index c.loop-item.frozen c.loop-item.invariant.settled c.loop-item-test.true
+    next_within c.args.setting.now.problem.now c.args.setting.now.order.now c.requires.setting.topological c.args.items.now c.loop-item.item-index c.loop-item.frozen c.loop-item.invariant.settled
+    c.loop-item-test.true
 
 pub place-next-requires : goal.place-next-requires
 place-next-requires c = omega (arith, c.producer.ensures.within, length_order (process_count c.args.setting.now.problem.now) c.args.setting.now.order.now c.requires.setting.topological.all)
 
 pub advance-requires-clause-early : goal.advance-requires-clause-early
 advance-requires-clause-early c =
-    settled_early c.args.setting.now.problem.now c.args.setting.now.order.now c.requires.setting.topological c.args.items.now c.loop-item.item-index c.loop-item.frozen c.loop-item.invariant.settled c.requires.setting.admitted.1.limits
+    settled_early c.args.setting.now.problem.now c.args.setting.now.order.now c.requires.setting.topological c.args.items.now c.loop-item.item-index c.loop-item.frozen c.loop-item.invariant.settled
+    c.requires.setting.admitted.1.limits
 
 pub advance-requires-clause-ahead : goal.advance-requires-clause-ahead
 advance-requires-clause-ahead c =
@@ -38,18 +40,25 @@ advance-requires-clause-ahead c =
     omega (arith, there, c.loop-item.invariant.ahead c.loop-item.item-index (omega arith) c.loop-item-test.true)
 
 pub advance-requires-clause-place : goal.advance-requires-clause-place
-advance-requires-clause-place c = omega (arith, c.place-next.ensures.within, length_order (process_count c.args.setting.now.problem.now) c.args.setting.now.order.now c.requires.setting.topological.all)
+advance-requires-clause-place c = omega (
+  arith,
+  c.place-next.ensures.within,
+  length_order (process_count c.args.setting.now.problem.now) c.args.setting.now.order.now
+      c.requires.setting.topological.all,
+)
 
 pub settle-requires-clause-early : goal.settle-requires-clause-early
 settle-requires-clause-early c =
-    settled_early c.args.setting.now.problem.now c.args.setting.now.order.now c.requires.setting.topological c.args.items.now c.loop-item.item-index c.loop-item.frozen c.loop-item.invariant.settled c.requires.setting.admitted.1.limits
+    settled_early c.args.setting.now.problem.now c.args.setting.now.order.now c.requires.setting.topological c.args.items.now c.loop-item.item-index c.loop-item.frozen c.loop-item.invariant.settled
+    c.requires.setting.admitted.1.limits
 
 pub settle-requires-clause-place : goal.settle-requires-clause-place
 settle-requires-clause-place c = omega (arith, c.place-next.ensures.within, length_order (process_count c.args.setting.now.problem.now) c.args.setting.now.order.now c.requires.setting.topological.all)
 
 pub settle-requires-clause-item : goal.settle-requires-clause-item
 settle-requires-clause-item c =
-    next_within c.args.setting.now.problem.now c.args.setting.now.order.now c.requires.setting.topological c.args.items.now c.loop-item.item-index c.loop-item.frozen c.loop-item.invariant.settled c.loop-item-test.true
+    next_within c.args.setting.now.problem.now c.args.setting.now.order.now c.requires.setting.topological c.args.items.now c.loop-item.item-index c.loop-item.frozen c.loop-item.invariant.settled
+    c.loop-item-test.true
 
 pub settle-requires-clause-there : goal.settle-requires-clause-there
 settle-requires-clause-there c =
@@ -58,7 +67,8 @@ settle-requires-clause-there c =
 
 pub settle-requires-clause-unset : goal.settle-requires-clause-unset
 settle-requires-clause-unset c =
-    next_unset c.args.setting.now.problem.now c.args.setting.now.order.now c.requires.setting.topological c.args.items.now c.loop-item.item-index c.loop-item.frozen c.loop-item.invariant.settled c.loop-item-test.true
+    next_unset c.args.setting.now.problem.now c.args.setting.now.order.now c.requires.setting.topological c.args.items.now c.loop-item.item-index c.loop-item.frozen c.loop-item.invariant.settled
+    c.loop-item-test.true
 
 pub loop-item-preserved : goal.loop-item-preserved
 loop-item-preserved c =
@@ -72,7 +82,8 @@ loop-item-preserved c =
     record {
       settled = settled_more g order c.requires.setting.topological items n c.loop-item.frozen settled c.requires.setting.admitted.1.limits c.loop-item-test.true
           c.settle.new.frozen c.in_ok-settle.ensures.item c.in_ok-settle.ensures.others c.in_ok-settle.ensures.count;
-      along = along_kept g order c.loop-item.frozen c.place-next.result c.args.scenarios.now c.requires.setting.topological c.settle.new.frozen x c.advance.new.found.items there c.in_ok-settle.ensures.others c.in_ok-advance.ensures;
+      along = along_kept g order c.loop-item.frozen c.place-next.result c.args.scenarios.now c.requires.setting.topological c.settle.new.frozen x c.advance.new.found.items there
+          c.in_ok-settle.ensures.others c.in_ok-advance.ensures;
       ahead = λ j l k.
           let within = (item_frozen g order c.requires.setting.topological items n c.loop-item.frozen settled j k).0 in
           omega (arith, there, later_place g order x (get_or items j 0) within (later_moment g order c.requires.setting.topological items settled.all n j (omega arith) k));
@@ -85,7 +96,8 @@ returns-clause-frozen c =
 
 pub returns-clause-early : goal.returns-clause-early
 returns-clause-early c =
-    settled_early c.args.setting.now.problem.now c.args.setting.now.order.now c.requires.setting.topological c.args.items.now c.loop-item.item-index c.loop-item.frozen c.loop-item.invariant.settled c.requires.setting.admitted.1.limits
+    settled_early c.args.setting.now.problem.now c.args.setting.now.order.now c.requires.setting.topological c.args.items.now c.loop-item.item-index c.loop-item.frozen c.loop-item.invariant.settled
+    c.requires.setting.admitted.1.limits
 
 pub advance-requires-clause-scenarios : goal.advance-requires-clause-scenarios
 advance-requires-clause-scenarios c =

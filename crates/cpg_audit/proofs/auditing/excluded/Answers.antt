@@ -44,7 +44,9 @@ loop-timed-preserved c =
           c.narrow.ensures s (rw c.deref.ensures.value window) (c.in_ok-take_off_all.ensures.space s (inv.left s lies) off);
       known =
           let cubes : All (IsKnown c.args.problem.now) (f x.item) = excluded_known c.args.problem.now c.args.tables.now.nodes c.args.log.now x.item (c.requires x.item) in
-          c.in_ok-take_off_all.ensures.known c.args.problem.now (rw c.as_slice.ensures.value (all_unmapped (IsKnown c.args.problem.now) (λ (b : Bor (List Literal)). b.now) c.in_ok-by.by.items (subst (All (IsKnown c.args.problem.now)) (sym one) cubes))) inv.known;
+          c.in_ok-take_off_all.ensures.known c.args.problem.now
+          (rw c.as_slice.ensures.value (all_unmapped (IsKnown c.args.problem.now) (λ (b : Bor (List Literal)). b.now) c.in_ok-by.by.items
+          (subst (All (IsKnown c.args.problem.now)) (sym one) cubes))) inv.known;
     }
 
 pub returns-clause-same : goal.returns-clause-same

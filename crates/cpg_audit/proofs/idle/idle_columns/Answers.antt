@@ -21,5 +21,6 @@ returns-clause-known c =
     c.in_ok-columns.columns.items c.in_ok-columns.ensures.tidy
 
 pub returns-clause-idle : goal.returns-clause-idle
-returns-clause-idle c = idle_columns c.args.admitted.now.graph c.args.item c.in_ok-active.active c.in_ok-active.ensures.tree c.in_ok-active.ensures.active c.in_ok-idle.idle c.in_ok-idle.ensures.is c.in_ok-idle.ensures.each
+returns-clause-idle c = idle_columns c.args.admitted.now.graph c.args.item c.in_ok-active.active c.in_ok-active.ensures.tree c.in_ok-active.ensures.active c.in_ok-idle.idle c.in_ok-idle.ensures.is
+    c.in_ok-idle.ensures.each
     c.in_ok-columns.columns.items c.in_ok-columns.ensures.all

@@ -18,5 +18,6 @@ loop-bound-preserved c =
     let P = λ (b : LiteralBound). IsVariable c.args.problem.now (variable_of b) in
     record {
       known = subst (All P) (sym c.in_ok-push.ensures.items) (All-push P c.loop-bound.left.items _ c.loop-bound.invariant.known (c.requires.bounds c.loop-bound.bound-index _ c.loop-bound-test.true));
-      left = λ s test law m off. kept_more test c.args.bounds.now c.loop-bound.bound-index _ c.loop-bound-test.true c.loop-bound.left.items (c.loop-bound.invariant.left s test law m off) c.push.new.self.items c.in_ok-push.ensures.items;
+      left = λ s test law m off. kept_more test c.args.bounds.now c.loop-bound.bound-index _ c.loop-bound-test.true c.loop-bound.left.items
+          (c.loop-bound.invariant.left s test law m off) c.push.new.self.items c.in_ok-push.ensures.items;
     }

@@ -15,15 +15,21 @@ use Rattle.cpg_row_trees.proofs.gathering.+gather_each.Goals as goal
 pub returns-then-not-is_open_below-clause-found : goal.returns-then-not-is_open_below-clause-found
 returns-then-not-is_open_below-clause-found g t c =
     let room : Space = c.args.space.now in
-    of_true c.in_ok-all-in-Fork.all (subst (λ (n : TreeNode (Option ℕ)). OnTrue c.in_ok-all-in-Fork.all (IsToldAll (λ (x : Option ℕ) (s : Scenario). g.J.Test.tells c.args.test.now x s × IsAmong c.gather_each.new.found.items x) room n)) (same_above c.deref.ensures) c.in_ok-all-in-Fork.ensures.found)
-    (λ all. told_above (λ (x : Option ℕ) (s : Scenario). g.J.Test.tells c.args.test.now x s × IsAmong c.gather_each.new.found.items x) room c.in-Fork.variable c.in-Fork.cut c.in-Fork.sides.value.0 c.in-Fork.sides.value.1 c.args.node.now c.in-Fork.is all
+    of_true c.in_ok-all-in-Fork.all (subst (λ (n : TreeNode (Option ℕ)). OnTrue c.in_ok-all-in-Fork.all
+    (IsToldAll (λ (x : Option ℕ) (s : Scenario). g.J.Test.tells c.args.test.now x s × IsAmong c.gather_each.new.found.items x) room n))
+    (same_above c.deref.ensures) c.in_ok-all-in-Fork.ensures.found)
+    (λ all. told_above (λ (x : Option ℕ) (s : Scenario). g.J.Test.tells c.args.test.now x s × IsAmong c.gather_each.new.found.items x) room c.in-Fork.variable c.in-Fork.cut c.in-Fork.sides.value.0
+    c.in-Fork.sides.value.1 c.args.node.now c.in-Fork.is all
     (from_false c.is_open_below.result c.if-not-is_open_below.true c.is_open_below.ensures.none))
 
 pub returns-then-not-is_open_above-clause-found : goal.returns-then-not-is_open_above-clause-found
 returns-then-not-is_open_above-clause-found g t c =
     let room : Space = c.args.space.now in
-    of_true c.in_ok-all-in-Fork-2.all (subst (λ (n : TreeNode (Option ℕ)). OnTrue c.in_ok-all-in-Fork-2.all (IsToldAll (λ (x : Option ℕ) (s : Scenario). g.J.Test.tells c.args.test.now x s × IsAmong c.gather_each-then-not-is_open_above.new.found.items x) room n)) (same_below c.deref.ensures) c.in_ok-all-in-Fork-2.ensures.found)
-    (λ all. told_below (λ (x : Option ℕ) (s : Scenario). g.J.Test.tells c.args.test.now x s × IsAmong c.gather_each-then-not-is_open_above.new.found.items x) room c.in-Fork.variable c.in-Fork.cut c.in-Fork.sides.value.0 c.in-Fork.sides.value.1 c.args.node.now c.in-Fork.is all
+    of_true c.in_ok-all-in-Fork-2.all (subst (λ (n : TreeNode (Option ℕ)). OnTrue c.in_ok-all-in-Fork-2.all
+    (IsToldAll (λ (x : Option ℕ) (s : Scenario). g.J.Test.tells c.args.test.now x s × IsAmong c.gather_each-then-not-is_open_above.new.found.items x) room n))
+    (same_below c.deref.ensures) c.in_ok-all-in-Fork-2.ensures.found)
+    (λ all. told_below (λ (x : Option ℕ) (s : Scenario). g.J.Test.tells c.args.test.now x s × IsAmong c.gather_each-then-not-is_open_above.new.found.items x) room c.in-Fork.variable c.in-Fork.cut
+    c.in-Fork.sides.value.0 c.in-Fork.sides.value.1 c.args.node.now c.in-Fork.is all
     (from_false c.is_open_above.result c.if-not-is_open_above.true c.is_open_above.ensures.none))
 
 pub returns-else-not-high-clause-found : goal.returns-else-not-high-clause-found
@@ -39,7 +45,11 @@ returns-else-not-high-clause-found g t c =
     let same : c.gather_each-in-Fork.new.space ≡ under = OnTrue_at c.if-not-low.false c.in_ok-low-in-Fork.ensures.same in
     let back : again ≡ room = above_again room under c.gather_each-in-Fork.new.space again v same c.close_above-most.result c.reopen_above.ensures c.close_above-most.ensures.back in
     let goes_over = goes_again room again over v cut back c.close_below-was.ensures.lies in
-    let low : IsToldAll (λ (x : Option ℕ) (s : Scenario). g.J.Test.tells c.args.test.now x s × IsAmong some x) under c.in-Fork.sides.value.0 = OnTrue_at c.if-not-low.false (subst (λ (n : TreeNode (Option ℕ)). OnTrue c.in_ok-low-in-Fork.low (IsToldAll (λ (x : Option ℕ) (s : Scenario). g.J.Test.tells c.args.test.now x s × IsAmong some x) under n)) (same_below c.deref.ensures) c.in_ok-low-in-Fork.ensures.found) in
-    let high : IsToldAll (λ (x : Option ℕ) (s : Scenario). g.J.Test.tells c.args.test.now x s × IsAmong all x) over c.in-Fork.sides.value.1 = OnTrue_at c.if-not-high.false (subst (λ (n : TreeNode (Option ℕ)). OnTrue c.in_ok-high-in-Fork.high (IsToldAll (λ (x : Option ℕ) (s : Scenario). g.J.Test.tells c.args.test.now x s × IsAmong all x) over n)) (same_above c.deref.ensures) c.in_ok-high-in-Fork.ensures.found) in
+    let low : IsToldAll (λ (x : Option ℕ) (s : Scenario). g.J.Test.tells c.args.test.now x s × IsAmong some x) under c.in-Fork.sides.value.0 =
+    OnTrue_at c.if-not-low.false (subst (λ (n : TreeNode (Option ℕ)). OnTrue c.in_ok-low-in-Fork.low
+    (IsToldAll (λ (x : Option ℕ) (s : Scenario). g.J.Test.tells c.args.test.now x s × IsAmong some x) under n)) (same_below c.deref.ensures) c.in_ok-low-in-Fork.ensures.found) in
+    let high : IsToldAll (λ (x : Option ℕ) (s : Scenario). g.J.Test.tells c.args.test.now x s × IsAmong all x) over c.in-Fork.sides.value.1 =
+    OnTrue_at c.if-not-high.false (subst (λ (n : TreeNode (Option ℕ)). OnTrue c.in_ok-high-in-Fork.high
+    (IsToldAll (λ (x : Option ℕ) (s : Scenario). g.J.Test.tells c.args.test.now x s × IsAmong all x) over n)) (same_above c.deref.ensures) c.in_ok-high-in-Fork.ensures.found) in
     told_fork (λ (x : Option ℕ) (s : Scenario). g.J.Test.tells c.args.test.now x s × IsAmong all x) room v cut c.in-Fork.sides.value.0 c.in-Fork.sides.value.1 c.args.node.now c.in-Fork.is
     (λ s lies h. let r = low s (c.close_above-most.ensures.lies s lies h) in (r.0, among_more some all c.in_ok-high-in-Fork.ensures.kept _ r.1)) (λ s lies h. high s (goes_over s lies h))

@@ -29,7 +29,8 @@ forked-returns t c =
     let all = places_of c.args.spots.items in
     let rest = c.left_after-rest.result in
     let below : IsSorted cubes under low rest c.in-Some.below = subst (λ (o : Option Sorted). IfSome o (IsSorted cubes under low rest)) c.in-Some.is c.in_ok-below.ensures.sorted in
-    let above : IsSorted cubes over high c.in-Some.below.left c.in-Some-2.above = subst (λ (o : Option Sorted). IfSome o (IsSorted cubes over high c.in-Some.below.left)) c.in-Some-2.is c.in_ok-above.ensures.sorted in
+    let above : IsSorted cubes over high c.in-Some.below.left c.in-Some-2.above = subst (λ (o : Option Sorted). IfSome o (IsSorted cubes over high c.in-Some.below.left)) c.in-Some-2.is
+    c.in_ok-above.ensures.sorted in
     let same_over : c.sorted_out-2.new.space ≡ over = subst (λ (o : Option Sorted). IfSome o (λ (r : Sorted). c.sorted_out-2.new.space ≡ over)) c.in-Some-2.is c.in_ok-above.ensures.same in
     let keeps_below : KeepsWhere cubes (λ s. number_of s v ≤ cut) all low =
     subst (λ (x : PlaceCut). KeepsWhere cubes (λ s. number_of s x.variable ≤ x.most) all low) c.span_of-span.ensures (rw c.as_slice.ensures.value at c.in_ok-sides.ensures.low) in

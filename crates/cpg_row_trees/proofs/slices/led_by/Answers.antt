@@ -16,5 +16,7 @@ led-requires c = record {
 pub returns-in-Some : goal.returns-in-Some
 returns-in-Some c s few =
     let cubes : List (List Literal) = map (λ (b : Bor (List Literal)). b.now) c.args.cubes.now in
-    let led : IsLed cubes c.args.k c.whole-space.result 0 (length c.args.cubes.now) c.args.nodes c.in-Some.sorted = subst (λ (o : Option Sorted). IfSome o (IsLed cubes c.args.k c.whole-space.result 0 (length c.args.cubes.now) c.args.nodes)) c.in-Some.is c.in_ok-sorted.ensures.led in
-    tells_of_leads cubes c.args.k c.whole-space.result s few (c.whole-space.ensures.lies s few) (length c.args.cubes.now) (omega (arith, length-map c.args.cubes.now (λ (b : Bor (List Literal)). b.now))) c.in-Some.sorted.node led.leads
+    let led : IsLed cubes c.args.k c.whole-space.result 0 (length c.args.cubes.now) c.args.nodes c.in-Some.sorted =
+    subst (λ (o : Option Sorted). IfSome o (IsLed cubes c.args.k c.whole-space.result 0 (length c.args.cubes.now) c.args.nodes)) c.in-Some.is c.in_ok-sorted.ensures.led in
+    tells_of_leads cubes c.args.k c.whole-space.result s few (c.whole-space.ensures.lies s few) (length c.args.cubes.now)
+    (omega (arith, length-map c.args.cubes.now (λ (b : Bor (List Literal)). b.now))) c.in-Some.sorted.node led.leads

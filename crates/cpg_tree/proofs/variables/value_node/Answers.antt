@@ -12,4 +12,5 @@ returns-clause-value c = of_answer c.fork.result (IsForkOf (128 + c.args.conditi
 
 pub returns-clause-fit : goal.returns-clause-fit
 returns-clause-fit c = of_answer c.fork.result _ _ c.fork.ensures.fit
-    (λ r fit k room whole. fit room (value_open_below k room whole (128 + c.args.condition) (omega arith) (omega (arith, c.requires))) (value_open_above k room whole (128 + c.args.condition) (omega arith) (omega (arith, c.requires))) tt tt)
+    (λ r fit k room whole. fit room (value_open_below k room whole (128 + c.args.condition) (omega arith) (omega (arith, c.requires)))
+    (value_open_above k room whole (128 + c.args.condition) (omega arith) (omega (arith, c.requires))) tt tt)

@@ -19,7 +19,8 @@ pub returns-clause-all : goal.returns-clause-all
 returns-clause-all c =
     let k : ℕ = c.args.tree.now.faults in
     let root : TreeNode (Option ℕ) = c.root.result.now in
-    c.in_ok-push_columns.ensures.columns ∙ ap₂ ◌++◌ (c.in_ok-reserve.ensures.items ∙ c.new-columns.ensures.items) (ap₂ (λ (m : ℕ) (cube : List Literal). columns_from m cube root) c.faults.ensures c.whole-whole.ensures)
+    c.in_ok-push_columns.ensures.columns ∙ ap₂ ◌++◌ (c.in_ok-reserve.ensures.items ∙ c.new-columns.ensures.items)
+    (ap₂ (λ (m : ℕ) (cube : List Literal). columns_from m cube root) c.faults.ensures c.whole-whole.ensures)
     ∙ all_columns k root c.root.ensures.good ∙ ap columns_of_paths (sym c.root.ensures.paths)
 
 pub returns-clause-tidy : goal.returns-clause-tidy
@@ -30,7 +31,8 @@ returns-clause-tidy c =
     let same : k ≡ g.faults = c.requires.faults in
     let paths : c.args.tree.now.paths ≡ paths_of g.faults root = c.root.ensures.paths ∙ ap (λ (m : ℕ). paths_of m root) same in
     let is : c.push_columns.new.columns.items ≡ columns_of_paths (paths_of g.faults root) =
-    c.in_ok-push_columns.ensures.columns ∙ ap₂ ◌++◌ (c.in_ok-reserve.ensures.items ∙ c.new-columns.ensures.items) (ap₂ (λ (m : ℕ) (cube : List Literal). columns_from m cube root) c.faults.ensures c.whole-whole.ensures)
+    c.in_ok-push_columns.ensures.columns ∙ ap₂ ◌++◌ (c.in_ok-reserve.ensures.items ∙ c.new-columns.ensures.items)
+    (ap₂ (λ (m : ℕ) (cube : List Literal). columns_from m cube root) c.faults.ensures c.whole-whole.ensures)
     ∙ all_columns k root c.root.ensures.good ∙ ap (λ (m : ℕ). columns_of_paths (paths_of m root)) same in
     tidy_columns g c.processes-processes.ensures.within.few_processes root (subst (λ (m : ℕ). IsGood m root) same c.root.ensures.good)
     (subst (All (λ (p : Path (Option ℕ)). IsKnown g p.0)) paths c.requires.known) c.push_columns.new.columns.items

@@ -18,9 +18,11 @@ returns-then-not-is_open_below-clause-most t c =
 pub returns-then-not-is_open_above-clause-most : goal.returns-then-not-is_open_above-clause-most
 returns-then-not-is_open_above-clause-most t c =
     let room : Space = c.args.space.now in
-    most_low c.in-Fork.variable c.in-Fork.cut (omega arith) c.in-Fork.sides.value.0 c.in-Fork.sides.value.1 c.args.node.now c.in-Fork.is c.args.wanted.now room c.args.best c.most_in-then-not-is_open_above.result
+    most_low c.in-Fork.variable c.in-Fork.cut (omega arith) c.in-Fork.sides.value.0 c.in-Fork.sides.value.1 c.args.node.now c.in-Fork.is c.args.wanted.now room c.args.best
+    c.most_in-then-not-is_open_above.result
     (from_false c.is_open_above.result c.if-not-is_open_above.true c.is_open_above.ensures.none)
-    (subst (λ (n : TreeNode (Option ℕ)). IsMostIn room n c.args.wanted.now c.args.best c.most_in-then-not-is_open_above.result) (same_below c.deref.ensures) c.most_in-then-not-is_open_above.ensures.most)
+    (subst (λ (n : TreeNode (Option ℕ)). IsMostIn room n c.args.wanted.now c.args.best c.most_in-then-not-is_open_above.result)
+    (same_below c.deref.ensures) c.most_in-then-not-is_open_above.ensures.most)
 
 pub returns-then-holds_in-clause-most : goal.returns-then-holds_in-clause-most
 returns-then-holds_in-clause-most t c =
@@ -34,9 +36,12 @@ returns-else-holds_in-clause-most t c =
 pub returns-else-not-is_open_above-clause-most : goal.returns-else-not-is_open_above-clause-most
 returns-else-not-is_open_above-clause-most t c =
     let room : Space = c.args.space.now in
-    let back : c.reopen_above.new.self ≡ room = c.reopen_above.ensures ∙ ap (λ (r : Space). below_cut r c.in-Fork.variable c.close_above-most.result) c.most_in-low.ensures.back ∙ c.close_above-most.ensures.back in
-    let upper : c.close_below-least.new.self ≡ above_cut room c.in-Fork.variable c.in-Fork.cut = c.close_below-least.ensures.is ∙ ap (λ (r : Space). above_cut r c.in-Fork.variable c.in-Fork.cut) back in
-    most_both c.in-Fork.variable c.in-Fork.cut (omega arith) c.in-Fork.sides.value.0 c.in-Fork.sides.value.1 c.args.node.now c.in-Fork.is c.args.wanted.now room c.args.best c.most_in-low.result c.most_in-high.result
+    let back : c.reopen_above.new.self ≡ room = c.reopen_above.ensures ∙ ap (λ (r : Space). below_cut r c.in-Fork.variable c.close_above-most.result) c.most_in-low.ensures.back ∙
+    c.close_above-most.ensures.back in
+    let upper : c.close_below-least.new.self ≡ above_cut room c.in-Fork.variable c.in-Fork.cut = c.close_below-least.ensures.is ∙
+    ap (λ (r : Space). above_cut r c.in-Fork.variable c.in-Fork.cut) back in
+    most_both c.in-Fork.variable c.in-Fork.cut (omega arith) c.in-Fork.sides.value.0 c.in-Fork.sides.value.1 c.args.node.now c.in-Fork.is c.args.wanted.now room c.args.best c.most_in-low.result
+    c.most_in-high.result
     (sym c.is_open_below.ensures.is ∙ c.if-not-is_open_below.false) (sym c.is_open_above.ensures.is ∙ c.if-not-is_open_above.false)
     (λ s lies h. subst (λ (r : Space). Lies r s) c.close_above-most.ensures.is (c.close_above-most.ensures.lies s lies h))
     (λ s lies h. subst (λ (r : Space). Lies r s) upper
@@ -45,4 +50,5 @@ returns-else-not-is_open_above-clause-most t c =
     (subst (λ (r : Space). IsMostIn r c.in-Fork.sides.value.0 c.args.wanted.now c.args.best c.most_in-low.result) c.close_above-most.ensures.is
     (subst (λ (n : TreeNode (Option ℕ)). IsMostIn c.close_above-most.new.self n c.args.wanted.now c.args.best c.most_in-low.result) (same_below c.deref.ensures) c.most_in-low.ensures.most))
     (subst (λ (r : Space). IsMostIn r c.in-Fork.sides.value.1 c.args.wanted.now c.most_in-low.result c.most_in-high.result) upper
-    (subst (λ (n : TreeNode (Option ℕ)). IsMostIn c.close_below-least.new.self n c.args.wanted.now c.most_in-low.result c.most_in-high.result) (same_above c.deref.ensures) c.most_in-high.ensures.most))
+    (subst (λ (n : TreeNode (Option ℕ)). IsMostIn c.close_below-least.new.self n c.args.wanted.now c.most_in-low.result c.most_in-high.result)
+    (same_above c.deref.ensures) c.most_in-high.ensures.most))

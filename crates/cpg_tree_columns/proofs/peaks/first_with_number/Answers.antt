@@ -15,7 +15,8 @@ use Rattle.cpg_tree_columns.proofs.peaks.first_with_number.Goals as goal
 
 pub returns-in_default-clause-none : goal.returns-in_default-clause-none
 returns-in_default-clause-none c k d l =
-    no_numbers c.args.tree.now.paths c.in_ok-columns.columns.items (permutation_of_equal (columns_of_paths c.args.tree.now.paths) c.in_ok-columns.columns.items (sym c.in_ok-columns.ensures.all)) (sym c.as_slice-columns.ensures.value ∙ rw c.in_default.is at c.in_ok-place.ensures.none) (get_or c.args.tree.now.paths k d) (Contains-get_or c.args.tree.now.paths k d l)
+    no_numbers c.args.tree.now.paths c.in_ok-columns.columns.items (permutation_of_equal (columns_of_paths c.args.tree.now.paths) c.in_ok-columns.columns.items (sym c.in_ok-columns.ensures.all))
+    (sym c.as_slice-columns.ensures.value ∙ rw c.in_default.is at c.in_ok-place.ensures.none) (get_or c.args.tree.now.paths k d) (Contains-get_or c.args.tree.now.paths k d l)
 
 pub returns-clause-some : goal.returns-clause-some
 returns-clause-some c =

@@ -26,8 +26,10 @@ returns-clause-none c =
     let all : TreeState (Option ℕ) = c.args.tree.now in
     let only : TreeState (Option ℕ) = c.in_ok-alone.alone in
     let same : c.args.tree.now.faults ≡ g.faults = c.requires.faults in
-    let is : record { faults = g.faults; paths = paths_of g.faults root } ≡ all = subst (λ (n : ℕ). record { faults = n; paths = paths_of n root } ≡ all) same (state_seen c.args.tree.now c.root-root.result.now c.root-root.ensures.paths) in
-    of_answer c.first_with_number.result (λ (r : Option Scenario). IfNone r (All (λ (p : Path (Option ℕ)). p.1 ≡ None) only.paths)) (λ (r : Option Scenario). IfNone r (All (λ (p : Path (Option ℕ)). p.1 ≢ Some c.args.wanted) all.paths)) c.first_with_number.ensures.none
+    let is : record { faults = g.faults; paths = paths_of g.faults root } ≡ all = subst (λ (n : ℕ). record { faults = n; paths = paths_of n root } ≡ all) same
+    (state_seen c.args.tree.now c.root-root.result.now c.root-root.ensures.paths) in
+    of_answer c.first_with_number.result (λ (r : Option Scenario). IfNone r (All (λ (p : Path (Option ℕ)). p.1 ≡ None) only.paths))
+    (λ (r : Option Scenario). IfNone r (All (λ (p : Path (Option ℕ)). p.1 ≢ Some c.args.wanted) all.paths)) c.first_with_number.ensures.none
     (listed_none g root (subst (λ (n : ℕ). IsGood n root) same c.root-root.ensures.good) c.args.wanted all only is
     (subst (λ (n : ℕ). HasOnePathEach n only.paths) (c.in_ok-alone.ensures.is.faults ∙ c.requires.faults) c.in_ok-alone.ensures.each) c.in_ok-alone.ensures.is
     c.processes-processes.ensures.within.few_processes
@@ -41,7 +43,9 @@ returns-clause-some c =
     let all : TreeState (Option ℕ) = c.args.tree.now in
     let only : TreeState (Option ℕ) = c.in_ok-alone.alone in
     let same : c.args.tree.now.faults ≡ g.faults = c.requires.faults in
-    let is : record { faults = g.faults; paths = paths_of g.faults root } ≡ all = subst (λ (n : ℕ). record { faults = n; paths = paths_of n root } ≡ all) same (state_seen c.args.tree.now c.root-root.result.now c.root-root.ensures.paths) in
-    of_answer c.first_with_number.result (λ (r : Option Scenario). IfSome r (IsLeast g order (HasNumber only.paths))) (λ (r : Option Scenario). IfSome r (IsLeast g order (HasValue all.paths (Some c.args.wanted)))) c.first_with_number.ensures.some
+    let is : record { faults = g.faults; paths = paths_of g.faults root } ≡ all = subst (λ (n : ℕ). record { faults = n; paths = paths_of n root } ≡ all) same
+    (state_seen c.args.tree.now c.root-root.result.now c.root-root.ensures.paths) in
+    of_answer c.first_with_number.result (λ (r : Option Scenario). IfSome r (IsLeast g order (HasNumber only.paths)))
+    (λ (r : Option Scenario). IfSome r (IsLeast g order (HasValue all.paths (Some c.args.wanted)))) c.first_with_number.ensures.some
     (listed_some g root (subst (λ (n : ℕ). IsGood n root) same c.root-root.ensures.good) c.args.wanted all only is
     (subst (λ (n : ℕ). HasOnePathEach n only.paths) (c.in_ok-alone.ensures.is.faults ∙ c.requires.faults) c.in_ok-alone.ensures.each) c.in_ok-alone.ensures.is order)

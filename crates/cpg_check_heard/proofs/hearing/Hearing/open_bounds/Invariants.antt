@@ -11,6 +11,7 @@ use Rattle.cpg_check_heard.proofs.hearing.Hearing.open_bounds.Given as goal
 abbrev pub invariant-loop-literal : goal.invariant-loop-literal
 invariant-loop-literal l = record {
   known : All (λ (b : LiteralBound). IsVariable l.self.admitted.now.graph (variable_of b)) l.bounds.items;
-  unheard : (s : Scenario) → IsScenario l.self.admitted.now.graph s → matches l.column.cube s ≡ true → is_one_untold l.self.admitted.now.graph l.self.tables.now.nodes l.node l.column.time l.bounds.items s
+  unheard : (s : Scenario) → IsScenario l.self.admitted.now.graph s → matches l.column.cube s ≡ true →
+      is_one_untold l.self.admitted.now.graph l.self.tables.now.nodes l.node l.column.time l.bounds.items s
       ≡ list_any (is_literal_unheard l.self.admitted.now.graph l.self.tables.now.nodes l.node l.column.time s) (take l.literal-index l.column.cube);
 }

@@ -10,6 +10,7 @@ use Rattle.cpg_check_heard.proofs.hearing.Hearing.unframed.Given as goal
 abbrev pub invariant-loop-rank : goal.invariant-loop-rank
 invariant-loop-rank l = record {
   known : All (λ (b : LiteralBound). IsVariable l.self.admitted.now.graph (variable_of b)) l.left.items;
-  untold : (s : Scenario) → IsScenario l.self.admitted.now.graph s → matches l.column.cube s ≡ true → is_one_untold l.self.admitted.now.graph l.self.tables.now.nodes l.node l.column.time l.left.items s
+  untold : (s : Scenario) → IsScenario l.self.admitted.now.graph s → matches l.column.cube s ≡ true →
+      is_one_untold l.self.admitted.now.graph l.self.tables.now.nodes l.node l.column.time l.left.items s
       ≡ is_one_untold l.self.admitted.now.graph l.self.tables.now.nodes l.node l.column.time l.fn.bounds.items s;
 }

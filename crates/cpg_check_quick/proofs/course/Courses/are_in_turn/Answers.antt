@@ -4,7 +4,8 @@ use Rattle.cpg_check_quick.proofs.OrderLaws.{course_at, turn_step}
 use Rattle.cpg_check_quick.proofs.course.Courses.are_in_turn.Goals as goal
 
 pub loop-place-preserved : goal.loop-place-preserved
-loop-place-preserved c = turn_step c.args.self.now c.args.items.now c.loop-place.place c.loop-place.start c.next_start-start.result c.in-Some.course.now.is_always c.next_start-start.ensures c.loop-place-test.true
+loop-place-preserved c = turn_step c.args.self.now c.args.items.now c.loop-place.place c.loop-place.start c.next_start-start.result c.in-Some.course.now.is_always c.next_start-start.ensures
+    c.loop-place-test.true
     (λ g tables lasts are e.
     let course = course_at are (get_or c.args.items.now c.loop-place.place 0) c.in-Some.course.now c.deref.result.now c.deref.ensures.value c.in-Some.ensures.lookup.3.0 c.in-Some.ensures.lookup.1 in
     (course.always e, course.item))

@@ -9,4 +9,5 @@ returns-then-are_in_turn c = λ g tables lasts are present.
     subst (IsInTurn lasts g tables) (sym same) (OnTrue_at c.if-are_in_turn.true c.are_in_turn.ensures g tables lasts are present)
 
 pub returns-then-are_in_turn-2 : goal.returns-then-are_in_turn-2
-returns-then-are_in_turn-2 c = λ g tables lasts are present. subst (IsInTurn lasts g tables) c.as_slice.ensures.value (OnTrue_at c.if-are_in_turn-2.true c.are_in_turn-2.ensures g tables lasts are present)
+returns-then-are_in_turn-2 c = λ g tables lasts are present. subst (IsInTurn lasts g tables) c.as_slice.ensures.value
+    (OnTrue_at c.if-are_in_turn-2.true c.are_in_turn-2.ensures g tables lasts are present)

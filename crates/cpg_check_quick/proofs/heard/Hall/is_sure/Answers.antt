@@ -13,7 +13,8 @@ use Rattle.cpg_check_quick.proofs.heard.Hall.is_sure.Goals as goal
 
 pub returns-then-are_all_known : goal.returns-then-are_all_known
 returns-then-are_all_known c = λ tables turns frames rules sent is.
-    known_sure c.args.self.now.admitted.now.graph tables rules c.args.item c.requires.item c.problem-problem.ensures.admitted.limits.few_processes c.own_ended-known.result (c.own_ended-known.ensures tables turns rules sent)
+    known_sure c.args.self.now.admitted.now.graph tables rules c.args.item c.requires.item c.problem-problem.ensures.admitted.limits.few_processes c.own_ended-known.result
+    (c.own_ended-known.ensures tables turns rules sent)
     (subst (All (λ (d : Column). All (λ (l : Literal). get_or c.own_ended-known.result l.variable false ≡ true) d.cube)) is (OnTrue_at c.if-are_all_known.true c.are_all_known.ensures))
 
 pub returns : goal.returns
@@ -28,4 +29,5 @@ returns c = of_true c.in_ok-heard.heard c.in_ok-heard.ensures (λ all tables tur
       known = c.own_ended-known.ensures tables turns rules sent;
       speakers = told tables frames;
     }) rules is in
-    heard_sure g tables c.args.item (λ d l k h. subst (λ n. IsAllHeard g tables n d) node (All-contains (IsAllHeard g tables c.home-node.result) (columns_of tables c.args.item) d (subst (All (IsAllHeard g tables c.home-node.result)) is heard) k) l h))
+    heard_sure g tables c.args.item (λ d l k h. subst (λ n. IsAllHeard g tables n d) node
+    (All-contains (IsAllHeard g tables c.home-node.result) (columns_of tables c.args.item) d (subst (All (IsAllHeard g tables c.home-node.result)) is heard) k) l h))

@@ -29,7 +29,8 @@ returns c = of_true c.are_over.result c.are_over.ensures (λ over tables x is ru
     let lies : (s : Scenario) → IsScenario g s → matches column.cube s ≡ true → Lies c.narrow_to.new.self s = λ s law m. fits s (is.turns.courses.everywhere.lies s law) m in
     let wanted : List Literal = c.list_unknown.new.bounds.items in
     let left : List Literal = c.listen.new.wanted.items in
-    let listed : wanted ≡ flat_map (unknown_bounds g.faults known) column.cube = rw (c.literals-literals.ensures.literals, c.faults.ensures.faults, c.problem-problem.ensures.problem) at c.in_ok-list_unknown.ensures in
+    let listed : wanted ≡ flat_map (unknown_bounds g.faults known) column.cube = rw (c.literals-literals.ensures.literals, c.faults.ensures.faults, c.problem-problem.ensures.problem) at
+    c.in_ok-list_unknown.ensures in
     let wider : AreToldIn column.cube wanted = all_wider g tables node column known wanted listed in
     let told : AreLeft g tables (home g x) column wanted left = subst (λ n. AreLeft g tables n column wanted left) is.node (c.in_ok-listen.ensures g tables is.speakers wider lies) in
     let ended = rw (c.as_slice.ensures.value, is.node) at over in

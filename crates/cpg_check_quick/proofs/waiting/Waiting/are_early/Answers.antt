@@ -9,4 +9,5 @@ loop-edge-preserved c = λ tables s w law. All-more (λ e. IsInputOver c.args.se
     (c.loop-edge.invariant tables s w law) (OnTrue_at c.if-not-is_early.false c.is_early.ensures tables s w law)
 
 pub returns : goal.returns
-returns c = λ tables s w law. each_all (λ e. IsInputOver c.args.self.now.admitted.now.graph tables e c.args.time s) c.args.edges.now c.loop-edge.edge-index c.loop-edge-test.false (c.loop-edge.invariant tables s w law)
+returns c = λ tables s w law. each_all (λ e. IsInputOver c.args.self.now.admitted.now.graph tables e c.args.time s) c.args.edges.now c.loop-edge.edge-index c.loop-edge-test.false
+    (c.loop-edge.invariant tables s w law)

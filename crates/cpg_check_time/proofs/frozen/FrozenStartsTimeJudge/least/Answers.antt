@@ -8,7 +8,13 @@ use Rattle.cpg_check_time.proofs.FrozenLaws.{frozen_none, frozen_same, frozen_fi
 use Rattle.cpg_check_time.proofs.frozen.FrozenStartsTimeJudge.least.Goals as goal
 
 pub index-requires : goal.index-requires
-index-requires c = omega (arith, c.requires.item, ap length c.requires.suits, length-map-range_with_len (frozen_time c.args.admitted.now.graph c.args.tables.now.nodes) 0 (item_count c.args.admitted.now.graph))
+index-requires c = omega (
+  arith,
+  c.requires.item,
+  ap length c.requires.suits,
+  length-map-range_with_len (frozen_time c.args.admitted.now.graph c.args.tables.now.nodes) 0
+      (item_count c.args.admitted.now.graph),
+)
 
 pub returns-in_default : goal.returns-in_default
 returns-in_default c =
@@ -23,5 +29,7 @@ returns-then-time-column c =
 pub returns : goal.returns
 returns c =
     let at = c.index.ensures ∙ time_at c.args.admitted.now.graph c.args.tables.now.nodes c.args.self.now.times.items c.args.item c.index.result.now c.requires.suits c.requires.item in
-    let first : IsFirst c.args.admitted.now.graph c.args.admitted.now.order (matches c.args.column.now.cube) c.in_ok-least.least = rw (← c.problem.ensures.problem) (c.in_ok-least.ensures.first c.args.admitted.now.order) in
-    frozen_first c.args.admitted.now.graph c.args.admitted.now.order c.args.tables.now.nodes c.args.item c.args.column.now c.in-Some.time (sym at ∙ c.in-Some.is) c.if-time-column.false c.in_ok-least.least first
+    let first : IsFirst c.args.admitted.now.graph c.args.admitted.now.order (matches c.args.column.now.cube) c.in_ok-least.least =
+    rw (← c.problem.ensures.problem) (c.in_ok-least.ensures.first c.args.admitted.now.order) in
+    frozen_first c.args.admitted.now.graph c.args.admitted.now.order c.args.tables.now.nodes c.args.item c.args.column.now c.in-Some.time
+    (sym at ∙ c.in-Some.is) c.if-time-column.false c.in_ok-least.least first

@@ -1,7 +1,8 @@
 -- `new` makes the struct, and picks no bytes for it. Assumes `Logic`.
 use Rattle.std.proofs.Common.{ℕ, ◌≡◌}
 use base.Fml.{fsep, ftrue}
-use Rattle.cpg_history.proofs.Walks.{List, [], ◌∷◌, refl, proved, ‵, raw, ◌⊛◌, ◌$◌, ◌∵◌, !, qed, done, move, keep, split, fjoin, fpack, suffices, agg, enter, returns, no_more, and_then, unit_lit, alloc_all, pass_all, free_all, look_at, sets, owns, types_at, nothing, owned, makes, alive, says, Stays, walk_of, ends_at, empty, vunit}
+use Rattle.cpg_history.proofs.Walks.{List, [], ◌∷◌, refl, proved, ‵, raw, ◌⊛◌, ◌$◌, ◌∵◌, !, qed, done, move, keep, split, fjoin, fpack, suffices, agg, enter, returns, no_more, and_then, unit_lit}
+use Rattle.cpg_history.proofs.Walks.{alloc_all, pass_all, free_all, look_at, sets, owns, types_at, nothing, owned, makes, alive, says, Stays, walk_of, ends_at, empty, vunit}
 use Rattle.cpg_history.specs.contracts.taken.Taken.TheInside as inside
 use Rattle.cpg_history.specs.contracts.taken.Taken.TheInside.TheFields as fields
 use Rattle.cpg_history.specs.contracts.taken.Taken.new as f

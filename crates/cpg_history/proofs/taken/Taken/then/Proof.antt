@@ -1,7 +1,9 @@
 -- `then` makes the struct, and picks the bytes of its clause. Assumes `Logic`.
 use Rattle.std.proofs.Common.{ℕ, ◌++◌, ◌≡◌}
 use base.Fml.{fsep, ftrue}
-use Rattle.cpg_history.proofs.Walks.{List, [], ◌∷◌, refl, proved, named, ‵, raw, ◌⊛◌, ◌$◌, ◌∵◌, !, qed, done, move, keep, split, fjoin, fpack, suffices, agg, enter, returns, no_more, and_then, unit_lit, alloc_all, pass_all, free_all, look_at, sets, u8, RefOf, SliceRefOf, yes, owns, shr_vals, shr_Tells, shr_slice_vals, shr_slice_Tells, shr_slice_Lawful, plain, types_at, nothing, owned, makes, alive, says, Stays, stay_dropped, walk_of, ends_at, Goes-dropped, empty, vunit}
+use Rattle.cpg_history.proofs.Walks.{List, [], ◌∷◌, refl, proved, named, ‵, raw, ◌⊛◌, ◌$◌, ◌∵◌, !, qed, done, move, keep, split, fjoin, fpack, suffices, agg, enter, returns, no_more, and_then}
+use Rattle.cpg_history.proofs.Walks.{unit_lit, alloc_all, pass_all, free_all, look_at, sets, u8, RefOf, SliceRefOf, yes, owns, shr_vals, shr_Tells, shr_slice_vals, shr_slice_Tells, shr_slice_Lawful}
+use Rattle.cpg_history.proofs.Walks.{plain, types_at, nothing, owned, makes, alive, says, Stays, stay_dropped, walk_of, ends_at, Goes-dropped, empty, vunit}
 use Rattle.cpg_history.specs.contracts.taken.Taken.{the_row as R}
 use Rattle.cpg_history.specs.contracts.taken.Taken.TheInside as inside
 use Rattle.cpg_history.specs.contracts.taken.Taken.TheInside.TheFields as fields

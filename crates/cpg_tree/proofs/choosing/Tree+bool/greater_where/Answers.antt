@@ -10,12 +10,14 @@ pub returns-clause-is : goal.returns-clause-is
 returns-clause-is g c =
     let k : ℕ = c.faults-faults.result in
     let r : TreeNode g.row.V.Denot = c.in_ok-root.root in
-    let answers : g.row.T.Denot → g.row.U.Denot → g.row.V.Denot → Type 0 = λ x y z. g.F.Fn.post c.args.made.now (max (g.R.Reading.number c.args.read.now x) (g.S.Reading.number c.args.also.now y), tt) z in
+    let answers : g.row.T.Denot → g.row.U.Denot → g.row.V.Denot → Type 0 = λ x y z. g.F.Fn.post c.args.made.now
+    (max (g.R.Reading.number c.args.read.now x) (g.S.Reading.number c.args.also.now y), tt) z in
     of_answer c.of.result (λ t. t ≡ state k r) (IsJoinWhere answers c.args.none c.args.self.now c.args.tree.now c.args.other.now) c.of.ensures.is
     (λ t is. subst (IsJoinWhere answers c.args.none c.args.self.now c.args.tree.now c.args.other.now) (sym is)
     (where_seen c.root.result.now c.root-node.result.now c.root-other_node.result.now r c.args.self.now c.args.tree.now c.args.other.now
     c.root.ensures.paths c.root-node.ensures.paths c.root-other_node.ensures.paths k answers c.args.none c.faults-faults.ensures c.requires.first c.requires.second
-    c.root.ensures.good c.root-node.ensures.good c.root-other_node.ensures.good c.whole-space.result c.whole-space.ensures.is c.whole-space.ensures.lies c.in_ok-root.ensures.fit c.in_ok-root.ensures.made))
+    c.root.ensures.good c.root-node.ensures.good c.root-other_node.ensures.good c.whole-space.result c.whole-space.ensures.is c.whole-space.ensures.lies c.in_ok-root.ensures.fit
+    c.in_ok-root.ensures.made))
 
 pub returns-clause-pass : goal.returns-clause-pass
 returns-clause-pass g c =

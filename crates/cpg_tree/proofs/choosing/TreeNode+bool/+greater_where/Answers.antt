@@ -11,7 +11,8 @@ use Rattle.cpg_tree.proofs.choosing.TreeNode+bool.+greater_where.Goals as goal
 pub returns-then-not-is_open_below-clause-made : goal.returns-then-not-is_open_below-clause-made
 returns-then-not-is_open_below-clause-made g t c =
     let rooms : Rooms = c.args.rooms.now in
-    let answers : g.row.T.Denot → g.row.U.Denot → g.row.V.Denot → Type 0 = λ x y z. g.F.Fn.post c.args.how.now.made.now (max (g.R.Reading.number c.args.how.now.read.now x) (g.S.Reading.number c.args.how.now.other_reading.now y), tt) z in
+    let answers : g.row.T.Denot → g.row.U.Denot → g.row.V.Denot → Type 0 = λ x y z. g.F.Fn.post c.args.how.now.made.now
+    (max (g.R.Reading.number c.args.how.now.read.now x) (g.S.Reading.number c.args.how.now.other_reading.now y), tt) z in
     let a : TreeNode g.row.T.Denot = c.args.pair.now.own.node.now in
     let b : TreeNode g.row.U.Denot = c.args.pair.now.other.node.now in
     of_answer c.greater_where.result (IsJoinWhereOf answers c.args.none (LiesInBoth rooms) c.in-Fork.sides.value.1 a b) (IsJoinWhereOf answers c.args.none (LiesInBoth rooms) c.args.self.now a b)
@@ -22,18 +23,22 @@ returns-then-not-is_open_below-clause-made g t c =
 pub returns-then-not-is_open_above-clause-made : goal.returns-then-not-is_open_above-clause-made
 returns-then-not-is_open_above-clause-made g t c =
     let rooms : Rooms = c.args.rooms.now in
-    let answers : g.row.T.Denot → g.row.U.Denot → g.row.V.Denot → Type 0 = λ x y z. g.F.Fn.post c.args.how.now.made.now (max (g.R.Reading.number c.args.how.now.read.now x) (g.S.Reading.number c.args.how.now.other_reading.now y), tt) z in
+    let answers : g.row.T.Denot → g.row.U.Denot → g.row.V.Denot → Type 0 = λ x y z. g.F.Fn.post c.args.how.now.made.now
+    (max (g.R.Reading.number c.args.how.now.read.now x) (g.S.Reading.number c.args.how.now.other_reading.now y), tt) z in
     let a : TreeNode g.row.T.Denot = c.args.pair.now.own.node.now in
     let b : TreeNode g.row.U.Denot = c.args.pair.now.other.node.now in
-    of_answer c.greater_where-then-not-is_open_above.result (IsJoinWhereOf answers c.args.none (LiesInBoth rooms) c.in-Fork.sides.value.0 a b) (IsJoinWhereOf answers c.args.none (LiesInBoth rooms) c.args.self.now a b)
-    (subst (λ (n : TreeNode Bool). IfOk c.greater_where-then-not-is_open_above.result (IsJoinWhereOf answers c.args.none (LiesInBoth rooms) n a b)) (same_below c.deref.ensures) c.greater_where-then-not-is_open_above.ensures.made)
+    of_answer c.greater_where-then-not-is_open_above.result (IsJoinWhereOf answers c.args.none (LiesInBoth rooms) c.in-Fork.sides.value.0 a b)
+    (IsJoinWhereOf answers c.args.none (LiesInBoth rooms) c.args.self.now a b)
+    (subst (λ (n : TreeNode Bool). IfOk c.greater_where-then-not-is_open_above.result (IsJoinWhereOf answers c.args.none (LiesInBoth rooms) n a b))
+    (same_below c.deref.ensures) c.greater_where-then-not-is_open_above.ensures.made)
     (λ r made. where_below answers c.args.none rooms a b c.in-Fork.variable c.in-Fork.cut c.in-Fork.sides.value.0 c.in-Fork.sides.value.1 c.args.self.now c.in-Fork.is r made
     (from_false c.is_open_above.result c.if-not-is_open_above.true c.is_open_above.ensures.none))
 
 pub returns-then-is_on-clause-made : goal.returns-then-is_on-clause-made
 returns-then-is_on-clause-made g t c =
     let rooms : Rooms = c.args.rooms.now in
-    let answers : g.row.T.Denot → g.row.U.Denot → g.row.V.Denot → Type 0 = λ x y z. g.F.Fn.post c.args.how.now.made.now (max (g.R.Reading.number c.args.how.now.read.now x) (g.S.Reading.number c.args.how.now.other_reading.now y), tt) z in
+    let answers : g.row.T.Denot → g.row.U.Denot → g.row.V.Denot → Type 0 = λ x y z. g.F.Fn.post c.args.how.now.made.now
+    (max (g.R.Reading.number c.args.how.now.read.now x) (g.S.Reading.number c.args.how.now.other_reading.now y), tt) z in
     let a : TreeNode g.row.T.Denot = c.args.pair.now.own.node.now in
     let b : TreeNode g.row.U.Denot = c.args.pair.now.other.node.now in
     of_answer c.greater_by.result (IsJoinIn answers (LiesInBoth rooms) a b) (IsJoinWhereOf answers c.args.none (LiesInBoth rooms) c.args.self.now a b) c.greater_by.ensures.made
@@ -42,7 +47,8 @@ returns-then-is_on-clause-made g t c =
 pub returns-in_ok-high-in-Fork-clause-made : goal.returns-in_ok-high-in-Fork-clause-made
 returns-in_ok-high-in-Fork-clause-made g t c =
     let rooms : Rooms = c.args.rooms.now in
-    let answers : g.row.T.Denot → g.row.U.Denot → g.row.V.Denot → Type 0 = λ x y z. g.F.Fn.post c.args.how.now.made.now (max (g.R.Reading.number c.args.how.now.read.now x) (g.S.Reading.number c.args.how.now.other_reading.now y), tt) z in
+    let answers : g.row.T.Denot → g.row.U.Denot → g.row.V.Denot → Type 0 = λ x y z. g.F.Fn.post c.args.how.now.made.now
+    (max (g.R.Reading.number c.args.how.now.read.now x) (g.S.Reading.number c.args.how.now.other_reading.now y), tt) z in
     let a : TreeNode g.row.T.Denot = c.args.pair.now.own.node.now in
     let b : TreeNode g.row.U.Denot = c.args.pair.now.other.node.now in
     let shut : Rooms = c.ask_below-highs.new.self in
@@ -54,7 +60,8 @@ returns-in_ok-high-in-Fork-clause-made g t c =
     (subst (λ (n : TreeNode Bool). IsJoinWhereOf answers c.args.none (LiesInBoth shut) n a b lo) (same_below c.deref.ensures) c.in_ok-low-in-Fork.ensures.made)
     (subst (λ (n : TreeNode Bool). IsJoinWhereOf answers c.args.none (LiesInBoth upper) n a b hi) (same_above c.deref.ensures) c.in_ok-high-in-Fork.ensures.made)
     fork c.ask_below-highs.ensures.lies
-    (both_reopened rooms shut c.greater_where-in-Fork.new.rooms c.reopen_above.new.self c.in-Fork.variable c.ask_below-highs.result c.ask_below-highs.ensures.back c.in_ok-low-in-Fork.ensures.back c.reopen_above.ensures upper c.in-Fork.cut c.ask_above-lows.ensures.lies))
+    (both_reopened rooms shut c.greater_where-in-Fork.new.rooms c.reopen_above.new.self c.in-Fork.variable c.ask_below-highs.result c.ask_below-highs.ensures.back c.in_ok-low-in-Fork.ensures.back
+    c.reopen_above.ensures upper c.in-Fork.cut c.ask_above-lows.ensures.lies))
 
 pub returns-in_ok-high-in-Fork-clause-pass : goal.returns-in_ok-high-in-Fork-clause-pass
 returns-in_ok-high-in-Fork-clause-pass g t c =

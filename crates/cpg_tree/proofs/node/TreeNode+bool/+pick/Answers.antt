@@ -18,7 +18,8 @@ returns-then-not-is_open_below-clause-made g t c =
     of_answer c.pick.result (IsPickOf room c.in-Fork.sides.value.1 on off) (IsPickOf room c.args.self.now c.args.on.now c.args.off.now)
     (subst (λ (n : TreeNode Bool). IfOk c.pick.result (IsPickOf room n on off)) (same_above c.deref.ensures) c.pick.ensures.made)
     (λ r made. pick_whole room c.args.self.now c.args.on.now c.args.off.now on off r c.part_in-on.ensures.same c.part_in-off.ensures.same
-    (two_above_of (λ s b z. z ≡ value_at (picked b on off) s) (λ s b v. low_at (picked b on off) s v) (λ k s b v. high_at k (picked b on off) s v) (Lies room) c.in-Fork.variable c.in-Fork.cut c.in-Fork.sides.value.0 c.in-Fork.sides.value.1 c.args.self.now c.in-Fork.is r made
+    (two_above_of (λ s b z. z ≡ value_at (picked b on off) s) (λ s b v. low_at (picked b on off) s v) (λ k s b v. high_at k (picked b on off) s v)
+    (Lies room) c.in-Fork.variable c.in-Fork.cut c.in-Fork.sides.value.0 c.in-Fork.sides.value.1 c.args.self.now c.in-Fork.is r made
     (from_false c.is_open_below.result c.if-not-is_open_below.true c.is_open_below.ensures.none)))
 
 pub returns-then-not-is_open_above-clause-made : goal.returns-then-not-is_open_above-clause-made
@@ -29,7 +30,8 @@ returns-then-not-is_open_above-clause-made g t c =
     of_answer c.pick-then-not-is_open_above.result (IsPickOf room c.in-Fork.sides.value.0 on off) (IsPickOf room c.args.self.now c.args.on.now c.args.off.now)
     (subst (λ (n : TreeNode Bool). IfOk c.pick-then-not-is_open_above.result (IsPickOf room n on off)) (same_below c.deref.ensures) c.pick-then-not-is_open_above.ensures.made)
     (λ r made. pick_whole room c.args.self.now c.args.on.now c.args.off.now on off r c.part_in-on.ensures.same c.part_in-off.ensures.same
-    (two_below_of (λ s b z. z ≡ value_at (picked b on off) s) (λ s b v. low_at (picked b on off) s v) (λ k s b v. high_at k (picked b on off) s v) (Lies room) c.in-Fork.variable c.in-Fork.cut c.in-Fork.sides.value.0 c.in-Fork.sides.value.1 c.args.self.now c.in-Fork.is r made
+    (two_below_of (λ s b z. z ≡ value_at (picked b on off) s) (λ s b v. low_at (picked b on off) s v) (λ k s b v. high_at k (picked b on off) s v)
+    (Lies room) c.in-Fork.variable c.in-Fork.cut c.in-Fork.sides.value.0 c.in-Fork.sides.value.1 c.args.self.now c.in-Fork.is r made
     (from_false c.is_open_above.result c.if-not-is_open_above.true c.is_open_above.ensures.none)))
 
 pub returns-in_ok-high-in-Fork-clause-made : goal.returns-in_ok-high-in-Fork-clause-made
@@ -37,13 +39,17 @@ returns-in_ok-high-in-Fork-clause-made g t c =
     let room : Space = c.args.space.now in
     let on : TreeNode g.row.T.Denot = c.part_in-on.result.now in
     let off : TreeNode g.row.T.Denot = c.part_in-off.result.now in
-    of_answer c.fork.result (IsForkOf c.in-Fork.variable c.in-Fork.cut c.in_ok-low-in-Fork.low c.in_ok-high-in-Fork.high) (IsPickOf room c.args.self.now c.args.on.now c.args.off.now) c.fork.ensures.made
+    of_answer c.fork.result (IsForkOf c.in-Fork.variable c.in-Fork.cut c.in_ok-low-in-Fork.low c.in_ok-high-in-Fork.high)
+    (IsPickOf room c.args.self.now c.args.on.now c.args.off.now) c.fork.ensures.made
     (λ r fork. pick_whole room c.args.self.now c.args.on.now c.args.off.now on off r c.part_in-on.ensures.same c.part_in-off.ensures.same
-    (two_fork_of (λ s b z. z ≡ value_at (picked b on off) s) (λ s b v. low_at (picked b on off) s v) (λ k s b v. high_at k (picked b on off) s v) (Lies room) c.in-Fork.variable c.in-Fork.cut c.in-Fork.sides.value.0 c.in-Fork.sides.value.1 c.args.self.now c.in-Fork.is r (Lies c.close_above-most.new.self) (Lies c.close_below-least.new.self) c.in_ok-low-in-Fork.low c.in_ok-high-in-Fork.high
+    (two_fork_of (λ s b z. z ≡ value_at (picked b on off) s) (λ s b v. low_at (picked b on off) s v) (λ k s b v. high_at k (picked b on off) s v)
+    (Lies room) c.in-Fork.variable c.in-Fork.cut c.in-Fork.sides.value.0 c.in-Fork.sides.value.1 c.args.self.now c.in-Fork.is r (Lies c.close_above-most.new.self)
+    (Lies c.close_below-least.new.self) c.in_ok-low-in-Fork.low c.in_ok-high-in-Fork.high
     (subst (λ (n : TreeNode Bool). IsPickOf c.close_above-most.new.self n on off c.in_ok-low-in-Fork.low) (same_below c.deref.ensures) c.in_ok-low-in-Fork.ensures.made)
     (subst (λ (n : TreeNode Bool). IsPickOf c.close_below-least.new.self n on off c.in_ok-high-in-Fork.high) (same_above c.deref.ensures) c.in_ok-high-in-Fork.ensures.made)
     fork c.close_above-most.ensures.lies
-    (lies_reopened room c.close_above-most.new.self c.pick-in-Fork.new.space c.reopen_above.new.self c.close_below-least.new.self c.in-Fork.variable c.close_above-most.result c.in-Fork.cut c.close_above-most.ensures.back c.in_ok-low-in-Fork.ensures.back c.reopen_above.ensures c.close_below-least.ensures.lies)))
+    (lies_reopened room c.close_above-most.new.self c.pick-in-Fork.new.space c.reopen_above.new.self c.close_below-least.new.self c.in-Fork.variable c.close_above-most.result c.in-Fork.cut
+    c.close_above-most.ensures.back c.in_ok-low-in-Fork.ensures.back c.reopen_above.ensures c.close_below-least.ensures.lies)))
 
 pub returns-then-is_on-clause-made : goal.returns-then-is_on-clause-made
 returns-then-is_on-clause-made g t c =
@@ -107,5 +113,6 @@ returns-in_ok-high-in-Fork-clause-fit g t c =
     (λ r fit. fit room (sym c.is_open_below.ensures.is ∙ c.if-not-is_open_below.false) (sym c.is_open_above.ensures.is ∙ c.if-not-is_open_above.false)
     (subst (λ (r : Space). IsFit r c.in_ok-low-in-Fork.low) c.close_above-most.ensures.is c.in_ok-low-in-Fork.ensures.fit)
     (subst (λ (r : Space). IsFit r c.in_ok-high-in-Fork.high)
-    (above_reopened room c.close_above-most.new.self c.pick-in-Fork.new.space c.reopen_above.new.self c.close_below-least.new.self c.in-Fork.variable c.close_above-most.result c.in-Fork.cut c.close_above-most.ensures.back c.in_ok-low-in-Fork.ensures.back c.reopen_above.ensures c.close_below-least.ensures.is)
+    (above_reopened room c.close_above-most.new.self c.pick-in-Fork.new.space c.reopen_above.new.self c.close_below-least.new.self c.in-Fork.variable c.close_above-most.result c.in-Fork.cut
+    c.close_above-most.ensures.back c.in_ok-low-in-Fork.ensures.back c.reopen_above.ensures c.close_below-least.ensures.is)
     c.in_ok-high-in-Fork.ensures.fit))

@@ -12,28 +12,42 @@ use Rattle.cpg_tree.proofs.node.TreeNode.+fill.Goals as goal
 pub fill_fork-returns-then-not-is_open_below-clause-made : goal.fill_fork-returns-then-not-is_open_below-clause-made
 fill_fork-returns-then-not-is_open_below-clause-made g t c =
     let room : Space = c.args.space.now in
-    of_answer c.fill.result (IsFillOf (λ (x : g.row.U.Denot) (y : g.row.T.Denot) (z : g.row.V.Denot). g.F.Fn.post c.args.f.now (x, (y, tt)) z) room c.args.value c.in-Fork.sides.value.1) (IsFillOf (λ (x : g.row.U.Denot) (y : g.row.T.Denot) (z : g.row.V.Denot). g.F.Fn.post c.args.f.now (x, (y, tt)) z) room c.args.value c.args.self.now)
-    (subst (λ (n : TreeNode g.row.T.Denot). IfOk c.fill.result (IsFillOf (λ (x : g.row.U.Denot) (y : g.row.T.Denot) (z : g.row.V.Denot). g.F.Fn.post c.args.f.now (x, (y, tt)) z) room c.args.value n)) (same_above c.deref.ensures) c.fill.ensures.made)
-    (λ r made. one_above_of (λ s y z. (λ (x : g.row.U.Denot) (y : g.row.T.Denot) (z : g.row.V.Denot). g.F.Fn.post c.args.f.now (x, (y, tt)) z) c.args.value y z) (Lies room) c.in-Fork.variable c.in-Fork.cut c.in-Fork.sides.value.0 c.in-Fork.sides.value.1 c.args.self.now c.in-Fork.is r made
+    of_answer c.fill.result (IsFillOf (λ (x : g.row.U.Denot) (y : g.row.T.Denot) (z : g.row.V.Denot). g.F.Fn.post c.args.f.now (x, (y, tt)) z) room c.args.value c.in-Fork.sides.value.1)
+    (IsFillOf (λ (x : g.row.U.Denot) (y : g.row.T.Denot) (z : g.row.V.Denot). g.F.Fn.post c.args.f.now (x, (y, tt)) z) room c.args.value c.args.self.now)
+    (subst (λ (n : TreeNode g.row.T.Denot). IfOk c.fill.result (IsFillOf (λ (x : g.row.U.Denot) (y : g.row.T.Denot) (z : g.row.V.Denot). g.F.Fn.post c.args.f.now (x, (y, tt)) z) room c.args.value n))
+    (same_above c.deref.ensures) c.fill.ensures.made)
+    (λ r made. one_above_of (λ s y z. (λ (x : g.row.U.Denot) (y : g.row.T.Denot) (z : g.row.V.Denot). g.F.Fn.post c.args.f.now (x, (y, tt)) z) c.args.value y z)
+    (Lies room) c.in-Fork.variable c.in-Fork.cut c.in-Fork.sides.value.0 c.in-Fork.sides.value.1 c.args.self.now c.in-Fork.is r made
     (from_false c.is_open_below.result c.if-not-is_open_below.true c.is_open_below.ensures.none))
 
 pub fill_fork-returns-then-not-is_open_above-clause-made : goal.fill_fork-returns-then-not-is_open_above-clause-made
 fill_fork-returns-then-not-is_open_above-clause-made g t c =
     let room : Space = c.args.space.now in
-    of_answer c.fill-then-not-is_open_above.result (IsFillOf (λ (x : g.row.U.Denot) (y : g.row.T.Denot) (z : g.row.V.Denot). g.F.Fn.post c.args.f.now (x, (y, tt)) z) room c.args.value c.in-Fork.sides.value.0) (IsFillOf (λ (x : g.row.U.Denot) (y : g.row.T.Denot) (z : g.row.V.Denot). g.F.Fn.post c.args.f.now (x, (y, tt)) z) room c.args.value c.args.self.now)
-    (subst (λ (n : TreeNode g.row.T.Denot). IfOk c.fill-then-not-is_open_above.result (IsFillOf (λ (x : g.row.U.Denot) (y : g.row.T.Denot) (z : g.row.V.Denot). g.F.Fn.post c.args.f.now (x, (y, tt)) z) room c.args.value n)) (same_below c.deref.ensures) c.fill-then-not-is_open_above.ensures.made)
-    (λ r made. one_below_of (λ s y z. (λ (x : g.row.U.Denot) (y : g.row.T.Denot) (z : g.row.V.Denot). g.F.Fn.post c.args.f.now (x, (y, tt)) z) c.args.value y z) (Lies room) c.in-Fork.variable c.in-Fork.cut c.in-Fork.sides.value.0 c.in-Fork.sides.value.1 c.args.self.now c.in-Fork.is r made
+    of_answer c.fill-then-not-is_open_above.result
+    (IsFillOf (λ (x : g.row.U.Denot) (y : g.row.T.Denot) (z : g.row.V.Denot). g.F.Fn.post c.args.f.now (x, (y, tt)) z) room c.args.value c.in-Fork.sides.value.0)
+    (IsFillOf (λ (x : g.row.U.Denot) (y : g.row.T.Denot) (z : g.row.V.Denot). g.F.Fn.post c.args.f.now (x, (y, tt)) z) room c.args.value c.args.self.now)
+    (subst (λ (n : TreeNode g.row.T.Denot). IfOk c.fill-then-not-is_open_above.result
+    (IsFillOf (λ (x : g.row.U.Denot) (y : g.row.T.Denot) (z : g.row.V.Denot). g.F.Fn.post c.args.f.now (x, (y, tt)) z) room c.args.value n))
+    (same_below c.deref.ensures) c.fill-then-not-is_open_above.ensures.made)
+    (λ r made. one_below_of (λ s y z. (λ (x : g.row.U.Denot) (y : g.row.T.Denot) (z : g.row.V.Denot). g.F.Fn.post c.args.f.now (x, (y, tt)) z) c.args.value y z)
+    (Lies room) c.in-Fork.variable c.in-Fork.cut c.in-Fork.sides.value.0 c.in-Fork.sides.value.1 c.args.self.now c.in-Fork.is r made
     (from_false c.is_open_above.result c.if-not-is_open_above.true c.is_open_above.ensures.none))
 
 pub fill_fork-returns-in_ok-high-in-Fork-clause-made : goal.fill_fork-returns-in_ok-high-in-Fork-clause-made
 fill_fork-returns-in_ok-high-in-Fork-clause-made g t c =
     let room : Space = c.args.space.now in
-    of_answer c.fork.result (IsForkOf c.in-Fork.variable c.in-Fork.cut c.in_ok-low-in-Fork.low c.in_ok-high-in-Fork.high) (IsFillOf (λ (x : g.row.U.Denot) (y : g.row.T.Denot) (z : g.row.V.Denot). g.F.Fn.post c.args.f.now (x, (y, tt)) z) room c.args.value c.args.self.now) c.fork.ensures.made
-    (λ r fork. one_fork_of (λ s y z. (λ (x : g.row.U.Denot) (y : g.row.T.Denot) (z : g.row.V.Denot). g.F.Fn.post c.args.f.now (x, (y, tt)) z) c.args.value y z) (Lies room) c.in-Fork.variable c.in-Fork.cut c.in-Fork.sides.value.0 c.in-Fork.sides.value.1 c.args.self.now c.in-Fork.is r (Lies c.close_above-most.new.self) (Lies c.close_below-least.new.self) c.in_ok-low-in-Fork.low c.in_ok-high-in-Fork.high
-    (subst (λ (n : TreeNode g.row.T.Denot). IsFillOf (λ (x : g.row.U.Denot) (y : g.row.T.Denot) (z : g.row.V.Denot). g.F.Fn.post c.args.f.now (x, (y, tt)) z) c.close_above-most.new.self c.args.value n c.in_ok-low-in-Fork.low) (same_below c.deref.ensures) c.in_ok-low-in-Fork.ensures.made)
-    (subst (λ (n : TreeNode g.row.T.Denot). IsFillOf (λ (x : g.row.U.Denot) (y : g.row.T.Denot) (z : g.row.V.Denot). g.F.Fn.post c.args.f.now (x, (y, tt)) z) c.close_below-least.new.self c.args.value n c.in_ok-high-in-Fork.high) (same_above c.deref.ensures) c.in_ok-high-in-Fork.ensures.made)
+    of_answer c.fork.result (IsForkOf c.in-Fork.variable c.in-Fork.cut c.in_ok-low-in-Fork.low c.in_ok-high-in-Fork.high)
+    (IsFillOf (λ (x : g.row.U.Denot) (y : g.row.T.Denot) (z : g.row.V.Denot). g.F.Fn.post c.args.f.now (x, (y, tt)) z) room c.args.value c.args.self.now) c.fork.ensures.made
+    (λ r fork. one_fork_of (λ s y z. (λ (x : g.row.U.Denot) (y : g.row.T.Denot) (z : g.row.V.Denot). g.F.Fn.post c.args.f.now (x, (y, tt)) z) c.args.value y z)
+    (Lies room) c.in-Fork.variable c.in-Fork.cut c.in-Fork.sides.value.0 c.in-Fork.sides.value.1 c.args.self.now c.in-Fork.is r (Lies c.close_above-most.new.self)
+    (Lies c.close_below-least.new.self) c.in_ok-low-in-Fork.low c.in_ok-high-in-Fork.high
+    (subst (λ (n : TreeNode g.row.T.Denot). IsFillOf (λ (x : g.row.U.Denot) (y : g.row.T.Denot) (z : g.row.V.Denot). g.F.Fn.post c.args.f.now (x, (y, tt)) z) c.close_above-most.new.self c.args.value
+    n c.in_ok-low-in-Fork.low) (same_below c.deref.ensures) c.in_ok-low-in-Fork.ensures.made)
+    (subst (λ (n : TreeNode g.row.T.Denot). IsFillOf (λ (x : g.row.U.Denot) (y : g.row.T.Denot) (z : g.row.V.Denot). g.F.Fn.post c.args.f.now (x, (y, tt)) z) c.close_below-least.new.self c.args.value
+    n c.in_ok-high-in-Fork.high) (same_above c.deref.ensures) c.in_ok-high-in-Fork.ensures.made)
     fork c.close_above-most.ensures.lies
-    (lies_reopened room c.close_above-most.new.self c.fill-in-Fork.new.space c.reopen_above.new.self c.close_below-least.new.self c.in-Fork.variable c.close_above-most.result c.in-Fork.cut c.close_above-most.ensures.back c.in_ok-low-in-Fork.ensures.back c.reopen_above.ensures c.close_below-least.ensures.lies))
+    (lies_reopened room c.close_above-most.new.self c.fill-in-Fork.new.space c.reopen_above.new.self c.close_below-least.new.self c.in-Fork.variable c.close_above-most.result c.in-Fork.cut
+    c.close_above-most.ensures.back c.in_ok-low-in-Fork.ensures.back c.reopen_above.ensures c.close_below-least.ensures.lies))
 
 pub fill_fork-returns-in_ok-high-in-Fork-clause-pass : goal.fill_fork-returns-in_ok-high-in-Fork-clause-pass
 fill_fork-returns-in_ok-high-in-Fork-clause-pass g t c =
@@ -65,5 +79,6 @@ fill_fork-returns-in_ok-high-in-Fork-clause-fit g t c =
     (λ r fit. fit room (sym c.is_open_below.ensures.is ∙ c.if-not-is_open_below.false) (sym c.is_open_above.ensures.is ∙ c.if-not-is_open_above.false)
     (subst (λ (r : Space). IsFit r c.in_ok-low-in-Fork.low) c.close_above-most.ensures.is c.in_ok-low-in-Fork.ensures.fit)
     (subst (λ (r : Space). IsFit r c.in_ok-high-in-Fork.high)
-    (above_reopened room c.close_above-most.new.self c.fill-in-Fork.new.space c.reopen_above.new.self c.close_below-least.new.self c.in-Fork.variable c.close_above-most.result c.in-Fork.cut c.close_above-most.ensures.back c.in_ok-low-in-Fork.ensures.back c.reopen_above.ensures c.close_below-least.ensures.is)
+    (above_reopened room c.close_above-most.new.self c.fill-in-Fork.new.space c.reopen_above.new.self c.close_below-least.new.self c.in-Fork.variable c.close_above-most.result c.in-Fork.cut
+    c.close_above-most.ensures.back c.in_ok-low-in-Fork.ensures.back c.reopen_above.ensures c.close_below-least.ensures.is)
     c.in_ok-high-in-Fork.ensures.fit))

@@ -22,41 +22,60 @@ pub join_fork-returns-then-not-is_open_below-clause-made : goal.join_fork-return
 join_fork-returns-then-not-is_open_below-clause-made g t c =
     let room : Space = c.args.space.now in
     let b : TreeNode g.row.U.Denot = c.part_in-other.result.now in
-    of_answer c.join.result (IsJoinOf (λ (x : g.row.T.Denot) (y : g.row.U.Denot) (z : g.row.V.Denot). g.F.Fn.post c.args.f.now (x, (y, tt)) z) room c.in-Fork.sides.value.1 b) (IsJoinOf (λ (x : g.row.T.Denot) (y : g.row.U.Denot) (z : g.row.V.Denot). g.F.Fn.post c.args.f.now (x, (y, tt)) z) room c.args.self.now c.args.other.now)
-    (subst (λ (n : TreeNode g.row.T.Denot). IfOk c.join.result (IsJoinOf (λ (x : g.row.T.Denot) (y : g.row.U.Denot) (z : g.row.V.Denot). g.F.Fn.post c.args.f.now (x, (y, tt)) z) room n b)) (same_above c.deref.ensures) c.join.ensures.made)
-    (λ r made. join_whole (λ (x : g.row.T.Denot) (y : g.row.U.Denot) (z : g.row.V.Denot). g.F.Fn.post c.args.f.now (x, (y, tt)) z) room c.args.self.now c.args.other.now b r c.part_in-other.ensures.same
-    (two_above_of (λ s x z. (λ (x : g.row.T.Denot) (y : g.row.U.Denot) (z : g.row.V.Denot). g.F.Fn.post c.args.f.now (x, (y, tt)) z) x (value_at b s) z) (λ s x v. low_at b s v) (λ k s x v. high_at k b s v) (Lies room) c.in-Fork.variable c.in-Fork.cut c.in-Fork.sides.value.0 c.in-Fork.sides.value.1 c.args.self.now c.in-Fork.is r made
+    of_answer c.join.result (IsJoinOf (λ (x : g.row.T.Denot) (y : g.row.U.Denot) (z : g.row.V.Denot). g.F.Fn.post c.args.f.now (x, (y, tt)) z) room c.in-Fork.sides.value.1 b)
+    (IsJoinOf (λ (x : g.row.T.Denot) (y : g.row.U.Denot) (z : g.row.V.Denot). g.F.Fn.post c.args.f.now (x, (y, tt)) z) room c.args.self.now c.args.other.now)
+    (subst (λ (n : TreeNode g.row.T.Denot). IfOk c.join.result (IsJoinOf (λ (x : g.row.T.Denot) (y : g.row.U.Denot) (z : g.row.V.Denot). g.F.Fn.post c.args.f.now (x, (y, tt)) z) room n b))
+    (same_above c.deref.ensures) c.join.ensures.made)
+    (λ r made. join_whole (λ (x : g.row.T.Denot) (y : g.row.U.Denot) (z : g.row.V.Denot). g.F.Fn.post c.args.f.now (x, (y, tt)) z) room c.args.self.now c.args.other.now b r
+    c.part_in-other.ensures.same
+    (two_above_of (λ s x z. (λ (x : g.row.T.Denot) (y : g.row.U.Denot) (z : g.row.V.Denot). g.F.Fn.post c.args.f.now (x, (y, tt)) z) x (value_at b s) z) (λ s x v. low_at b s v)
+    (λ k s x v. high_at k b s v) (Lies room) c.in-Fork.variable c.in-Fork.cut c.in-Fork.sides.value.0 c.in-Fork.sides.value.1 c.args.self.now c.in-Fork.is r made
     (from_false c.is_open_below.result c.if-not-is_open_below.true c.is_open_below.ensures.none)))
 
 pub join_fork-returns-then-not-is_open_above-clause-made : goal.join_fork-returns-then-not-is_open_above-clause-made
 join_fork-returns-then-not-is_open_above-clause-made g t c =
     let room : Space = c.args.space.now in
     let b : TreeNode g.row.U.Denot = c.part_in-other.result.now in
-    of_answer c.join-then-not-is_open_above.result (IsJoinOf (λ (x : g.row.T.Denot) (y : g.row.U.Denot) (z : g.row.V.Denot). g.F.Fn.post c.args.f.now (x, (y, tt)) z) room c.in-Fork.sides.value.0 b) (IsJoinOf (λ (x : g.row.T.Denot) (y : g.row.U.Denot) (z : g.row.V.Denot). g.F.Fn.post c.args.f.now (x, (y, tt)) z) room c.args.self.now c.args.other.now)
-    (subst (λ (n : TreeNode g.row.T.Denot). IfOk c.join-then-not-is_open_above.result (IsJoinOf (λ (x : g.row.T.Denot) (y : g.row.U.Denot) (z : g.row.V.Denot). g.F.Fn.post c.args.f.now (x, (y, tt)) z) room n b)) (same_below c.deref.ensures) c.join-then-not-is_open_above.ensures.made)
-    (λ r made. join_whole (λ (x : g.row.T.Denot) (y : g.row.U.Denot) (z : g.row.V.Denot). g.F.Fn.post c.args.f.now (x, (y, tt)) z) room c.args.self.now c.args.other.now b r c.part_in-other.ensures.same
-    (two_below_of (λ s x z. (λ (x : g.row.T.Denot) (y : g.row.U.Denot) (z : g.row.V.Denot). g.F.Fn.post c.args.f.now (x, (y, tt)) z) x (value_at b s) z) (λ s x v. low_at b s v) (λ k s x v. high_at k b s v) (Lies room) c.in-Fork.variable c.in-Fork.cut c.in-Fork.sides.value.0 c.in-Fork.sides.value.1 c.args.self.now c.in-Fork.is r made
+    of_answer c.join-then-not-is_open_above.result (IsJoinOf (λ (x : g.row.T.Denot) (y : g.row.U.Denot) (z : g.row.V.Denot). g.F.Fn.post c.args.f.now (x, (y, tt)) z) room c.in-Fork.sides.value.0 b)
+    (IsJoinOf (λ (x : g.row.T.Denot) (y : g.row.U.Denot) (z : g.row.V.Denot). g.F.Fn.post c.args.f.now (x, (y, tt)) z) room c.args.self.now c.args.other.now)
+    (subst (λ (n : TreeNode g.row.T.Denot). IfOk c.join-then-not-is_open_above.result
+    (IsJoinOf (λ (x : g.row.T.Denot) (y : g.row.U.Denot) (z : g.row.V.Denot). g.F.Fn.post c.args.f.now (x, (y, tt)) z) room n b))
+    (same_below c.deref.ensures) c.join-then-not-is_open_above.ensures.made)
+    (λ r made. join_whole (λ (x : g.row.T.Denot) (y : g.row.U.Denot) (z : g.row.V.Denot). g.F.Fn.post c.args.f.now (x, (y, tt)) z) room c.args.self.now c.args.other.now b r
+    c.part_in-other.ensures.same
+    (two_below_of (λ s x z. (λ (x : g.row.T.Denot) (y : g.row.U.Denot) (z : g.row.V.Denot). g.F.Fn.post c.args.f.now (x, (y, tt)) z) x (value_at b s) z) (λ s x v. low_at b s v)
+    (λ k s x v. high_at k b s v) (Lies room) c.in-Fork.variable c.in-Fork.cut c.in-Fork.sides.value.0 c.in-Fork.sides.value.1 c.args.self.now c.in-Fork.is r made
     (from_false c.is_open_above.result c.if-not-is_open_above.true c.is_open_above.ensures.none)))
 
 pub join_fork-returns-in_ok-high-in-Fork-clause-made : goal.join_fork-returns-in_ok-high-in-Fork-clause-made
 join_fork-returns-in_ok-high-in-Fork-clause-made g t c =
     let room : Space = c.args.space.now in
     let b : TreeNode g.row.U.Denot = c.part_in-other.result.now in
-    of_answer c.fork.result (IsForkOf c.in-Fork.variable c.in-Fork.cut c.in_ok-low-in-Fork.low c.in_ok-high-in-Fork.high) (IsJoinOf (λ (x : g.row.T.Denot) (y : g.row.U.Denot) (z : g.row.V.Denot). g.F.Fn.post c.args.f.now (x, (y, tt)) z) room c.args.self.now c.args.other.now) c.fork.ensures.made
-    (λ r fork. join_whole (λ (x : g.row.T.Denot) (y : g.row.U.Denot) (z : g.row.V.Denot). g.F.Fn.post c.args.f.now (x, (y, tt)) z) room c.args.self.now c.args.other.now b r c.part_in-other.ensures.same
-    (two_fork_of (λ s x z. (λ (x : g.row.T.Denot) (y : g.row.U.Denot) (z : g.row.V.Denot). g.F.Fn.post c.args.f.now (x, (y, tt)) z) x (value_at b s) z) (λ s x v. low_at b s v) (λ k s x v. high_at k b s v) (Lies room) c.in-Fork.variable c.in-Fork.cut c.in-Fork.sides.value.0 c.in-Fork.sides.value.1 c.args.self.now c.in-Fork.is r (Lies c.close_above-most.new.self) (Lies c.close_below-least.new.self) c.in_ok-low-in-Fork.low c.in_ok-high-in-Fork.high
-    (subst (λ (n : TreeNode g.row.T.Denot). IsJoinOf (λ (x : g.row.T.Denot) (y : g.row.U.Denot) (z : g.row.V.Denot). g.F.Fn.post c.args.f.now (x, (y, tt)) z) c.close_above-most.new.self n b c.in_ok-low-in-Fork.low) (same_below c.deref.ensures) c.in_ok-low-in-Fork.ensures.made)
-    (subst (λ (n : TreeNode g.row.T.Denot). IsJoinOf (λ (x : g.row.T.Denot) (y : g.row.U.Denot) (z : g.row.V.Denot). g.F.Fn.post c.args.f.now (x, (y, tt)) z) c.close_below-least.new.self n b c.in_ok-high-in-Fork.high) (same_above c.deref.ensures) c.in_ok-high-in-Fork.ensures.made)
+    of_answer c.fork.result (IsForkOf c.in-Fork.variable c.in-Fork.cut c.in_ok-low-in-Fork.low c.in_ok-high-in-Fork.high)
+    (IsJoinOf (λ (x : g.row.T.Denot) (y : g.row.U.Denot) (z : g.row.V.Denot). g.F.Fn.post c.args.f.now (x, (y, tt)) z) room c.args.self.now c.args.other.now) c.fork.ensures.made
+    (λ r fork. join_whole (λ (x : g.row.T.Denot) (y : g.row.U.Denot) (z : g.row.V.Denot). g.F.Fn.post c.args.f.now (x, (y, tt)) z) room c.args.self.now c.args.other.now b r
+    c.part_in-other.ensures.same
+    (two_fork_of (λ s x z. (λ (x : g.row.T.Denot) (y : g.row.U.Denot) (z : g.row.V.Denot). g.F.Fn.post c.args.f.now (x, (y, tt)) z) x (value_at b s) z) (λ s x v. low_at b s v)
+    (λ k s x v. high_at k b s v) (Lies room) c.in-Fork.variable c.in-Fork.cut c.in-Fork.sides.value.0 c.in-Fork.sides.value.1 c.args.self.now c.in-Fork.is r (Lies c.close_above-most.new.self)
+    (Lies c.close_below-least.new.self) c.in_ok-low-in-Fork.low c.in_ok-high-in-Fork.high
+    (subst (λ (n : TreeNode g.row.T.Denot). IsJoinOf (λ (x : g.row.T.Denot) (y : g.row.U.Denot) (z : g.row.V.Denot). g.F.Fn.post c.args.f.now (x, (y, tt)) z) c.close_above-most.new.self n b
+    c.in_ok-low-in-Fork.low) (same_below c.deref.ensures) c.in_ok-low-in-Fork.ensures.made)
+    (subst (λ (n : TreeNode g.row.T.Denot). IsJoinOf (λ (x : g.row.T.Denot) (y : g.row.U.Denot) (z : g.row.V.Denot). g.F.Fn.post c.args.f.now (x, (y, tt)) z) c.close_below-least.new.self n b
+    c.in_ok-high-in-Fork.high) (same_above c.deref.ensures) c.in_ok-high-in-Fork.ensures.made)
     fork c.close_above-most.ensures.lies
-    (lies_reopened room c.close_above-most.new.self c.join-in-Fork.new.space c.reopen_above.new.self c.close_below-least.new.self c.in-Fork.variable c.close_above-most.result c.in-Fork.cut c.close_above-most.ensures.back c.in_ok-low-in-Fork.ensures.back c.reopen_above.ensures c.close_below-least.ensures.lies)))
+    (lies_reopened room c.close_above-most.new.self c.join-in-Fork.new.space c.reopen_above.new.self c.close_below-least.new.self c.in-Fork.variable c.close_above-most.result c.in-Fork.cut
+    c.close_above-most.ensures.back c.in_ok-low-in-Fork.ensures.back c.reopen_above.ensures c.close_below-least.ensures.lies)))
 
 pub join_fork-returns-in-Leaf-clause-made : goal.join_fork-returns-in-Leaf-clause-made
 join_fork-returns-in-Leaf-clause-made g t c =
     let room : Space = c.args.space.now in
     let b : TreeNode g.row.U.Denot = c.part_in-other.result.now in
-    of_answer c.fill.result (IsFillOf (λ (x : g.row.T.Denot) (y : g.row.U.Denot) (z : g.row.V.Denot). g.F.Fn.post c.args.f.now (x, (y, tt)) z) room c.in-Leaf.value b) (IsJoinOf (λ (x : g.row.T.Denot) (y : g.row.U.Denot) (z : g.row.V.Denot). g.F.Fn.post c.args.f.now (x, (y, tt)) z) room c.args.self.now c.args.other.now) c.fill.ensures.made
-    (λ r made. join_whole (λ (x : g.row.T.Denot) (y : g.row.U.Denot) (z : g.row.V.Denot). g.F.Fn.post c.args.f.now (x, (y, tt)) z) room c.args.self.now c.args.other.now b r c.part_in-other.ensures.same
-    (two_leaf_of (λ s x z. (λ (x : g.row.T.Denot) (y : g.row.U.Denot) (z : g.row.V.Denot). g.F.Fn.post c.args.f.now (x, (y, tt)) z) x (value_at b s) z) (λ s x v. low_at b s v) (λ k s x v. high_at k b s v)
+    of_answer c.fill.result (IsFillOf (λ (x : g.row.T.Denot) (y : g.row.U.Denot) (z : g.row.V.Denot). g.F.Fn.post c.args.f.now (x, (y, tt)) z) room c.in-Leaf.value b)
+    (IsJoinOf (λ (x : g.row.T.Denot) (y : g.row.U.Denot) (z : g.row.V.Denot). g.F.Fn.post c.args.f.now (x, (y, tt)) z) room c.args.self.now c.args.other.now) c.fill.ensures.made
+    (λ r made. join_whole (λ (x : g.row.T.Denot) (y : g.row.U.Denot) (z : g.row.V.Denot). g.F.Fn.post c.args.f.now (x, (y, tt)) z) room c.args.self.now c.args.other.now b r
+    c.part_in-other.ensures.same
+    (two_leaf_of (λ s x z. (λ (x : g.row.T.Denot) (y : g.row.U.Denot) (z : g.row.V.Denot). g.F.Fn.post c.args.f.now (x, (y, tt)) z) x (value_at b s) z) (λ s x v. low_at b s v)
+    (λ k s x v. high_at k b s v)
     (Lies room) c.in-Leaf.value c.args.self.now c.in-Leaf.is r made))
 
 pub join_fork-returns-in_ok-high-in-Fork-clause-pass : goal.join_fork-returns-in_ok-high-in-Fork-clause-pass
@@ -95,5 +114,6 @@ join_fork-returns-in_ok-high-in-Fork-clause-fit g t c =
     (λ r fit. fit room (sym c.is_open_below.ensures.is ∙ c.if-not-is_open_below.false) (sym c.is_open_above.ensures.is ∙ c.if-not-is_open_above.false)
     (subst (λ (r : Space). IsFit r c.in_ok-low-in-Fork.low) c.close_above-most.ensures.is c.in_ok-low-in-Fork.ensures.fit)
     (subst (λ (r : Space). IsFit r c.in_ok-high-in-Fork.high)
-    (above_reopened room c.close_above-most.new.self c.join-in-Fork.new.space c.reopen_above.new.self c.close_below-least.new.self c.in-Fork.variable c.close_above-most.result c.in-Fork.cut c.close_above-most.ensures.back c.in_ok-low-in-Fork.ensures.back c.reopen_above.ensures c.close_below-least.ensures.is)
+    (above_reopened room c.close_above-most.new.self c.join-in-Fork.new.space c.reopen_above.new.self c.close_below-least.new.self c.in-Fork.variable c.close_above-most.result c.in-Fork.cut
+    c.close_above-most.ensures.back c.in_ok-low-in-Fork.ensures.back c.reopen_above.ensures c.close_below-least.ensures.is)
     c.in_ok-high-in-Fork.ensures.fit))

@@ -18,7 +18,8 @@ returns-then-not-is_open_below-clause-same g t c =
 pub returns-then-not-is_open_above-clause-same : goal.returns-then-not-is_open_above-clause-same
 returns-then-not-is_open_above-clause-same g t c =
     let room : Space = c.args.space.now in
-    one_below_of (λ s x z. z ≡ x) (Lies room) c.in-Fork.variable c.in-Fork.cut c.in-Fork.sides.value.0 c.in-Fork.sides.value.1 c.args.self.now c.in-Fork.is c.part-then-not-is_open_above.result.node.now
+    one_below_of (λ s x z. z ≡ x) (Lies room) c.in-Fork.variable c.in-Fork.cut c.in-Fork.sides.value.0 c.in-Fork.sides.value.1 c.args.self.now c.in-Fork.is
+    c.part-then-not-is_open_above.result.node.now
     (subst (λ (n : TreeNode g.row.T.Denot). IsWithin room n c.part-then-not-is_open_above.result.node.now) (same_below c.deref.ensures) c.part-then-not-is_open_above.ensures.same)
     (from_false c.is_open_above.result c.if-not-is_open_above.true c.is_open_above.ensures.none)
 
@@ -34,8 +35,11 @@ returns-then-not-is_open_above-clause-pass g t c test pass =
 
 pub returns-then-not-is_open_below-clause-bounds : goal.returns-then-not-is_open_below-clause-bounds
 returns-then-not-is_open_below-clause-bounds g t c number are =
-    c.part.ensures.bounds number (side_above number c.in-Fork.variable c.in-Fork.cut c.in-Fork.sides.value.0 c.in-Fork.sides.value.1 c.args.self.now c.in-Fork.is c.args.bounds.now c.bounds_above.result.now are c.bounds_above.ensures ∙ ap (bounds_in number) (sym (same_above c.deref.ensures)))
+    c.part.ensures.bounds number (side_above number c.in-Fork.variable c.in-Fork.cut c.in-Fork.sides.value.0 c.in-Fork.sides.value.1 c.args.self.now c.in-Fork.is c.args.bounds.now
+    c.bounds_above.result.now are c.bounds_above.ensures ∙ ap (bounds_in number) (sym (same_above c.deref.ensures)))
 
 pub returns-then-not-is_open_above-clause-bounds : goal.returns-then-not-is_open_above-clause-bounds
 returns-then-not-is_open_above-clause-bounds g t c number are =
-    c.part-then-not-is_open_above.ensures.bounds number (side_below number c.in-Fork.variable c.in-Fork.cut c.in-Fork.sides.value.0 c.in-Fork.sides.value.1 c.args.self.now c.in-Fork.is c.args.bounds.now c.bounds_below.result.now are c.bounds_below.ensures ∙ ap (bounds_in number) (sym (same_below c.deref.ensures)))
+    c.part-then-not-is_open_above.ensures.bounds number
+    (side_below number c.in-Fork.variable c.in-Fork.cut c.in-Fork.sides.value.0 c.in-Fork.sides.value.1 c.args.self.now c.in-Fork.is c.args.bounds.now c.bounds_below.result.now are
+    c.bounds_below.ensures ∙ ap (bounds_in number) (sym (same_below c.deref.ensures)))

@@ -29,11 +29,13 @@ pub fork_within-returns-in_ok-high-in-Fork-clause-made : goal.fork_within-return
 fork_within-returns-in_ok-high-in-Fork-clause-made g t c =
     let room : Space = c.args.space.now in
     of_answer c.fork.result (IsForkOf c.in-Fork.variable c.in-Fork.cut c.in_ok-low-in-Fork.low c.in_ok-high-in-Fork.high) (IsWithin room c.args.self.now) c.fork.ensures.made
-    (λ r fork. one_fork_of (λ s x z. z ≡ x) (Lies room) c.in-Fork.variable c.in-Fork.cut c.in-Fork.sides.value.0 c.in-Fork.sides.value.1 c.args.self.now c.in-Fork.is r (Lies c.close_above-most.new.self) (Lies c.close_below-least.new.self) c.in_ok-low-in-Fork.low c.in_ok-high-in-Fork.high
+    (λ r fork. one_fork_of (λ s x z. z ≡ x) (Lies room) c.in-Fork.variable c.in-Fork.cut c.in-Fork.sides.value.0 c.in-Fork.sides.value.1 c.args.self.now c.in-Fork.is r
+    (Lies c.close_above-most.new.self) (Lies c.close_below-least.new.self) c.in_ok-low-in-Fork.low c.in_ok-high-in-Fork.high
     (subst (λ (n : TreeNode g.row.T.Denot). IsWithin c.close_above-most.new.self n c.in_ok-low-in-Fork.low) (same_below c.deref.ensures) c.in_ok-low-in-Fork.ensures.made)
     (subst (λ (n : TreeNode g.row.T.Denot). IsWithin c.close_below-least.new.self n c.in_ok-high-in-Fork.high) (same_above c.deref.ensures) c.in_ok-high-in-Fork.ensures.made)
     fork c.close_above-most.ensures.lies
-    (lies_reopened room c.close_above-most.new.self c.within-in-Fork.new.space c.reopen_above.new.self c.close_below-least.new.self c.in-Fork.variable c.close_above-most.result c.in-Fork.cut c.close_above-most.ensures.back c.in_ok-low-in-Fork.ensures.back c.reopen_above.ensures c.close_below-least.ensures.lies))
+    (lies_reopened room c.close_above-most.new.self c.within-in-Fork.new.space c.reopen_above.new.self c.close_below-least.new.self c.in-Fork.variable c.close_above-most.result c.in-Fork.cut
+    c.close_above-most.ensures.back c.in_ok-low-in-Fork.ensures.back c.reopen_above.ensures c.close_below-least.ensures.lies))
 
 pub fork_within-returns-in_ok-high-in-Fork-clause-pass : goal.fork_within-returns-in_ok-high-in-Fork-clause-pass
 fork_within-returns-in_ok-high-in-Fork-clause-pass g t c =
@@ -65,5 +67,6 @@ fork_within-returns-in_ok-high-in-Fork-clause-fit g t c =
     (λ r fit. fit room (sym c.is_open_below.ensures.is ∙ c.if-not-is_open_below.false) (sym c.is_open_above.ensures.is ∙ c.if-not-is_open_above.false)
     (subst (λ (r : Space). IsFit r c.in_ok-low-in-Fork.low) c.close_above-most.ensures.is c.in_ok-low-in-Fork.ensures.fit)
     (subst (λ (r : Space). IsFit r c.in_ok-high-in-Fork.high)
-    (above_reopened room c.close_above-most.new.self c.within-in-Fork.new.space c.reopen_above.new.self c.close_below-least.new.self c.in-Fork.variable c.close_above-most.result c.in-Fork.cut c.close_above-most.ensures.back c.in_ok-low-in-Fork.ensures.back c.reopen_above.ensures c.close_below-least.ensures.is)
+    (above_reopened room c.close_above-most.new.self c.within-in-Fork.new.space c.reopen_above.new.self c.close_below-least.new.self c.in-Fork.variable c.close_above-most.result c.in-Fork.cut
+    c.close_above-most.ensures.back c.in_ok-low-in-Fork.ensures.back c.reopen_above.ensures c.close_below-least.ensures.is)
     c.in_ok-high-in-Fork.ensures.fit))

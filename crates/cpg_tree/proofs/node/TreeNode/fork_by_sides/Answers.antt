@@ -12,5 +12,6 @@ returns-then-is_same-clause-fit g c room below above fit other = fits_uncut c.ar
 pub returns-then-meets-clause-fit : goal.returns-then-meets-clause-fit
 returns-then-meets-clause-fit g c room below above fit other =
     let met = from_true c.meets.result c.if-meets.true c.meets.ensures in
-    let fits = fits_joined c.args.below c.in-Fork.sides.value.0 c.in-Fork.sides.value.1 c.args.above room c.args.variable c.args.cut c.in-Fork.next c.in-Fork.farther c.in-Fork.is met.0 met.1 below fit other in
+    let fits = fits_joined c.args.below c.in-Fork.sides.value.0 c.in-Fork.sides.value.1 c.args.above room c.args.variable c.args.cut c.in-Fork.next c.in-Fork.farther c.in-Fork.is met.0 met.1 below
+    fit other in
     (fits.0, fits.1, fits.2, fits.3, subst (λ (n : TreeNode g.row.T.Denot). IsFit (above_cut room c.args.variable c.in-Fork.farther) n) (sym (same_above c.deref_mut.ensures.value)) fits.4)

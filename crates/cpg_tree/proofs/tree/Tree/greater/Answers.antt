@@ -14,8 +14,11 @@ returns-clause-is g c =
     let r : TreeNode g.row.V.Denot = c.in_ok-root.root in
     of_answer c.of.result (λ t. t ≡ state k r) (IsJoin answers c.args.self.now c.args.other.now) c.of.ensures.is
     (λ t is. subst (IsJoin answers c.args.self.now c.args.other.now) (sym is)
-    (joined_seen k c.other.inside.faults c.deref.result.now c.deref-2.result.now r c.args.self.now c.args.other.now (root_seen c.self.inside.faults c.deref.result.now c.self.inside.root.value c.deref.ensures c.args.self.now c.self.view_is) (root_seen c.other.inside.faults c.deref-2.result.now c.other.inside.root.value c.deref-2.ensures c.args.other.now c.other.view_is)
-    answers c.requires.same (root_good c.self.inside.faults c.deref.result.now c.self.inside.root.value c.deref.ensures c.self.invariant) (root_good c.other.inside.faults c.deref-2.result.now c.other.inside.root.value c.deref-2.ensures c.other.invariant)
+    (joined_seen k c.other.inside.faults c.deref.result.now c.deref-2.result.now r c.args.self.now c.args.other.now
+    (root_seen c.self.inside.faults c.deref.result.now c.self.inside.root.value c.deref.ensures c.args.self.now c.self.view_is)
+    (root_seen c.other.inside.faults c.deref-2.result.now c.other.inside.root.value c.deref-2.ensures c.args.other.now c.other.view_is)
+    answers c.requires.same (root_good c.self.inside.faults c.deref.result.now c.self.inside.root.value c.deref.ensures c.self.invariant)
+    (root_good c.other.inside.faults c.deref-2.result.now c.other.inside.root.value c.deref-2.ensures c.other.invariant)
     c.whole-space.result c.whole-space.ensures.is c.whole-space.ensures.lies c.in_ok-root.ensures.fit c.in_ok-root.ensures.made))
 
 pub returns-clause-pass : goal.returns-clause-pass
@@ -24,4 +27,6 @@ returns-clause-pass g c =
     let r : TreeNode g.row.V.Denot = c.in_ok-root.root in
     of_answer c.of.result (λ t. t ≡ state k r) (λ t. (test : ℕ → Bool) → DoPathsPass test c.args.self.now.paths → DoPathsPass test c.args.other.now.paths → DoPathsPass test t.paths) c.of.ensures.is
     (λ t is test first second. subst (λ (x : TreeState g.row.V.Denot). DoPathsPass test x.paths) (sym is)
-    (joined_pass k c.other.inside.faults c.deref.result.now c.deref-2.result.now r c.args.self.now c.args.other.now (root_seen c.self.inside.faults c.deref.result.now c.self.inside.root.value c.deref.ensures c.args.self.now c.self.view_is) (root_seen c.other.inside.faults c.deref-2.result.now c.other.inside.root.value c.deref-2.ensures c.args.other.now c.other.view_is) test (c.in_ok-root.ensures.pass test) first second))
+    (joined_pass k c.other.inside.faults c.deref.result.now c.deref-2.result.now r c.args.self.now c.args.other.now
+    (root_seen c.self.inside.faults c.deref.result.now c.self.inside.root.value c.deref.ensures c.args.self.now c.self.view_is)
+    (root_seen c.other.inside.faults c.deref-2.result.now c.other.inside.root.value c.deref-2.ensures c.args.other.now c.other.view_is) test (c.in_ok-root.ensures.pass test) first second))

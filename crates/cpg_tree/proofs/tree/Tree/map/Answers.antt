@@ -18,7 +18,8 @@ returns-clause-is g c =
     let good = root_good c.self.inside.faults c.deref.result.now c.self.inside.root.value c.deref.ensures c.self.invariant in
     of_answer c.of.result (λ t. t ≡ state k r) (IsMap (λ (x : g.row.T.Denot) (z : g.row.U.Denot). g.F.Fn.post c.args.f.now (x, tt) z) c.args.self.now) c.of.ensures.is
     (λ t is.
-    subst (λ (x : TreeState g.row.T.Denot). IsMap (λ (x : g.row.T.Denot) (z : g.row.U.Denot). g.F.Fn.post c.args.f.now (x, tt) z) x t) (root_seen c.self.inside.faults c.deref.result.now c.self.inside.root.value c.deref.ensures c.args.self.now c.self.view_is)
+    subst (λ (x : TreeState g.row.T.Denot). IsMap (λ (x : g.row.T.Denot) (z : g.row.U.Denot). g.F.Fn.post c.args.f.now (x, tt) z) x t)
+    (root_seen c.self.inside.faults c.deref.result.now c.self.inside.root.value c.deref.ensures c.args.self.now c.self.view_is)
     (subst (IsMap (λ (x : g.row.T.Denot) (z : g.row.U.Denot). g.F.Fn.post c.args.f.now (x, tt) z) (state k a)) (sym is)
     (map_paths k (λ (x : g.row.T.Denot) (z : g.row.U.Denot). g.F.Fn.post c.args.f.now (x, tt) z) a r
     good (good.0, good.1, c.in_ok-root.ensures.fit good.0 good.2) c.in_ok-root.ensures.made)))
@@ -31,4 +32,5 @@ returns-clause-pass g c =
     of_answer c.of.result (λ t. t ≡ state k r) _ c.of.ensures.is
     (λ t is test first. subst (λ (x : TreeState g.row.U.Denot). DoPathsPass test x.paths) (sym is)
     (paths_of_forks test k r (c.in_ok-root.ensures.pass test
-    (forks_of_paths test k a (subst (λ (x : TreeState g.row.T.Denot). DoPathsPass test x.paths) (sym (root_seen c.self.inside.faults c.deref.result.now c.self.inside.root.value c.deref.ensures c.args.self.now c.self.view_is)) first)))))
+    (forks_of_paths test k a (subst (λ (x : TreeState g.row.T.Denot). DoPathsPass test x.paths)
+    (sym (root_seen c.self.inside.faults c.deref.result.now c.self.inside.root.value c.deref.ensures c.args.self.now c.self.view_is)) first)))))
