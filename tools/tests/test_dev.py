@@ -78,6 +78,38 @@ class Unproved(Tree):
         self.assertEqual(self.run_tool("tools/unproved", "--help")[0], 0)
 
 
+class Names(Tree):
+    """Crates of a line or two each."""
+
+    copied = ("tools/dev/names",)
+
+    def said(self, files: dict[str, str]) -> tuple[int, list[str]]:
+        for name, text in files.items():
+            place = self.top / "crates" / name
+            place.parent.mkdir(parents=True, exist_ok=True)
+            place.write_text(text)
+        status, out, _ = self.run_tool("tools/dev/names")
+        return status, out.splitlines()
+
+    def test_one_meaning_each(self) -> None:
+        files = {"one/src/lib.rt": "pub struct Row {\n}\npub fn read() {}\n", "two/src/lib.rt": "enum Rows {\n}\npub fn read() {}\n", "two/proofs/Laws.antt": "x" * 200 + "\n"}
+        self.assertEqual(self.said(files), (0, ["2 types, 1 functions, 0 long lines of proofs: 0 wrong"]))
+
+    def test_a_type_twice(self) -> None:
+        files = {"one/src/lib.rt": "pub struct Row {\n}\n", "two/src/row.rt": "pub(crate) enum Row {\n}\n"}
+        self.assertEqual(self.said(files), (1, ["a type twice: Row: one/src/lib.rt, two/src/row.rt", "1 types, 0 functions, 0 long lines of proofs: 1 wrong"]))
+
+    def test_a_function_three_times(self) -> None:
+        """Methods and functions of one file alone don't count."""
+        files = {f"{name}/src/lib.rt": "pub fn read() {}\nfn own() {}\nimpl X {\n    pub fn new() {}\n}\n" for name in ("one", "two", "three")}
+        places = "one/src/lib.rt, three/src/lib.rt, two/src/lib.rt"
+        self.assertEqual(self.said(files), (1, [f"a function three times: read: {places}", "0 types, 1 functions, 0 long lines of proofs: 1 wrong"]))
+
+    def test_a_long_line(self) -> None:
+        status, lines = self.said({"one/proofs/Laws.antt": "\n" + "x" * 201 + "\n"})
+        self.assertEqual((status, lines[1:]), (1, ["crates/one/proofs/Laws.antt:2: 201 columns", "0 types, 0 functions, 1 long lines of proofs: 2 wrong"]))
+
+
 class Documents(Tree):
     """A small repository: one crate, three documents, and the commands of two of them."""
 

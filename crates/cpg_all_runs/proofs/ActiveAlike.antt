@@ -1,5 +1,6 @@
 -- Scenarios with the same active numbers have one run.
-use Rattle.std.proofs.Common.{◌≡◌, ◌∙◌, ℕ, ◌+◌, ◌-◌, ◌<◌, Bool, true, false, ◌&&◌, if◌then◌else◌, List, [], ◌∷◌, ◌++◌, map, get_or, Option, Some, None, option_to_list, option_map, arith, sym, ap, ap₂, subst, inl, inr}
+use Rattle.std.proofs.Common.{◌≡◌, ◌∙◌, ℕ, ◌+◌, ◌-◌, ◌<◌, Bool, true, false, ◌&&◌, if◌then◌else◌, List, [], ◌∷◌, ◌++◌, map, get_or, Option, Some, None, option_to_list, option_map, arith, sym, ap, ap₂}
+use Rattle.std.proofs.Common.{subst, inl, inr}
 use Rattle.std.proofs.lemmas.Bool.{cases_Bool, cond-false}
 use Rattle.std.proofs.lemmas.List.{get_or_append_left, get_or-append_right}
 use Rattle.std.proofs.lemmas.List.FromFn.{length-map-range_with_len}
@@ -76,14 +77,16 @@ module _ (g : Graph) (urgency : List ℕ) (urgent : IsUrgencyOrder g urgency) (l
   item_is_same : (x : ℕ) → ItemCases g x → item_active g s.values (item_at g x) ≡ item_active g u.values (item_at g x)
   item_is_same x (inl c) = ap (item_active g s.values) c.1 ∙ active_is_same x c.0 ∙ sym (ap (item_active g u.values) c.1)
   item_is_same x (inr (inl c)) = ap (item_active g s.values) c.3 ∙ ap (λ b. is_sent_item g (Message c.0) && b) (live_is_same c.0 c.1) ∙ sym (ap (item_active g u.values) c.3)
-  item_is_same x (inr (inr c)) = ap (item_active g s.values) c.3 ∙ ap (λ b. is_sent_item g (Broadcast c.0) && b) (active_is_same (process_of g c.0) (process_of_below g c.0 c.1)) ∙ sym (ap (item_active g u.values) c.3)
+  item_is_same x (inr (inr c)) = ap (item_active g s.values) c.3 ∙ ap (λ b. is_sent_item g (Broadcast c.0) && b) (active_is_same (process_of g c.0) (process_of_below g c.0 c.1)) ∙
+      sym (ap (item_active g u.values) c.3)
 
   module _ (order : List ℕ) (topological : IsTopological g order) (frozen : List (Option ℕ)) (t : Times) where
     start_same : (p : ℕ) → start_bounds g order s t p ≡ start_bounds g order u t p
     start_same p = ap (λ xs. (process_at g p).release ∷ xs) (ap₂ ◌++◌
         (ap₂ ◌++◌
         (ap (map (input_there g t)) (same_filter (live g s.values) (live g u.values) (inputs g p) (λ e c. live_is_same e (inputs_parts g p e c).0)))
-        (ap (map (end_in t)) (same_filter (active g s.values) (active g u.values) (before_on_node g order p) (λ q c. active_is_same q (from_order (process_count g) order topological.all q (on_node_before g order p q c).0)))))
+        (ap (map (end_in t)) (same_filter (active g s.values) (active g u.values) (before_on_node g order p)
+        (λ q c. active_is_same q (from_order (process_count g) order topological.all q (on_node_before g order p q c).0)))))
         (ap (map (heard_there g t (node_of g p))) (same_flat_map (deciding g s.values) (deciding g u.values) (before_on_node g order p ++ p ∷ []) (λ q c. deciding_is_same q))))
 
     send_same : (x : ℕ) → send_bounds g order s t x ≡ send_bounds g order u t x

@@ -52,11 +52,13 @@ module _ (g : Graph) (order : List ℕ) (top : IsTopological g order) where
   one_number value frozen n s t has run = ap value (run_unique g order top frozen s t has.0 run has.1) ∙ has.2
 
   module _ (urgency : List ℕ) (frozen : List (Option ℕ)) (list : List Scenario) (all : AreScenarios g list) (runs : List Times) (are : AreRuns g order frozen list runs)
-      (numbers : List ℕ) (at : ℕ) (f : IsFirstGreatest g urgency (length list) list numbers at) (s : Scenario) (t : Times) (scenario_at : (d : Scenario) → s ≡ get_or list at d) (run_at : (d : Times) → t ≡ get_or runs at d) (by : Option ℕ) where
+      (numbers : List ℕ) (at : ℕ) (f : IsFirstGreatest g urgency (length list) list numbers at) (s : Scenario) (t : Times) (scenario_at : (d : Scenario) → s ≡ get_or list at d)
+      (run_at : (d : Times) → t ≡ get_or runs at d) (by : Option ℕ) where
     its_run : IsRun g order frozen s t
     its_run = subst (λ z. IsRun g order frozen z t) (sym (scenario_at s)) (subst (IsRun g order frozen (get_or list at s)) (sym (run_at t)) (are.each at s t f.there))
 
-    pub is_worst : numbers ≡ map (λ u. u.finish) runs → IfSome by (λ p. IsFirstEnding t t.finish p) → IfNone by ((q : ℕ) → q < process_count g → get_or t.ends q None ≢ Some t.finish) → IsWorst g urgency order frozen (get_or numbers at 0) s by
+    pub is_worst : numbers ≡ map (λ u. u.finish) runs → IfSome by (λ p. IsFirstEnding t t.finish p) → IfNone by ((q : ℕ) → q < process_count g → get_or t.ends q None ≢ Some t.finish) →
+        IsWorst g urgency order frozen (get_or numbers at 0) s by
     is_worst is some none =
         let m = measured g order frozen (λ u. u.finish) list runs numbers are is in
         let least = peak_least (λ u. u.finish) urgency frozen list all numbers m at f s s (scenario_at s) in
@@ -79,7 +81,8 @@ module _ (g : Graph) (order : List ℕ) (top : IsTopological g order) where
         }
 
 -- if something exceeds, some process has the greatest excess
-pub least_exceeding : (g : Graph) (t : Times) (by : Option ℕ) → 0 < excess_in_run g t → IfSome by (IsFirstExceeding g t (excess_in_run g t)) → IfNone by ((q : ℕ) → q < process_count g → excess_of g t q ≢ excess_in_run g t) → IsLeastExceeding g t (excess_in_run g t) by
+pub least_exceeding : (g : Graph) (t : Times) (by : Option ℕ) → 0 < excess_in_run g t → IfSome by (IsFirstExceeding g t (excess_in_run g t)) →
+    IfNone by ((q : ℕ) → q < process_count g → excess_of g t q ≢ excess_in_run g t) → IsLeastExceeding g t (excess_in_run g t) by
 least_exceeding g t None some found none = elim (greatest_cases (map (excess_of g t) (numbers_below (process_count g)))) [
   | inl z ↦ z
   | inr c ↦ let r = Contains-map_parts (excess_of g t) (numbers_below (process_count g)) (excess_in_run g t) c in absurd (none r.0 (numbers-Contains (process_count g) r.0 r.1) r.2)

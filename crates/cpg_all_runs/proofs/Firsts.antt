@@ -13,7 +13,8 @@ use Rattle.cpg_all_runs.specs.Peaks.{IsFirstGreatest}
 
 module _ (g : Graph) (urgency : List ℕ) (n : ℕ) (list : List Scenario) (numbers : List ℕ) (at : ℕ) (f : IsFirstGreatest g urgency n list numbers at) where
   -- the one at n is greater, or as great and before it
-  pub takes_it : get_or numbers at 0 ≤ get_or numbers n 0 → (get_or numbers n 0 ≡ get_or numbers at 0 → (d : Scenario) → is_before g urgency (get_or list n d) (get_or list at d) ≡ true) → IsFirstGreatest g urgency (n + 1) list numbers n
+  pub takes_it : get_or numbers at 0 ≤ get_or numbers n 0 → (get_or numbers n 0 ≡ get_or numbers at 0 → (d : Scenario) → is_before g urgency (get_or list n d) (get_or list at d) ≡ true) →
+      IsFirstGreatest g urgency (n + 1) list numbers n
   takes_it much earlier = record {
     there = omega arith;
     most = λ i l. elim (cases_eq i n) [
@@ -31,7 +32,8 @@ module _ (g : Graph) (urgency : List ℕ) (n : ℕ) (list : List Scenario) (numb
   }
 
   -- it is less, or as great and not before it
-  pub skips_it : get_or numbers n 0 ≤ get_or numbers at 0 → (get_or numbers n 0 ≡ get_or numbers at 0 → (d : Scenario) → is_before g urgency (get_or list n d) (get_or list at d) ≡ false) → IsFirstGreatest g urgency (n + 1) list numbers at
+  pub skips_it : get_or numbers n 0 ≤ get_or numbers at 0 → (get_or numbers n 0 ≡ get_or numbers at 0 → (d : Scenario) → is_before g urgency (get_or list n d) (get_or list at d) ≡ false) →
+      IsFirstGreatest g urgency (n + 1) list numbers at
   skips_it few later = record {
     there = let l = f.there in omega arith;
     most = λ i l. elim (cases_eq i n) [

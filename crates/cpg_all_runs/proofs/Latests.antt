@@ -61,7 +61,8 @@ module _ (g : Graph) (order : List ℕ) (top : IsTopological g order) (frozen : 
     above = λ i s t time l at run e. absurd (omega arith);
   }
 
-  pub latest_more : (n : ℕ) (latest : Option ℕ) (s : Scenario) (t : Times) → n < length list → get_or list n s ≡ s → IsRun g order frozen s t → IsLatest g order frozen x n list latest → IsLatest g order frozen x (n + 1) list (later latest (get_or t.times x None))
+  pub latest_more : (n : ℕ) (latest : Option ℕ) (s : Scenario) (t : Times) → n < length list → get_or list n s ≡ s → IsRun g order frozen s t → IsLatest g order frozen x n list latest →
+      IsLatest g order frozen x (n + 1) list (later latest (get_or t.times x None))
   latest_more n latest s t within at run before = record {
     reached = λ time e. elim (later_cases latest (get_or t.times x None) time e) [
       | inl is ↦ before.reached time is

@@ -1,5 +1,6 @@
 -- Which scenarios the lists have.
-use Rattle.std.proofs.Common.{length, ◌≡◌, ◌∙◌, ℕ, zero, suc, ◌+◌, ◌-◌, ◌≢◌, ◌<◌, ◌≤◌, Bool, true, false, List, [], ◌∷◌, ◌++◌, map, get_or, set, sum, replicate, All, Contains, arith, refl, sym, ap, ap₂, subst, inl, inr, length-set, add-one}
+use Rattle.std.proofs.Common.{length, ◌≡◌, ◌∙◌, ℕ, zero, suc, ◌+◌, ◌-◌, ◌≢◌, ◌<◌, ◌≤◌, Bool, true, false, List, [], ◌∷◌, ◌++◌, map, get_or, set, sum, replicate, All, Contains, arith, refl, sym, ap}
+use Rattle.std.proofs.Common.{ap₂, subst, inl, inr, length-set, add-one}
 use Rattle.std.proofs.lemmas.Bool.{cases_eq, cases_lt, cases_Bool, both_ways}
 use Rattle.std.proofs.lemmas.List.{append_assoc, get_or-replicate, length-replicate, get_or_past, get_or-set_same, get_or-set_other, set-get_or, ext_get_or, map-append}
 use Rattle.std.proofs.lemmas.List.Elements.{Contains-get_or}
@@ -8,13 +9,15 @@ use Rattle.std.specs.List.{flat_map, AllPairs}
 use Rattle.cpg_base.specs.Numbers.{numbers_below}
 use Rattle.cpg_base.specs.Graph.{Graph, process_count, condition_count}
 use Rattle.cpg_base.specs.Scenario.{Scenario, IsScenario, zero_scenario, fault_of}
-use Rattle.cpg_base.proofs.Lists.{Contains-first, Contains-rest, Contains-nil, Contains-cases, Contains-map, Contains-map_parts, Contains-flat_map, Contains-flat_map_parts, Contains-numbers, numbers-Contains, below_push}
+use Rattle.cpg_base.proofs.Lists.{Contains-first, Contains-rest, Contains-nil, Contains-cases, Contains-map, Contains-map_parts, Contains-flat_map, Contains-flat_map_parts, Contains-numbers}
+use Rattle.cpg_base.proofs.Lists.{numbers-Contains, below_push}
 use Rattle.cpg_base.proofs.Pairs.{AllPairs-nil, AllPairs-cons_by, AllPairs-map, AllPairs-flat_map_in, numbers_apart}
 pub use Rattle.cpg_run.proofs.ZeroScenario.{zero_lawful}
 use Rattle.cpg_all_runs.specs.Listing.{AreScenarios, HasValue, with_fault, with_true, with_each_fault, with_both, with_faults_below, with_values_below}
 
 -- one more, as at a step of a loop
-pub appended_push : {X : Type 0} (f : ℕ → X) (before xs ys : List X) (y : X) (n : ℕ) → xs ≡ before ++ map f (numbers_below n) → y ≡ f n → ys ≡ xs ++ y ∷ [] → ys ≡ before ++ map f (numbers_below (n + 1))
+pub appended_push : {X : Type 0} (f : ℕ → X) (before xs ys : List X) (y : X) (n : ℕ) → xs ≡ before ++ map f (numbers_below n) → y ≡ f n → ys ≡ xs ++ y ∷ [] →
+    ys ≡ before ++ map f (numbers_below (n + 1))
 appended_push f before xs ys y n e h is = is ∙ ap₂ (λ zs z. zs ++ z ∷ []) e h ∙ append_assoc before (map f (numbers_below n)) (f n ∷ [])
     ∙ ap (λ zs. before ++ zs) (sym (ap (map f) (below_push n) ∙ map-append f (numbers_below n) (n ∷ [])))
 
@@ -87,7 +90,8 @@ module _ (g : Graph) where
         ];
         quiet = h.quiet;
       }))
-      (subst (Contains (with_each_fault g p without)) back (Contains-map (with_fault p without) (numbers_below (g.faults - sum without.faults + 1)) (fault_of s p) (Contains-numbers _ (fault_of s p) (omega arith))))
+      (subst (Contains (with_each_fault g p without)) back
+      (Contains-map (with_fault p without) (numbers_below (g.faults - sum without.faults + 1)) (fault_of s p) (Contains-numbers _ (fault_of s p) (omega arith))))
 
   -- every value false from the condition c on
   pub record HasValuesBelow (c : ℕ) (s : Scenario) : Type 0 where
@@ -143,7 +147,8 @@ module _ (g : Graph) where
       let back : again ≡ s = same again s (set_twice s.values c false (get_or s.values c false) false ∙ set-get_or s.values c false) refl in
       Contains-flat_map (with_both c) (with_values_below g c) without s there
       (elim (cases_Bool (get_or s.values c false)) [
-        | inl on ↦ subst (Contains (with_both c without)) (sym (ap (λ v. let r : Scenario = record s { values = set (set s.values c false) c v } in r) on) ∙ back) (Contains-rest without (with_true c without ∷ []) (with_true c without) (Contains-first (with_true c without) []))
+        | inl on ↦ subst (Contains (with_both c without)) (sym (ap (λ v. let r : Scenario = record s { values = set (set s.values c false) c v } in r) on) ∙ back)
+            (Contains-rest without (with_true c without ∷ []) (with_true c without) (Contains-first (with_true c without) []))
         | inr off ↦ subst (Contains (with_both c without)) (same without s (ap (set s.values c) (sym off) ∙ set-get_or s.values c false) refl) (Contains-first without (with_true c without ∷ []))
       ])
 

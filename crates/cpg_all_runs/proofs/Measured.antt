@@ -19,7 +19,8 @@ pub record AreMeasured (g : Graph) (order : List ℕ) (frozen : List (Option ℕ
 
 module _ (g : Graph) (order : List ℕ) (frozen : List (Option ℕ)) where
   -- one run more
-  pub runs_more : (n : ℕ) (list : List Scenario) (runs more : List Times) (t : Times) → AreFirstRuns g order frozen n list runs → ((d : Scenario) → IsRun g order frozen (get_or list n d) t) → more ≡ runs ++ t ∷ [] → AreFirstRuns g order frozen (n + 1) list more
+  pub runs_more : (n : ℕ) (list : List Scenario) (runs more : List Times) (t : Times) → AreFirstRuns g order frozen n list runs → ((d : Scenario) → IsRun g order frozen (get_or list n d) t) →
+      more ≡ runs ++ t ∷ [] → AreFirstRuns g order frozen (n + 1) list more
   runs_more n list runs more t a new is = record {
     count = ap length is ∙ length-append runs (t ∷ []) ∙ ap (λ m. m + 1) a.count;
     each = λ i s d l. elim (cases_lt i n) [
@@ -32,7 +33,8 @@ module _ (g : Graph) (order : List ℕ) (frozen : List (Option ℕ)) where
   }
 
   -- what is read off each run
-  pub measured : (value : Times → ℕ) (list : List Scenario) (runs : List Times) (numbers : List ℕ) → AreRuns g order frozen list runs → numbers ≡ map value runs → AreMeasured g order frozen value list numbers
+  pub measured : (value : Times → ℕ) (list : List Scenario) (runs : List Times) (numbers : List ℕ) → AreRuns g order frozen list runs → numbers ≡ map value runs →
+      AreMeasured g order frozen value list numbers
   measured value list runs numbers a is = record {
     long = ap length is ∙ length-map runs value ∙ a.count;
     each = λ i s l. let t = get_or runs i no_run in (t, a.each i s no_run l, sym (ap (λ ns. get_or ns i 0) is ∙ get_or-map value runs i no_run 0 (omega (arith, a.count))));

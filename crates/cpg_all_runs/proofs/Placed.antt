@@ -1,5 +1,6 @@
 -- Look-ups of places by numbers.
-use Rattle.std.proofs.Common.{Ordering, Less, Equal, Greater, ◌≡◌, ◌≢◌, ◌∙◌, ℕ, ◌+◌, ◌<◌, ◌≤◌, true, Bool, false, List, [], ◌∷◌, ◌++◌, map, All, length, length-append, get_or, Some, None, rules, refl, sym, ap, subst, inl, inr, arith}
+use Rattle.std.proofs.Common.{Ordering, Less, Equal, Greater, ◌≡◌, ◌≢◌, ◌∙◌, ℕ, ◌+◌, ◌<◌, ◌≤◌, true, Bool, false, List, [], ◌∷◌, ◌++◌, map, All, length, length-append, get_or, Some, None, rules, refl}
+use Rattle.std.proofs.Common.{sym, ap, subst, inl, inr, arith}
 use Rattle.std.proofs.lemmas.Bool.{cases_Bool, cases_eq, cases_lt}
 use Rattle.std.proofs.lemmas.Option.{none-some}
 use Rattle.std.proofs.lemmas.List.{append_assoc, get_or_append_left}
@@ -35,7 +36,8 @@ module _ (P : Vec ℕ × ℕ → Type 0) where
     | inr t ↦ placed_found f es i (All-tail P x es a) (sym (lookup_tail (is_at f) x es t) ∙ e)
   ]
 
-  put_by_order : (k : Vec ℕ) (v : ℕ) (e : Vec ℕ × ℕ) (es rest : List (Vec ℕ × ℕ)) → P (k, v) → (o : Ordering) → (o ≡ Equal → P (e.0, v)) → All P (e ∷ es) → All P rest → All P (match_ordering o ((k, v) ∷ e ∷ es) ((e.0, v) ∷ es) (e ∷ rest))
+  put_by_order : (k : Vec ℕ) (v : ℕ) (e : Vec ℕ × ℕ) (es rest : List (Vec ℕ × ℕ)) → P (k, v) → (o : Ordering) → (o ≡ Equal → P (e.0, v)) → All P (e ∷ es) → All P rest →
+      All P (match_ordering o ((k, v) ∷ e ∷ es) ((e.0, v) ∷ es) (e ∷ rest))
   put_by_order k v e es rest p Less q a r = All-cons P (k, v) (e ∷ es) p a
   put_by_order k v e es rest p Equal q a r = All-cons P (e.0, v) es (q refl) (All-tail P e es a)
   put_by_order k v e es rest p Greater q a r = All-cons P e rest (All-head P e es a) r

@@ -1,5 +1,6 @@
 -- How all scenarios go along an order together.
-use Rattle.std.proofs.Common.{◌≡◌, ◌≢◌, ◌∙◌, ℕ, ◌+◌, ◌*◌, ◌<◌, ◌≤◌, List, [], ◌∷◌, ◌++◌, length, length-set, length-append, get_or, set, Option, None, arith, sym, ap, ap₂, inl, inr, subst, get_or-set_same, get_or-set_other}
+use Rattle.std.proofs.Common.{◌≡◌, ◌≢◌, ◌∙◌, ℕ, ◌+◌, ◌*◌, ◌<◌, ◌≤◌, List, [], ◌∷◌, ◌++◌, length, length-set, length-append, get_or, set, Option, None, arith, sym, ap, ap₂, inl, inr, subst}
+use Rattle.std.proofs.Common.{get_or-set_same, get_or-set_other}
 use Rattle.std.proofs.lemmas.Bool.{cases_eq, cases_lt}
 use Rattle.std.proofs.lemmas.List.{get_or_append_left}
 use Rattle.std.proofs.Math.Seq.{get_or-append_seam}
@@ -9,14 +10,15 @@ use Rattle.cpg_order.specs.Urgency.{IsTopological}
 use Rattle.cpg_order.proofs.Moments.{phase, phases, phase_below, moment, sooner}
 use Rattle.cpg_run.specs.Progress.{ProgressState, IsAlong}
 use Rattle.cpg_run.proofs.Agreeing.{along_same}
-use Rattle.cpg_all_runs.specs.Sweep.{AreAlong, place_of}
+use Rattle.cpg_all_runs.specs.Sweep.{AreAlong, place_of_item}
 
 -- nothing is known of n scenarios
 pub record AreBeginnings (g : Graph) (n : ℕ) (found : List ProgressState) : Type 0 where
   pub count : length found ≡ n
   pub each : (order : List ℕ) (frozen : List (Option ℕ)) (s : Scenario) (j : ℕ) (p : ProgressState) → j < n → IsAlong g order frozen s 0 (get_or found j p)
 
-pub beginnings_more : (g : Graph) (n : ℕ) (found more : List ProgressState) (q : ProgressState) → AreBeginnings g n found → ((order : List ℕ) (frozen : List (Option ℕ)) (s : Scenario) → IsAlong g order frozen s 0 q)
+pub beginnings_more : (g : Graph) (n : ℕ) (found more : List ProgressState) (q : ProgressState) → AreBeginnings g n found →
+    ((order : List ℕ) (frozen : List (Option ℕ)) (s : Scenario) → IsAlong g order frozen s 0 q)
     → more ≡ found ++ q ∷ [] → AreBeginnings g (n + 1) more
 beginnings_more g n found more q a new is = record {
   count = ap length is ∙ length-append found (q ∷ []) ∙ ap (λ m. m + 1) a.count;
@@ -50,11 +52,11 @@ module _ (g : Graph) (order : List ℕ) (frozen : List (Option ℕ)) (i : ℕ) (
   stepped_all n found a e = record { count = a.count; each = λ j s p l. a.stepped j s p (omega arith) l }
 
   -- what is found before a place stays so if an item of the place, or of a later one, gets a frozen time
-  pub along_kept : IsTopological g order → (more : List (Option ℕ)) (x : ℕ) (found : List ProgressState) → place_of g order x ≡ i → ((y : ℕ) → y ≢ x → get_or more y None ≡ get_or frozen y None)
+  pub along_kept : IsTopological g order → (more : List (Option ℕ)) (x : ℕ) (found : List ProgressState) → place_of_item g order x ≡ i → ((y : ℕ) → y ≢ x → get_or more y None ≡ get_or frozen y None)
       → AreAlong g order frozen i list found → AreAlong g order more i list found
   along_kept topological more x found at same a = record {
     count = a.count;
-    each = λ j s p l. along_same g order topological frozen more (get_or list j s) i (get_or found j p) (λ y h k. sym (same y (λ e. omega (arith, ap (place_of g order) e, at)))) (a.each j s p l);
+    each = λ j s p l. along_same g order topological frozen more (get_or list j s) i (get_or found j p) (λ y h k. sym (same y (λ e. omega (arith, ap (place_of_item g order) e, at)))) (a.each j s p l);
   }
 
 -- over plain numbers
@@ -62,5 +64,5 @@ no_earlier_place : (a b f h m : ℕ) → a * m + f < b * m + h → h < m → a �
 no_earlier_place a b f h m l k = elim (cases_lt b a) [ inl less ↦ absurd (let r = sooner b a h m less k in omega arith) | inr more ↦ more ]
 
 -- what has a later moment has no earlier place
-pub later_place : (g : Graph) (order : List ℕ) (x y : ℕ) → y < item_count g → moment g order x < moment g order y → place_of g order x ≤ place_of g order y
-later_place g order x y h l = no_earlier_place (place_of g order x) (place_of g order y) (phase (item_at g x)) (phase (item_at g y)) (phases g) l (phase_below g y h)
+pub later_place : (g : Graph) (order : List ℕ) (x y : ℕ) → y < item_count g → moment g order x < moment g order y → place_of_item g order x ≤ place_of_item g order y
+later_place g order x y h l = no_earlier_place (place_of_item g order x) (place_of_item g order y) (phase (item_at g x)) (phase (item_at g y)) (phases g) l (phase_below g y h)

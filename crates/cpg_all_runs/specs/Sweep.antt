@@ -11,5 +11,5 @@ pub record AreAlong (g : Graph) (order : List ℕ) (frozen : List (Option ℕ)) 
   pub each : (j : ℕ) (s : Scenario) (p : ProgressState) → j < length list → IsAlong g order frozen (get_or list j s) i (get_or found j p)
 
 -- the place of the process that an item comes from
-abbrev pub place_of : Graph → List ℕ → ℕ → ℕ
-place_of g order x = place order (producer g x)
+abbrev pub place_of_item : Graph → List ℕ → ℕ → ℕ
+place_of_item g order x = place order (producer g x)

@@ -11,7 +11,7 @@ ghost use Rattle.cpg_run.specs.Setting.{IsSetting};
 ghost use Rattle.cpg_all_runs.specs.Active.{AreExamples};
 ghost use Rattle.cpg_all_runs.specs.FirstAlike.{AreFirstAlike};
 ghost use Rattle.cpg_all_runs.specs.Listing.{AreScenarios};
-ghost use Rattle.cpg_all_runs.specs.Sweep.{AreAlong, place_of};
+ghost use Rattle.cpg_all_runs.specs.Sweep.{AreAlong, place_of_item};
 
 use crate::examples::examples;
 use crate::latest::unfrozen_time;
@@ -19,7 +19,7 @@ use crate::sweeping::{advance, beginnings};
 use cpg_base::{Order, OutOfMemory, Problem, Scenario};
 use cpg_bus::Plan;
 use cpg_rules::Admitted;
-use cpg_run::{Frozen, Progress, Setting};
+use cpg_run::{FrozenTimes, RunProgress, Setting};
 use std::alloc::Global;
 
 /// Adds an item, if it is frozen.
@@ -73,9 +73,9 @@ fn frozen_items(
 fn settle(
     alloc: Global,
     setting: &Setting<'_>,
-    frozen: &mut Frozen,
+    frozen: &mut FrozenTimes,
     scenarios: &[Scenario],
-    found: &[Progress],
+    found: &[RunProgress],
     place: u32,
     item: u32,
 ) -> Result<(), OutOfMemory>
@@ -86,7 +86,7 @@ fn settle(
     requires place { place < process_count setting.now.problem.now }
     requires along { AreAlong setting.now.problem.now setting.now.order.now frozen.old place scenarios.now found.now }
     requires item { item < item_count setting.now.problem.now }
-    requires there { place_of setting.now.problem.now setting.now.order.now item ≡ place }
+    requires there { place_of_item setting.now.problem.now setting.now.order.now item ≡ place }
     requires unset { get_or frozen.old item None ≡ None }
     ensures item { IfOk result (λ _. IsUnfrozenTime setting.now.problem.now setting.now.order.now frozen.old item (get_or frozen.new item None)) }
     ensures others { IfOk result (λ _. (other : ℕ) → other ≢ item → get_or frozen.new other None ≡ get_or frozen.old other None) }
@@ -107,7 +107,7 @@ fn sweep(
     setting: &Setting<'_>,
     scenarios: &[Scenario],
     items: &[u32],
-) -> Result<Frozen, OutOfMemory>
+) -> Result<FrozenTimes, OutOfMemory>
     requires setting { IsSetting setting.now }
     requires scenarios { AreExamples setting.now.problem.now scenarios.now }
     requires items { items.now ≡ frozen_along setting.now.problem.now setting.now.order.now }
@@ -115,7 +115,7 @@ fn sweep(
     ensures early { IfOk result (λ frozen. AreEarly frozen) }
 {
     let problem = setting.problem;
-    let mut frozen = Frozen::none(alloc, problem)?;
+    let mut frozen = FrozenTimes::none(alloc, problem)?;
     let mut found = beginnings(alloc, problem, scenarios)?;
     let mut place = 0;
     for item in items {
@@ -145,7 +145,7 @@ pub fn frozen_times(
     plan: &Plan,
     scenarios: &[Scenario],
     firsts: &[usize],
-) -> Result<Frozen, OutOfMemory>
+) -> Result<FrozenTimes, OutOfMemory>
     requires topological { IsTopological admitted.now.graph order.now }
     requires plan { plan.now ≡ plan_of admitted.now.graph }
     requires scenarios { AreScenarios admitted.now.graph scenarios.now }
@@ -156,7 +156,7 @@ pub fn frozen_times(
     let problem = admitted.problem();
     let items = frozen_items(alloc, problem, order, plan)?;
     if items.is_empty() {
-        let frozen = Frozen::none(alloc, problem)?;
+        let frozen = FrozenTimes::none(alloc, problem)?;
         return Ok(frozen);
     }
     let examples = examples(alloc, scenarios, firsts)?;

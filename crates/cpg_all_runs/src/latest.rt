@@ -8,10 +8,10 @@ ghost use Rattle.cpg_run.specs.Progress.{IsAlong};
 ghost use Rattle.cpg_run.specs.Setting.{IsSetting};
 ghost use Rattle.cpg_all_runs.specs.Active.{AreExamples};
 ghost use Rattle.cpg_run.specs.Latest.{later, IsUnfrozenTime};
-ghost use Rattle.cpg_all_runs.specs.Sweep.{AreAlong, place_of};
+ghost use Rattle.cpg_all_runs.specs.Sweep.{AreAlong, place_of_item};
 
 use cpg_base::{OutOfMemory, Scenario};
-use cpg_run::{Frozen, Progress, Setting};
+use cpg_run::{FrozenTimes, RunProgress, Setting};
 use std::alloc::Global;
 
 /// The later of two times that may be missing.
@@ -31,9 +31,9 @@ fn later(first: Option<u64>, second: Option<u64>) -> Option<u64>
 fn time_there(
     alloc: Global,
     setting: &Setting<'_>,
-    frozen: &Frozen,
+    frozen: &FrozenTimes,
     scenario: &Scenario,
-    progress: &Progress,
+    progress: &RunProgress,
     place: u32,
     item: u32,
 ) -> Result<Option<u64>, OutOfMemory>
@@ -44,7 +44,7 @@ fn time_there(
     requires place { place < process_count setting.now.problem.now }
     requires along { IsAlong setting.now.problem.now setting.now.order.now frozen.now scenario.now place progress.now }
     requires item { item < item_count setting.now.problem.now }
-    requires there { place_of setting.now.problem.now setting.now.order.now item ≡ place }
+    requires there { place_of_item setting.now.problem.now setting.now.order.now item ≡ place }
     ensures { IfOk result (λ time. (t : Times) → IsRun setting.now.problem.now setting.now.order.now frozen.now scenario.now t
         → time ≡ get_or t.times item None) }
 {
@@ -59,9 +59,9 @@ fn time_there(
 pub(crate) fn unfrozen_time(
     alloc: Global,
     setting: &Setting<'_>,
-    frozen: &Frozen,
+    frozen: &FrozenTimes,
     scenarios: &[Scenario],
-    found: &[Progress],
+    found: &[RunProgress],
     place: u32,
     item: u32,
 ) -> Result<Option<u64>, OutOfMemory>
@@ -72,7 +72,7 @@ pub(crate) fn unfrozen_time(
     requires place { place < process_count setting.now.problem.now }
     requires along { AreAlong setting.now.problem.now setting.now.order.now frozen.now place scenarios.now found.now }
     requires item { item < item_count setting.now.problem.now }
-    requires there { place_of setting.now.problem.now setting.now.order.now item ≡ place }
+    requires there { place_of_item setting.now.problem.now setting.now.order.now item ≡ place }
     requires unset { get_or frozen.now item None ≡ None }
     ensures { IfOk result (IsUnfrozenTime setting.now.problem.now setting.now.order.now frozen.now item) }
 {

@@ -11,7 +11,7 @@ use std::alloc::Global;
 use std::collections::BTreeMap;
 
 /// The place of a list of numbers: the one that it has, else the given one, which it gets.
-fn place_of(
+fn kept_place(
     places: &mut BTreeMap<Vec<u16>, usize>,
     numbers: Vec<u16>,
     at: usize,
@@ -41,7 +41,7 @@ pub fn first_alike(
     firsts.reserve(scenarios.len())?;
     for at in 0..scenarios.len() {
         let numbers = active_numbers(alloc, problem, guards, &scenarios[at])?;
-        firsts.push(place_of(&mut places, numbers, at)?)?;
+        firsts.push(kept_place(&mut places, numbers, at)?)?;
     }
     Ok(firsts)
 }

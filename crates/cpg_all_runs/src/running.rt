@@ -14,7 +14,7 @@ ghost use Rattle.cpg_all_runs.specs.Runs.{AreFirstRuns, AreRuns};
 use cpg_base::{Order, OutOfMemory, Scenario};
 use cpg_bus::Plan;
 use cpg_rules::Admitted;
-use cpg_run::{Frozen, RunTimes, Setting, run_by};
+use cpg_run::{FrozenTimes, RunTimes, Setting, run_by};
 use std::alloc::Global;
 
 /// The run of the scenario at a place of a list, given the place of one that has the same runs: if that stands before it,
@@ -22,7 +22,7 @@ use std::alloc::Global;
 fn run_at(
     alloc: Global,
     setting: &Setting<'_>,
-    frozen: &Frozen,
+    frozen: &FrozenTimes,
     scenarios: &[Scenario],
     runs: &[RunTimes],
     first: usize,
@@ -53,7 +53,7 @@ pub fn runs(
     admitted: &Admitted,
     order: &Order,
     plan: &Plan,
-    frozen: &Frozen,
+    frozen: &FrozenTimes,
     scenarios: &[Scenario],
     firsts: &[usize],
 ) -> Result<Vec<RunTimes>, OutOfMemory>

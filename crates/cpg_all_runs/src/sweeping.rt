@@ -7,7 +7,7 @@ ghost use Rattle.cpg_run.specs.Setting.{IsSetting};
 ghost use Rattle.cpg_all_runs.specs.Sweep.{AreAlong};
 
 use cpg_base::{OutOfMemory, Problem, Scenario};
-use cpg_run::{Frozen, Progress, Setting};
+use cpg_run::{FrozenTimes, RunProgress, Setting};
 use std::alloc::Global;
 
 /// Nothing is known of the run of any of these scenarios.
@@ -15,13 +15,13 @@ pub(crate) fn beginnings(
     alloc: Global,
     problem: &Problem,
     scenarios: &[Scenario],
-) -> Result<Vec<Progress>, OutOfMemory>
+) -> Result<Vec<RunProgress>, OutOfMemory>
     ensures { IfOk result (λ found. (order : List ℕ) (frozen : List (Option ℕ)) → AreAlong problem.now order frozen 0 scenarios.now found.items) }
 {
     let mut found = Vec::new(alloc);
     found.reserve(scenarios.len())?;
     for _ in 0..scenarios.len() {
-        found.push(Progress::none(alloc, problem)?)?;
+        found.push(RunProgress::none(alloc, problem)?)?;
     }
     Ok(found)
 }
@@ -30,9 +30,9 @@ pub(crate) fn beginnings(
 fn step_each(
     alloc: Global,
     setting: &Setting<'_>,
-    frozen: &Frozen,
+    frozen: &FrozenTimes,
     scenarios: &[Scenario],
-    found: &mut Vec<Progress>,
+    found: &mut Vec<RunProgress>,
     place: u32,
 ) -> Result<(), OutOfMemory>
     requires setting { IsSetting setting.now }
@@ -53,9 +53,9 @@ fn step_each(
 pub(crate) fn advance(
     alloc: Global,
     setting: &Setting<'_>,
-    frozen: &Frozen,
+    frozen: &FrozenTimes,
     scenarios: &[Scenario],
-    found: &mut Vec<Progress>,
+    found: &mut Vec<RunProgress>,
     from: u32,
     to: u32,
 ) -> Result<(), OutOfMemory>

@@ -1,7 +1,7 @@
 -- A run that read the files of its words, and did the work on what they say, ends lawfully.
 use Rattle.std.proofs.Common.{◌≡◌, ◌∙◌, List, [], ◌∷◌, Some, None, sym, ap, subst, arith, inl, inr}
 use Rattle.std.specs.Prelude.{All}
-use Rattle.cpg_tale.specs.Fetch.{Fetch}
+use Rattle.cpg_history.specs.Fetch.{Fetch}
 use Rattle.cpg_words.specs.FileWords.{file_words}
 use Rattle.cpg_words.specs.Parts.{Text}
 use Rattle.cpg_words.specs.Forms.{command_of}
@@ -10,7 +10,7 @@ use Rattle.cpg_table.specs.Lawful.{Tables}
 use Rattle.cpg_table.specs.Table.{table_at}
 use Rattle.cpg_refusal.specs.declared.halt.Halt.{Halt}
 use Rattle.cpg_refusal.specs.Lines.{IsNamed}
-use Rattle.cpg_inputs.specs.declared.kind.Kind.TheVariants.{PackFile}
+use Rattle.cpg_inputs.specs.declared.kind.FileKind.TheVariants.{PackFile}
 use Rattle.cpg_inputs.specs.Files.{file, files_of}
 use Rattle.cpg_inputs.specs.Says.{Value, tables_value}
 use Rattle.cpg_inputs.specs.Reading.{IsRead, Reads}
@@ -41,8 +41,10 @@ pub may_follow : (may : Text → Type 0) (c : Command) (vs : List Value) (f : Fo
 may_follow may c vs f path live files = (subst (λ (k : Command). All may (file_words k)) live.command files) 1 path (omega arith)
 
 -- the run of a node that followed a stream
-module _ (r : Ran) (c : Command) (vs : List Value) (f : Follower) (path : Text) (mid : List Fetch) (words : command_of r.words ≡ Some c) (reads : Reads None (files_of c) r.shelf.old.history mid vs) (live : IsLive c vs f path) where
-  one : (ws : List Value) → ws ≡ tables_value live.tables ∷ [] → Reads None (file PackFile live.pack ∷ []) r.shelf.old.history mid ws → (read : Fetch) × IsRead None (file PackFile live.pack) read (tables_value live.tables) × (mid ≡ read ∷ r.shelf.old.history)
+module _ (r : Ran) (c : Command) (vs : List Value) (f : Follower) (path : Text) (mid : List Fetch) (words : command_of r.words ≡ Some c) (reads : Reads None (files_of c) r.shelf.old.history mid vs)
+    (live : IsLive c vs f path) where
+  one : (ws : List Value) → ws ≡ tables_value live.tables ∷ [] → Reads None (file PackFile live.pack ∷ []) r.shelf.old.history mid ws → (read : Fetch) ×
+      IsRead None (file PackFile live.pack) read (tables_value live.tables) × (mid ≡ read ∷ r.shelf.old.history)
   one ws is reads = subst (Reads None (file PackFile live.pack ∷ []) r.shelf.old.history mid) is reads
 
   pack_read : (read : Fetch) × IsRead None (file PackFile live.pack) read (tables_value live.tables) × (mid ≡ read ∷ r.shelf.old.history)
@@ -72,7 +74,8 @@ module _ (r : Ran) (c : Command) (vs : List Value) (f : Follower) (path : Text) 
     table_is = ap (λ (g : Follower). g.table) live.follower.opened
 
     told : IsToldTo live.tables.head (table_at live.tables.nodes live.follower.node) (streamed at.fetch r.out) r.err r.status
-    told = subst (λ h. IsToldTo h (table_at live.tables.nodes live.follower.node) (streamed at.fetch r.out) r.err r.status) head_is (subst (λ n. IsToldTo f.head n (streamed at.fetch r.out) r.err r.status) table_is at.ends)
+    told = subst (λ h. IsToldTo h (table_at live.tables.nodes live.follower.node) (streamed at.fetch r.out) r.err r.status) head_is
+        (subst (λ n. IsToldTo f.head n (streamed at.fetch r.out) r.err r.status) table_is at.ends)
 
     pub followed_lawful : IsLawful r
     followed_lawful = elim told [

@@ -33,19 +33,24 @@ pub on_tables : (t : Tables) (values : List Value) (F : Tables → Type 0) → A
 on_tables t values F alike (u, is, fact) =
     let k : AllAlike (tables_value t ∷ []) (tables_value u ∷ []) = subst (AllAlike (tables_value t ∷ [])) is alike in subst F k.0 fact
 
-pub on_judged : (a : Admission) (t : Tables) (values : List Value) (F : Admission → Tables → Type 0) → AllAlike (graph_value a ∷ tables_value t ∷ []) values → OnJudged values F → (b : Admission) × AreAlike a b × F b t
+pub on_judged : (a : Admission) (t : Tables) (values : List Value) (F : Admission → Tables → Type 0) → AllAlike (graph_value a ∷ tables_value t ∷ []) values → OnJudged values F → (b : Admission) ×
+    AreAlike a b × F b t
 on_judged a t values F alike (b, u, is, fact) =
     let k : AllAlike (graph_value a ∷ tables_value t ∷ []) (graph_value b ∷ tables_value u ∷ []) = subst (AllAlike (graph_value a ∷ tables_value t ∷ [])) is alike in
     (b, k.0, subst (F b) k.1.0 fact)
 
-pub on_played : (a : Admission) (t : Tables) (p : Played) (values : List Value) (F : Admission → Tables → Played → Type 0) → AllAlike (graph_value a ∷ tables_value t ∷ played_value p ∷ []) values → OnPlayed values F → (b : Admission) × AreAlike a b × F b t p
+pub on_played : (a : Admission) (t : Tables) (p : Played) (values : List Value) (F : Admission → Tables → Played → Type 0) → AllAlike (graph_value a ∷ tables_value t ∷ played_value p ∷ []) values →
+    OnPlayed values F → (b : Admission) × AreAlike a b × F b t p
 on_played a t p values F alike (b, u, q, is, fact) =
-    let k : AllAlike (graph_value a ∷ tables_value t ∷ played_value p ∷ []) (graph_value b ∷ tables_value u ∷ played_value q ∷ []) = subst (AllAlike (graph_value a ∷ tables_value t ∷ played_value p ∷ [])) is alike in
+    let k : AllAlike (graph_value a ∷ tables_value t ∷ played_value p ∷ []) (graph_value b ∷ tables_value u ∷ played_value q ∷ []) =
+    subst (AllAlike (graph_value a ∷ tables_value t ∷ played_value p ∷ [])) is alike in
     (b, k.0, subst (F b t) k.1.1.0 (subst (λ v. F b v q) k.1.0 fact))
 
-pub on_logged : (a : Admission) (t : Tables) (l : Log) (values : List Value) (F : Admission → Tables → Log → Type 0) → AllAlike (graph_value a ∷ tables_value t ∷ log_value l ∷ []) values → OnLogged values F → (b : Admission) × AreAlike a b × ((m : Log) × F b t m)
+pub on_logged : (a : Admission) (t : Tables) (l : Log) (values : List Value) (F : Admission → Tables → Log → Type 0) → AllAlike (graph_value a ∷ tables_value t ∷ log_value l ∷ []) values →
+    OnLogged values F → (b : Admission) × AreAlike a b × ((m : Log) × F b t m)
 on_logged a t l values F alike (b, u, m, is, fact) =
-    let k : AllAlike (graph_value a ∷ tables_value t ∷ log_value l ∷ []) (graph_value b ∷ tables_value u ∷ log_value m ∷ []) = subst (AllAlike (graph_value a ∷ tables_value t ∷ log_value l ∷ [])) is alike in
+    let k : AllAlike (graph_value a ∷ tables_value t ∷ log_value l ∷ []) (graph_value b ∷ tables_value u ∷ log_value m ∷ []) =
+    subst (AllAlike (graph_value a ∷ tables_value t ∷ log_value l ∷ [])) is alike in
     (b, k.0, (m, subst (λ v. F b v m) k.1.0 fact))
 
 abbrev part_of : ℕ → Graph → Part

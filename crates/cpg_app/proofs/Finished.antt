@@ -2,7 +2,7 @@
 use Rattle.std.proofs.Common.{◌≡◌, ◌≢◌, List, [], ◌∷◌, Option, None, arith, refl, inl, inr}
 use Rattle.std.specs.Prelude.{◌⊎◌, Result, Ok, Err}
 use Rattle.cpg_base.specs.Graph.{Graph}
-use Rattle.cpg_tale.specs.Fetch.{Fetch}
+use Rattle.cpg_history.specs.Fetch.{Fetch}
 use Rattle.cpg_words.specs.Parts.{Text}
 use Rattle.cpg_words.specs.Forms.{command_of}
 use Rattle.cpg_words.specs.declared.fault.WordsFault.{WordsFault}
@@ -29,7 +29,8 @@ of_whole f fetch w = record { named = w.named }
 wants_too : (g : Option Graph) (f : File) (fetch : Fetch) (h : Halt) → h ≢ Read → StopsAt g f fetch h → IsWanting f fetch Memory
 wants_too g f fetch h other (inl unread) = absurd (other unread.halt_is)
 wants_too g f fetch h other (inr (inl long)) = record { of = long.of; sound = long.sound; few = (let o = long.over in omega (arith, o)); halt_is = refl }
-wants_too g f fetch h other (inr (inr (inl refused))) = record { of = of_whole f fetch refused.whole; sound = refused.whole.sound; few = (let s = refused.whole.short in omega (arith, s)); halt_is = refl }
+wants_too g f fetch h other (inr (inr (inl refused))) =
+    record { of = of_whole f fetch refused.whole; sound = refused.whole.sound; few = (let s = refused.whole.short in omega (arith, s)); halt_is = refl }
 wants_too g f fetch h other (inr (inr (inr wanting))) = record { of = wanting.of; sound = wanting.sound; few = wanting.few; halt_is = refl }
 
 files_memory : (g : Option Graph) (files : List File) (past now : List Fetch) (h : Halt) → h ≢ Read → StopsReading g files past now h → StopsReading g files past now Memory

@@ -8,7 +8,8 @@ use Rattle.cpg_base.specs.Graph.{Graph, process_count, node_of}
 use Rattle.cpg_base.specs.WellFormed.{WellFormed}
 use Rattle.cpg_base.specs.Duration.{duration}
 use Rattle.cpg_base.specs.Scenario.{IsScenario, fault_of}
-use Rattle.cpg_base.proofs.Lists.{Contains-first, Contains-cases, Contains-nil, Contains-map, Contains-map_parts, Contains-filter, Contains-filter_parts, Contains-flat_map, Contains-flat_map_parts, Contains-numbers, numbers-Contains, greatest_above, greatest-le}
+use Rattle.cpg_base.proofs.Lists.{Contains-first, Contains-cases, Contains-nil, Contains-map, Contains-map_parts, Contains-filter, Contains-filter_parts, Contains-flat_map, Contains-flat_map_parts}
+use Rattle.cpg_base.proofs.Lists.{Contains-numbers, numbers-Contains, greatest_above, greatest-le}
 use Rattle.cpg_table.specs.Table.{NodeTable, at}
 use Rattle.cpg_table.specs.Shape.{processes_on}
 use Rattle.cpg_run.specs.Run.{Times, IsRun, end_by}
@@ -19,7 +20,8 @@ use Rattle.cpg_cluster.specs.Correct.{ends_asked, ended_in}
 use Rattle.cpg_cluster.specs.Whole.{IsWholePlay}
 use Rattle.cpg_show.specs.TraceText.{finish_of, end_times}
 
-module _ (g : Graph) (formed : WellFormed g) (tables : List NodeTable) (order : List ℕ) (frozen : List (Option ℕ)) (exact : HasRunTimes g order frozen tables) (w : World) (lawful : IsScenario g w.scenario)
+module _ (g : Graph) (formed : WellFormed g) (tables : List NodeTable) (order : List ℕ) (frozen : List (Option ℕ)) (exact : HasRunTimes g order frozen tables) (w : World)
+    (lawful : IsScenario g w.scenario)
     (t : Times) (run : IsRun g order frozen w.scenario t) (c : Cluster) (whole : IsWholePlay g tables w c) where
   starts_of : (p : ℕ) → at tables p w.scenario ≡ option_to_list (get_or t.times p None)
   starts_of p = exact w.scenario t p lawful run
@@ -66,7 +68,8 @@ module _ (g : Graph) (formed : WellFormed g) (tables : List NodeTable) (order : 
       let time : end_at p started.0 ≡ x = ap (λ (e : ℕ × Ended). e.0) started.2 ∙ told.2 in
       let ends : end_by g w.scenario t p ≡ Some x = ended_at p (get_or t.times p None) started.0 there ∙ ap Some time in
       Contains-flat_map option_to_list t.ends (Some x) x
-      (subst (Contains t.ends) ends (subst (λ (es : List (Option ℕ)). Contains es (end_by g w.scenario t p)) (sym run.ends) (Contains-map (end_by g w.scenario t) (numbers_below (process_count g)) p (Contains-numbers (process_count g) p below))))
+      (subst (Contains t.ends) ends (subst (λ (es : List (Option ℕ)). Contains es (end_by g w.scenario t p)) (sym run.ends)
+      (Contains-map (end_by g w.scenario t) (numbers_below (process_count g)) p (Contains-numbers (process_count g) p below))))
       (Contains-first x [])
 
   -- an end of the run is one of the play
@@ -82,7 +85,8 @@ module _ (g : Graph) (formed : WellFormed g) (tables : List NodeTable) (order : 
       let started = started_at p (get_or t.times p None) x (of_process.2 ∙ is_end) in
       let there : Contains (at tables p w.scenario) started.0 = subst (λ ss. Contains ss started.0) (sym (starts_of p)) started.1 in
       let on : Contains (processes_on g node) p = Contains-filter (λ p. node_of g p == node) (numbers_below (process_count g)) p (eq-eqb node node refl) of_process.1 in
-      let asked : Contains (ends_asked g tables w.scenario node) (planned_end p started.0) = Contains-flat_map (λ p. map (planned_end p) (at tables p w.scenario)) (processes_on g node) p (planned_end p started.0) on
+      let asked : Contains (ends_asked g tables w.scenario node) (planned_end p started.0) =
+      Contains-flat_map (λ p. map (planned_end p) (at tables p w.scenario)) (processes_on g node) p (planned_end p started.0) on
       (Contains-map (planned_end p) (at tables p w.scenario) started.0 there) in
       let told = Contains-permutation (ends_asked g tables w.scenario node) (get_or c.ends node []) (planned_end p started.0) (whole.ends node l).all asked in
       Contains-flat_map (end_times c.ends) (numbers_below (length g.nodes)) node x (Contains-numbers (length g.nodes) node l)

@@ -3,7 +3,7 @@ use Rattle.std.proofs.Common.{ℕ, ◌≡◌, ◌<◌, ◌≤◌, ◌∙◌, Opt
 use Rattle.std.specs.Prelude.{◌⊎◌}
 use Rattle.std.proofs.lemmas.List.{length-take}
 use Rattle.cpg_base.specs.Graph.{Graph}
-use Rattle.cpg_tale.specs.Fetch.{Fetch}
+use Rattle.cpg_history.specs.Fetch.{Fetch}
 use Rattle.cpg_words.specs.Parts.{Text}
 use Rattle.cpg_table.specs.Lawful.{Tables}
 use Rattle.cpg_codec.specs.Packs.{IsBadPack}
@@ -12,7 +12,7 @@ use Rattle.cpg_laws.proofs.Packs.{packs_are_refused_at_one_place}
 use Rattle.cpg_refusal.specs.declared.halt.Halt.{Halt}
 use Rattle.cpg_refusal.specs.declared.halt.Halt.TheVariants.{Memory, Refused}
 use Rattle.cpg_refusal.specs.declared.halt.Refusal.TheVariants.{BadPack}
-use Rattle.cpg_inputs.specs.declared.kind.Kind.TheVariants.{PackFile}
+use Rattle.cpg_inputs.specs.declared.kind.FileKind.TheVariants.{PackFile}
 use Rattle.cpg_inputs.specs.Files.{file, limit_of}
 use Rattle.cpg_inputs.specs.Says.{Value}
 use Rattle.cpg_inputs.specs.Reading.{IsRead, StopsAt}
@@ -28,7 +28,8 @@ module _ (g : Graph) (pack : Text) (is : IsOutputFor packed_of g pack) (n : ℕ)
   front = omega (arith, length-take n pack, l)
 
   bad : IsBadPack (take n pack) n
-  bad = subst (λ (bytes : Text). IsBadPack (take n bytes) n) (sym is.made_of.spelled) (fronts_of_packs tables n is.made_of.pack.lawful (subst (λ (bytes : Text). n < length bytes) is.made_of.spelled l))
+  bad = subst (λ (bytes : Text). IsBadPack (take n bytes) n) (sym is.made_of.spelled)
+      (fronts_of_packs tables n is.made_of.pack.lawful (subst (λ (bytes : Text). n < length bytes) is.made_of.spelled l))
 
   of_fetch : (fetch : Fetch) → GaveAll fetch (take n pack) → IsBadPack fetch.given n
   of_fetch fetch gave = subst (λ bytes. IsBadPack bytes n) (sym gave.given) bad
@@ -42,7 +43,8 @@ module _ (g : Graph) (pack : Text) (is : IsOutputFor packed_of g pack) (n : ℕ)
   unread : (o : Option Graph) (fetch : Fetch) (value : Value) → GaveAll fetch (take n pack) → IsRead o (file PackFile fetch.name) fetch value → ⊥
   unread o fetch value gave is_read = (of_fetch fetch gave).no_pack is_read.says.0 is_read.says.2.lawful is_read.says.2.spelled
 
-  stops : (o : Option Graph) (fetch : Fetch) (halt : Halt) → GaveAll fetch (take n pack) → StopsAt o (file PackFile fetch.name) fetch halt → (halt ≡ Refused (BadPack (length (take n pack)))) ⊎ (halt ≡ Memory)
+  stops : (o : Option Graph) (fetch : Fetch) (halt : Halt) → GaveAll fetch (take n pack) → StopsAt o (file PackFile fetch.name) fetch halt → (halt ≡ Refused (BadPack (length (take n pack)))) ⊎
+      (halt ≡ Memory)
   stops o fetch halt gave (inl unread_file) = absurd (true≢false (sym unread_file.failed ∙ gave.sound))
   stops o fetch halt gave (inr (inl long)) = absurd (let few = short fetch gave in omega (arith, few, long.over))
   stops o fetch halt gave (inr (inr (inl refused))) = inl (refused.refuses.halt_is ∙ ap (λ m. Refused (BadPack m)) (one_place fetch refused.refuses.length gave refused.refuses.bad))

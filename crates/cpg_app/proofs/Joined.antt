@@ -8,7 +8,7 @@ use Rattle.std.proofs.lemmas.List.{append_cancel_left}
 use Rattle.std.proofs.lemmas.List.Sums.{fails_before_first}
 use Rattle.std.proofs.lemmas.Slice.Eq.{bytes_eq-Decides}
 use Rattle.cpg_base.specs.Graph.{Graph}
-use Rattle.cpg_tale.specs.Fetch.{Fetch}
+use Rattle.cpg_history.specs.Fetch.{Fetch}
 use Rattle.cpg_words.specs.Parts.{Text}
 use Rattle.cpg_words.specs.declared.command.Command.{Command}
 use Rattle.cpg_words.specs.declared.command.Command.TheVariants.{Show, Compile, Node}
@@ -29,7 +29,7 @@ use Rattle.cpg_order.proofs.Urgent.{one_urgency_order}
 use Rattle.cpg_order.specs.Urgency.{IsUrgencyOrder}
 use Rattle.cpg_refusal.specs.declared.halt.Halt.{Halt}
 use Rattle.cpg_refusal.specs.declared.halt.Halt.TheVariants.{Memory}
-use Rattle.cpg_inputs.specs.declared.kind.Kind.TheVariants.{GraphFile, PackFile}
+use Rattle.cpg_inputs.specs.declared.kind.FileKind.TheVariants.{GraphFile, PackFile}
 use Rattle.cpg_inputs.specs.Files.{file, files_of, limit_of}
 use Rattle.cpg_inputs.specs.Says.{Value, graph_value, tables_value}
 use Rattle.cpg_inputs.specs.Shapes.{OnGraph}
@@ -55,7 +55,8 @@ put_out r bytes text wrote took = append_cancel_left r.out.old bytes text (sym w
 made_again : (a b : Admission) → AreAlike a b → (spell : Graph → Compiled → Text) (bytes : Text) → IsMadeOf b spell bytes → IsMadeOf a spell bytes
 made_again a b same spell bytes made =
     let c = made.compiled in
-    let all = moved a b same (λ g order. IsCompilation g order c × ArePackOf g c.built.tables × AreSafe g c.built.tables.nodes × (bytes ≡ spell g c)) (made.compilation, made.pack, made.safe, made.spelled) in
+    let all = moved a b same (λ g order. IsCompilation g order c × ArePackOf g c.built.tables × AreSafe g c.built.tables.nodes × (bytes ≡ spell g c))
+    (made.compilation, made.pack, made.safe, made.spelled) in
     record { compiled = c; compilation = all.0; pack = all.1; safe = all.2; spelled = all.3 }
 
 -- a graph is admitted, and bytes are spelled from its tables
@@ -66,7 +67,8 @@ pub record IsOutputFor (spell : Graph → Compiled → Text) (g : Graph) (made :
   pub made_of : IsMadeOf admission spell made
 
 -- if a command's output is made of a graph file, its graph is admitted, and the bytes are spelled from its tables
-output_of : (asked : Text → Command) (spell : Graph → Compiled → Text) → ((graph text : Text) (vs : List Value) → PutsOut (asked graph) vs text → OnGraph vs (λ a. IsMadeOf a spell text)) → ((graph : Text) → is_live (Some (asked graph)) ≡ false) →
+output_of : (asked : Text → Command) (spell : Graph → Compiled → Text) → ((graph text : Text) (vs : List Value) → PutsOut (asked graph) vs text → OnGraph vs (λ a. IsMadeOf a spell text)) →
+    ((graph : Text) → is_live (Some (asked graph)) ≡ false) →
     ((graph : Text) → files_of (asked graph) ≡ file GraphFile graph ∷ []) → (r : Ran) (g : Graph) (made : Text) → HasMade asked r g made → IsOutputFor spell g made
 output_of asked spell puts dead files r g made has = elim (has.lawful.done has.done) [
   | inl out ↦
@@ -76,7 +78,8 @@ output_of asked spell puts dead files r g made has = elim (has.lawful.done has.d
       record {
         admission = a;
         of = has.of;
-        admitted = (values_lawful None (file GraphFile has.graph ∷ []) r.shelf.old.history r.shelf.new.history (graph_value a ∷ []) (subst (λ fs. Reads None fs r.shelf.old.history r.shelf.new.history (graph_value a ∷ [])) (files has.graph) has.has.reads)).0;
+        admitted = (values_lawful None (file GraphFile has.graph ∷ []) r.shelf.old.history r.shelf.new.history (graph_value a ∷ [])
+            (subst (λ fs. Reads None fs r.shelf.old.history r.shelf.new.history (graph_value a ∷ [])) (files has.graph) has.has.reads)).0;
         made_of = subst (λ text. IsMadeOf a spell text) (sym (put_out r made out.0 has.wrote out.2.out)) (made_again a k.0 k.1 spell out.0 k.2);
       }
   | inr closed ↦ absurd (other_words r closed.follows (Some (asked has.graph)) (dead has.graph) has.has.words)
@@ -135,8 +138,11 @@ module _ (g : Graph) (pack : Text) (is : IsOutputFor packed_of g pack) where
   read : (o : Option Graph) (fetch : Fetch) → GaveAll fetch pack → (t : Tables) × IsRead o (file PackFile fetch.name) fetch (tables_value t) × (pack ≡ spelling t)
   read o fetch gave =
       let e : fetch.given ≡ spelling tables = gave.given ∙ is.made_of.spelled in
-      let short : length fetch.given ≤ limit_of PackFile = subst (λ (bytes : Text). length bytes ≤ limit_of PackFile) (sym e) is.made_of.pack.short in
-      (tables, record { whole = record { named = refl; ended = gave.ended; sound = gave.sound; short = short }; says = (tables, refl, record { spelled = e; lawful = is.made_of.pack.lawful }) }, is.made_of.spelled)
+      let short : length fetch.given ≤ limit_of PackFile = subst (λ (bytes : Text). length bytes ≤ limit_of PackFile) (sym e) is.made_of.pack.short in (
+        tables,
+        record { whole = record { named = refl; ended = gave.ended; sound = gave.sound; short = short }; says = (tables, refl, record { spelled = e; lawful = is.made_of.pack.lawful }) },
+        is.made_of.spelled,
+      )
 
   unstopped : (o : Option Graph) (fetch : Fetch) (halt : Halt) → GaveAll fetch pack → StopsAt o (file PackFile fetch.name) fetch halt → halt ≡ Memory
   unstopped o fetch halt gave stops =

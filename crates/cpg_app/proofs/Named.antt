@@ -2,7 +2,7 @@
 use Rattle.std.proofs.Common.{◌≡◌, List, [], ◌∷◌, Option, Some, None, sym, subst, inl, inr}
 use Rattle.cpg_base.specs.Graph.{Graph}
 use Rattle.cpg_base.specs.Scenario.{Scenario, IsScenario, zero_scenario}
-use Rattle.cpg_tale.specs.Fetch.{Fetch}
+use Rattle.cpg_history.specs.Fetch.{Fetch}
 use Rattle.cpg_table.specs.declared.fault.Fault.{Fault}
 use Rattle.cpg_check.specs.Verdict.{IsFirstFault}
 use Rattle.cpg_violation.specs.Room.{HasRoom}
@@ -25,8 +25,8 @@ use Rattle.cpg_refusal.specs.declared.halt.Halt.{Halt}
 use Rattle.cpg_refusal.specs.declared.halt.Halt.TheVariants.{Read, Refused, Unsafe, Memory}
 use Rattle.cpg_refusal.specs.Halts.{halt_of_reading, halt_of_rules, halt_of_scenario, halt_of_parts}
 use Rattle.cpg_refusal.specs.Lines.{IsNamed}
-use Rattle.cpg_inputs.specs.declared.kind.Kind.{Kind}
-use Rattle.cpg_inputs.specs.declared.kind.Kind.TheVariants.{GraphFile, PartFile, PackFile, ScenarioFile, LogFile}
+use Rattle.cpg_inputs.specs.declared.kind.FileKind.{FileKind}
+use Rattle.cpg_inputs.specs.declared.kind.FileKind.TheVariants.{GraphFile, PartFile, PackFile, ScenarioFile, LogFile}
 use Rattle.cpg_inputs.specs.Files.{File, long_of}
 use Rattle.cpg_inputs.specs.Says.{Value, graph_after, Refuses}
 use Rattle.cpg_inputs.specs.Reading.{StopsAt, StopsReading}
@@ -61,7 +61,7 @@ of_compile a CompileFault.OutOfMemory shows = tt
 named_as : (h k : Halt) → h ≡ k → IsNamed k → IsNamed h
 named_as h k e n = subst IsNamed (sym e) n
 
-long_named : (k : Kind) → IsNamed (Refused (long_of k))
+long_named : (k : FileKind) → IsNamed (Refused (long_of k))
 long_named GraphFile = tt
 long_named PartFile = tt
 long_named PackFile = tt
@@ -72,7 +72,7 @@ of_scenario : (fault : ScenarioFault) → IsNamed (halt_of_scenario fault)
 of_scenario (ScenarioFault.Bad cause) = tt
 of_scenario ScenarioFault.OutOfMemory = tt
 
-bytes_named : (g : Option Graph) (k : Kind) (bytes : Text) (h : Halt) → Refuses g k bytes h → IsNamed h
+bytes_named : (g : Option Graph) (k : FileKind) (bytes : Text) (h : Halt) → Refuses g k bytes h → IsNamed h
 bytes_named g GraphFile bytes h (inl faulty) = named_as h _ faulty.halt_is (of_reading faulty.fault)
 bytes_named g GraphFile bytes h (inr none) = let b = none.breaks in named_as h _ b.halt_is (of_rules none.graph b.fault b.shows)
 bytes_named g PartFile bytes h faulty = named_as h _ faulty.halt_is (of_reading faulty.fault)

@@ -3,7 +3,7 @@ use Rattle.std.proofs.Common.{ℕ, ◌≡◌, ◌≢◌, ◌∙◌, List, [], �
 use Rattle.std.specs.Prelude.{◌⊎◌, Ok, Err}
 use Rattle.std.proofs.lemmas.Option.{none-some, same_Some}
 use Rattle.cpg_io.specs.Causes.{Rose}
-use Rattle.cpg_tale.specs.Fetch.{Fetch}
+use Rattle.cpg_history.specs.Fetch.{Fetch}
 use Rattle.cpg_words.specs.Parts.{Text}
 use Rattle.cpg_words.specs.Forms.{command_of}
 use Rattle.cpg_words.specs.declared.command.Pair.{Pair}
@@ -32,7 +32,7 @@ use Rattle.cpg_refusal.specs.declared.halt.Refusal.{Refusal}
 use Rattle.cpg_refusal.specs.declared.halt.Halt.{Halt}
 use Rattle.cpg_refusal.specs.declared.halt.Halt.TheVariants.{Read, Refused, Late, TooWide, Unsafe, Memory}
 use Rattle.cpg_refusal.specs.Lines.{line_of, status_of}
-use Rattle.cpg_inputs.specs.declared.kind.Kind.TheVariants.{PackFile}
+use Rattle.cpg_inputs.specs.declared.kind.FileKind.TheVariants.{PackFile}
 use Rattle.cpg_inputs.specs.Files.{file, files_of}
 use Rattle.cpg_inputs.specs.Says.{Value, graph_value, tables_value, played_value, log_value}
 use Rattle.cpg_inputs.specs.Shapes.{HavePeriods, part_values}
@@ -102,8 +102,11 @@ module _ (r : Ran) where
   -- the tables are lawful
   pub tables_lawful : (a : Admission) (t : Tables) → AsksVerdict r a t → AreLawful t
   tables_lawful a t (graph, pack, inl asks) = (values_lawful None (files_of (Check graph pack)) r.shelf.old.history r.shelf.new.history (graph_value a ∷ tables_value t ∷ []) asks.has.reads).1.0
-  tables_lawful a t (graph, pack, inr (inl play)) = (values_lawful None (files_of (Play graph pack play.scenario play.turns)) r.shelf.old.history r.shelf.new.history (graph_value a ∷ tables_value t ∷ played_value play.played ∷ []) play.asks.has.reads).1.0
-  tables_lawful a t (graph, pack, inr (inr audit)) = (values_lawful None (files_of (Audit graph pack audit.path)) r.shelf.old.history r.shelf.new.history (graph_value a ∷ tables_value t ∷ log_value audit.log ∷ []) audit.asks.has.reads).1.0
+  tables_lawful a t (graph, pack, inr (inl play)) =
+      (values_lawful None (files_of (Play graph pack play.scenario play.turns)) r.shelf.old.history r.shelf.new.history
+      (graph_value a ∷ tables_value t ∷ played_value play.played ∷ []) play.asks.has.reads).1.0
+  tables_lawful a t (graph, pack, inr (inr audit)) =
+      (values_lawful None (files_of (Audit graph pack audit.path)) r.shelf.old.history r.shelf.new.history (graph_value a ∷ tables_value t ∷ log_value audit.log ∷ []) audit.asks.has.reads).1.0
 
   -- what was checked, played, or audited by, is valid
   judged_here : (a : Admission) (t : Tables) → AsksVerdict r a t → (text : Text) → Prints r text → IsHeadFor a.graph t.head × IsValid a.graph t.nodes
@@ -158,8 +161,12 @@ module _ (r : Ran) where
 
   no_stop : (f : Follows r) (h : Halt) → Stops r h → ⊥
   no_stop f h (inl words) = none_is_two f.fetch f.read r.shelf.old.history (sym words.unread ∙ f.history)
-  no_stop f h (inr (inl files)) = one_stop f h (subst (λ (k : Command). StopsReading None (files_of k) r.shelf.old.history r.shelf.new.history h) (same_Some files.command (Live f.pack f.name f.stream) (sym files.words ∙ f.words)) files.stops)
-  no_stop f h (inr (inr work)) = read_one f f.pack work.values (subst (λ (k : Command). Reads None (files_of k) r.shelf.old.history r.shelf.new.history work.values) (same_Some work.command (Live f.pack f.name f.stream) (sym work.has.words ∙ f.words)) work.has.reads)
+  no_stop f h (inr (inl files)) = one_stop f h
+      (subst (λ (k : Command). StopsReading None (files_of k) r.shelf.old.history r.shelf.new.history h)
+      (same_Some files.command (Live f.pack f.name f.stream) (sym files.words ∙ f.words)) files.stops)
+  no_stop f h (inr (inr work)) = read_one f f.pack work.values
+      (subst (λ (k : Command). Reads None (files_of k) r.shelf.old.history r.shelf.new.history work.values)
+      (same_Some work.command (Live f.pack f.name f.stream) (sym work.has.words ∙ f.words)) work.has.reads)
 
   -- ---- with an output
 
@@ -185,13 +192,16 @@ module _ (r : Ran) where
 
     with_late : (a : Admission) → AsksForTables r a → IsLate a.graph a.order → ((r.status ≡ 5) ⊎ (r.status ≡ 8)) ⊎ IsRefusedAsWide r a
     with_late a asks late = let made = made_here a asks text with.prints in
-        absurd (not_late_and_compiled a.graph (formed a asks) a.order (topological a asks) (first_is_topological a asks) made.3.compiled.order late (moved a made.1 made.2 (λ g o. IsCompiled g o made.3.compiled.order) made.3.compilation.compiled))
+        absurd (not_late_and_compiled a.graph (formed a asks) a.order (topological a asks) (first_is_topological a asks) made.3.compiled.order late
+        (moved a made.1 made.2 (λ g o. IsCompiled g o made.3.compiled.order) made.3.compilation.compiled))
 
     with_nameless : (pack name : Text) (t : Tables) → Asks r (Node pack name) (tables_value t ∷ []) → first_named t.head name ≡ None → (r.status ≡ 4) ⊎ (r.status ≡ 8)
     with_nameless pack name t asks none = let q = printed r _ _ asks.has text with.prints in let k = on_tables t q.0 _ q.1 q.2 in absurd (none-some k.node (sym none ∙ k.named))
 
-    with_apart : (pairs : List Pair) (parts : List Part) (fault : HyperFault) → Asks r (Hyper pairs) (part_values parts) → HavePeriods pairs parts → ShowsUnrolled parts (Err fault) → fault ≢ OutOfMemory → (r.status ≡ 4) ⊎ (r.status ≡ 8)
-    with_apart pairs parts fault asks periods shows other = let q = printed r _ _ asks.has text with.prints in let k = on_parts pairs parts q.0 _ q.1 periods q.2 in absurd (not_both parts k.0 fault k.1 shows other)
+    with_apart : (pairs : List Pair) (parts : List Part) (fault : HyperFault) → Asks r (Hyper pairs) (part_values parts) → HavePeriods pairs parts → ShowsUnrolled parts (Err fault) →
+        fault ≢ OutOfMemory → (r.status ≡ 4) ⊎ (r.status ≡ 8)
+    with_apart pairs parts fault asks periods shows other = let q = printed r _ _ asks.has text with.prints in let k = on_parts pairs parts q.0 _ q.1 periods q.2 in
+        absurd (not_both parts k.0 fault k.1 shows other)
 
     with_unfollowed : (pack name stream : Text) (t : Tables) → Asks r (Live pack name stream) (tables_value t ∷ []) → (r.status ≡ 4) ⊎ (r.status ≡ 8)
     with_unfollowed pack name stream t asks = absurd (printed r _ _ asks.has text with.prints).2
@@ -400,7 +410,8 @@ module _ (r : Ran) where
       where
         trial_memory : (number : ℕ) → command_of r.words ≡ Some (Trial number) → Stops r halt → halt ≡ Memory
         trial_memory number asks (inl words) = elim words.cause [ inl formless ↦ absurd (none-some (Trial number) (sym formless.1 ∙ asks)) | inr memory ↦ memory ]
-        trial_memory number asks (inr (inl files)) = absurd (subst (λ (k : Command). StopsReading None (files_of k) r.shelf.old.history r.shelf.new.history halt) (same_Some files.command (Trial number) (sym files.words ∙ asks)) files.stops)
+        trial_memory number asks (inr (inl files)) =
+            absurd (subst (λ (k : Command). StopsReading None (files_of k) r.shelf.old.history r.shelf.new.history halt) (same_Some files.command (Trial number) (sym files.words ∙ asks)) files.stops)
         trial_memory number asks (inr (inr work)) = elim work.stops [
           | inl stops ↦ absurd (subst (λ (k : Command). StopsWork k work.values halt) (same_Some work.command (Trial number) (sym work.has.words ∙ asks)) stops)
           | inr memory ↦ memory
@@ -418,7 +429,8 @@ module _ (r : Ran) where
       | inr q ↦ parts_left parts halt (on_parts pairs parts q.0 (λ ps. IsNotUnrolled ps halt) q.1 periods q.2)
     ]
 
-    by_unrolled : (pairs : List Pair) (parts : List Part) (g : Graph) → Asks r (Hyper pairs) (part_values parts) → HavePeriods pairs parts → ShowsUnrolled parts (Ok g) → (r.status ≡ 0) ⊎ (r.status ≡ 8)
+    by_unrolled : (pairs : List Pair) (parts : List Part) (g : Graph) → Asks r (Hyper pairs) (part_values parts) → HavePeriods pairs parts → ShowsUnrolled parts (Ok g) → (r.status ≡ 0) ⊎
+        (r.status ≡ 8)
     by_unrolled pairs parts g asks periods made = elim (left_parts pairs parts asks periods) [
       | inl e ↦ inr (told_here asks.faultless ∙ e)
       | inr refused ↦ absurd (not_both parts g refused.1.0 made refused.1.1 refused.1.2)

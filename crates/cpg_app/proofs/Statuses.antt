@@ -3,7 +3,7 @@ use Rattle.std.proofs.Common.{ℕ, ◌≡◌, ◌≤◌, true, List, [], ◌∷�
 use Rattle.std.specs.Prelude.{◌⊎◌}
 use Rattle.cpg_base.specs.Graph.{Graph}
 use Rattle.cpg_base.specs.Scenario.{Scenario}
-use Rattle.cpg_tale.specs.Fetch.{Fetch}
+use Rattle.cpg_history.specs.Fetch.{Fetch}
 use Rattle.cpg_words.specs.Parts.{Text}
 use Rattle.cpg_words.specs.declared.command.Command.{Command}
 use Rattle.cpg_words.specs.declared.command.Command.TheVariants.{Show, Compile, Check, Play, Node, Trial, Live, Hyper, Tune, Audit}
@@ -20,8 +20,8 @@ use Rattle.cpg_refusal.specs.declared.halt.Halt.{Halt}
 use Rattle.cpg_refusal.specs.declared.halt.Halt.TheVariants.{Words, Read, Refused, Late, TooWide, Unsafe, Memory}
 use Rattle.cpg_refusal.specs.Halts.{halt_of_reading, halt_of_rules, halt_of_scenario, halt_of_parts}
 use Rattle.cpg_refusal.specs.Lines.{status_of}
-use Rattle.cpg_inputs.specs.declared.kind.Kind.{Kind}
-use Rattle.cpg_inputs.specs.declared.kind.Kind.TheVariants.{GraphFile, PartFile, PackFile, ScenarioFile, LogFile}
+use Rattle.cpg_inputs.specs.declared.kind.FileKind.{FileKind}
+use Rattle.cpg_inputs.specs.declared.kind.FileKind.TheVariants.{GraphFile, PartFile, PackFile, ScenarioFile, LogFile}
 use Rattle.cpg_inputs.specs.Files.{File}
 use Rattle.cpg_inputs.specs.Says.{Value, graph_after, Refuses}
 use Rattle.cpg_inputs.specs.Reading.{StopsAt, StopsReading}
@@ -128,7 +128,7 @@ of_scenario : (fault : ScenarioFault) → 4 ≤ status_of (halt_of_scenario faul
 of_scenario (ScenarioFault.Bad cause) = omega arith
 of_scenario ScenarioFault.OutOfMemory = omega arith
 
-of_bytes : (g : Option Graph) (k : Kind) (bytes : Text) (h : Halt) → Refuses g k bytes h → 4 ≤ status_of h
+of_bytes : (g : Option Graph) (k : FileKind) (bytes : Text) (h : Halt) → Refuses g k bytes h → 4 ≤ status_of h
 of_bytes g GraphFile bytes h (inl faulty) = as_halt h _ faulty.halt_is (of_reading faulty.fault)
 of_bytes g GraphFile bytes h (inr none) = let b = none.breaks in as_halt h _ b.halt_is (of_rules none.graph b.fault)
 of_bytes g PartFile bytes h faulty = as_halt h _ faulty.halt_is (of_reading faulty.fault)

@@ -4,7 +4,7 @@ use Rattle.std.specs.Prelude.{◌⊎◌}
 use Rattle.std.proofs.lemmas.Bool.{cases_eq}
 use Rattle.std.proofs.lemmas.Option.{none-some, same_Some}
 use Rattle.cpg_io.specs.Causes.{Rose}
-use Rattle.cpg_tale.specs.Fetch.{Fetch}
+use Rattle.cpg_history.specs.Fetch.{Fetch}
 use Rattle.cpg_words.specs.Parts.{Text}
 use Rattle.cpg_words.specs.Forms.{command_of}
 use Rattle.cpg_words.specs.declared.command.Command.{Command}
@@ -15,7 +15,7 @@ use Rattle.cpg_table.specs.Lawful.{Tables}
 use Rattle.cpg_table.specs.Table.{NodeTable, table_at}
 use Rattle.cpg_refusal.specs.declared.halt.Halt.TheVariants.{Read}
 use Rattle.cpg_refusal.specs.Lines.{line_of}
-use Rattle.cpg_inputs.specs.declared.kind.Kind.TheVariants.{PackFile}
+use Rattle.cpg_inputs.specs.declared.kind.FileKind.TheVariants.{PackFile}
 use Rattle.cpg_inputs.specs.Says.{Says, tables_value}
 use Rattle.cpg_inputs.specs.Reading.{AreSound}
 use Rattle.cpg_inputs.proofs.OneReading.{says_alike}
@@ -77,7 +77,8 @@ module _ (r : Ran) (f g : Follows r) where
   same_read = ap (second_or f.read) histories
 
   same_tables : g.tables ≡ f.tables
-  same_tables = says_alike None PackFile f.read.given (tables_value f.tables) (tables_value g.tables) f.spelled.says (subst (λ (e : Fetch). Says None PackFile e.given (tables_value g.tables)) (sym same_read) g.spelled.says)
+  same_tables = says_alike None PackFile f.read.given (tables_value f.tables) (tables_value g.tables) f.spelled.says
+      (subst (λ (e : Fetch). Says None PackFile e.given (tables_value g.tables)) (sym same_read) g.spelled.says)
 
   same_name : f.name ≡ g.name
   same_name = ap name_in (sym f.words ∙ g.words)
@@ -185,7 +186,8 @@ module _ (r : Ran) (ends : EndsInStream r) where
   unread_stream Broken.Sink breaks said two = absurd (let three = said.0 in omega arith)
   unread_stream (Broken.Refused fault) breaks said two = absurd (let four = status_sent r.err r.status 4 2 (fault_line fault) said two (λ e. omega arith) in omega arith)
 
-  sound_stream : (broken : Broken) → Breaks head table (stream_of r stream) broken → IsSaid r.err r.status broken → AreSound r.shelf.old.history r.shelf.new.history ⊎ ((r.status ≡ 2) ⊎ ((r.status ≡ 3) × Part r.err (line_of Read)))
+  sound_stream : (broken : Broken) → Breaks head table (stream_of r stream) broken → IsSaid r.err r.status broken → AreSound r.shelf.old.history r.shelf.new.history ⊎
+      ((r.status ≡ 2) ⊎ ((r.status ≡ 3) × Part r.err (line_of Read)))
   sound_stream Broken.Shelf breaks said = elim (cases_eq r.status 3) [ inl three ↦ inr (inr (three, said.part three)) | inr other ↦ inr (inl (said.whole other).0) ]
   sound_stream Broken.Sink breaks said = inl (sound_all r stream breaks.1.sound)
   sound_stream (Broken.Refused fault) breaks said = inl (sound_all r stream breaks.1.sound)
@@ -200,7 +202,8 @@ module _ (r : Ran) (ends : EndsInStream r) where
     | inr (inr four) ↦ inr (inr (four, refused_stream ends.broken ends.breaks ends.said four))
   ]
 
-  ended : (g : Follows r) → IsFaultless r → g.fetch.failed ≡ false → (broken : Broken) → Breaks head table (stream_of r stream) broken → IsSaid r.err r.status broken → r.status ≡ status_of_end (stream_end (table_of g) g.fetch.given)
+  ended : (g : Follows r) → IsFaultless r → g.fetch.failed ≡ false → (broken : Broken) → Breaks head table (stream_of r stream) broken → IsSaid r.err r.status broken →
+      r.status ≡ status_of_end (stream_end (table_of g) g.fetch.given)
   ended g faultless sound Broken.Shelf breaks said = absurd (true≢false (sym breaks.1.failed ∙ (ap (λ (e : Fetch). e.failed) (same_fetch r stream g) ∙ sound)))
   ended g faultless sound Broken.Sink breaks said = absurd (faultless.out breaks.0)
   ended g faultless sound (Broken.Refused fault) breaks said = elim (cases_eq r.status 3) [

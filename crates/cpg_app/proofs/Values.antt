@@ -13,11 +13,13 @@ one_true : (c n : ℕ) → slice_set (replicate c true ++ replicate (suc n) fals
 one_true zero n = refl
 one_true (suc c) n = ap (λ vs. true ∷ vs) (one_true c n)
 
-pub next_true : (count c : ℕ) (vs new : List Bool) → c < count → vs ≡ replicate c true ++ replicate (count - c) false → new ≡ slice_set vs c true → new ≡ replicate (c + 1) true ++ replicate (count - (c + 1)) false
+pub next_true : (count c : ℕ) (vs new : List Bool) → c < count → vs ≡ replicate c true ++ replicate (count - c) false → new ≡ slice_set vs c true →
+    new ≡ replicate (c + 1) true ++ replicate (count - (c + 1)) false
 next_true count c vs new l is made =
     let left : count - c ≡ suc (count - (c + 1)) = omega arith in
     let more : suc c ≡ c + 1 = omega arith in
-    made ∙ ap (λ xs. slice_set xs c true) (is ∙ ap (λ n. replicate c true ++ replicate n false) left) ∙ one_true c (count - (c + 1)) ∙ ap (λ n. replicate n true ++ replicate (count - (c + 1)) false) more
+    made ∙ ap (λ xs. slice_set xs c true) (is ∙ ap (λ n. replicate c true ++ replicate n false) left) ∙ one_true c (count - (c + 1)) ∙
+    ap (λ n. replicate n true ++ replicate (count - (c + 1)) false) more
 
 pub true_lawful : (g : Graph) → 0 < process_count g → 2 ≤ g.faults → IsScenario g (true_scenario g)
 true_lawful g l h =

@@ -163,7 +163,8 @@ live_of (Check graph pack) vs f path answers = absurd answers
 live_of (Play graph pack scenario turns) vs f path answers = absurd answers
 live_of (Node pack name) vs f path answers = absurd answers
 live_of (Trial number) vs f path answers = absurd answers
-live_of (Live pack name stream) vs f path (t, is, opens) = record { pack = pack; name = name; command = subst (λ p. Live pack name stream ≡ Live pack name p) (sym opens.1) refl; tables = t; said = is; follower = opens.0 }
+live_of (Live pack name stream) vs f path (t, is, opens) =
+    record { pack = pack; name = name; command = subst (λ p. Live pack name stream ≡ Live pack name p) (sym opens.1) refl; tables = t; said = is; follower = opens.0 }
 live_of (Hyper pairs) vs f path answers = absurd answers
 live_of (Tune graph) vs f path answers = absurd answers
 live_of (Audit graph pack log) vs f path answers = absurd answers

@@ -1,7 +1,7 @@
 -- How a run ends: either its output or its line is taken whole, or a sink meets a fault. A run that follows a stream has
 -- endings of its own.
 use Rattle.std.specs.Prelude.{ℕ, ◌≡◌, ◌⊎◌, List, ◌∷◌, Some, None, All}
-use Rattle.cpg_tale.specs.Fetch.{Fetch}
+use Rattle.cpg_history.specs.Fetch.{Fetch}
 use Rattle.cpg_io.specs.State.{ShelfState}
 use Rattle.cpg_words.specs.Parts.{Text}
 use Rattle.cpg_words.specs.FileWords.{file_words}
@@ -13,7 +13,7 @@ use Rattle.cpg_table.specs.Lawful.{Tables}
 use Rattle.cpg_refusal.specs.declared.halt.Halt.{Halt}
 use Rattle.cpg_refusal.specs.declared.halt.Halt.TheVariants.{Words, Memory}
 use Rattle.cpg_refusal.specs.Lines.{line_of, status_of, write_fault_line}
-use Rattle.cpg_inputs.specs.declared.kind.Kind.TheVariants.{PackFile}
+use Rattle.cpg_inputs.specs.declared.kind.FileKind.TheVariants.{PackFile}
 use Rattle.cpg_inputs.specs.Files.{file, files_of}
 use Rattle.cpg_inputs.specs.declared.inputs.Inputs.{Inputs}
 use Rattle.cpg_inputs.specs.Inputs.{AreInputs, HasInputs}

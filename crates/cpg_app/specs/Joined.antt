@@ -1,7 +1,7 @@
 -- Runs one after another: what one wrote, the others read; and runs for one graph.
 use Rattle.std.specs.Prelude.{ℕ, ◌≡◌, ◌<◌, ◌⊎◌, true, false, [], ◌∷◌, Option, get_or, length, take}
 use Rattle.cpg_base.specs.Graph.{Graph}
-use Rattle.cpg_tale.specs.Fetch.{Fetch}
+use Rattle.cpg_history.specs.Fetch.{Fetch}
 use Rattle.cpg_words.specs.Parts.{Text}
 use Rattle.cpg_words.specs.declared.command.Command.{Command}
 use Rattle.cpg_words.specs.declared.command.Command.TheVariants.{Show, Compile, Node}
@@ -12,7 +12,7 @@ use Rattle.cpg_core.specs.CompileLaws.{AskTheSame}
 use Rattle.cpg_refusal.specs.declared.halt.Halt.{Halt}
 use Rattle.cpg_refusal.specs.declared.halt.Halt.TheVariants.{Memory, Refused}
 use Rattle.cpg_refusal.specs.declared.halt.Refusal.TheVariants.{BadPack}
-use Rattle.cpg_inputs.specs.declared.kind.Kind.TheVariants.{PackFile}
+use Rattle.cpg_inputs.specs.declared.kind.FileKind.TheVariants.{PackFile}
 use Rattle.cpg_inputs.specs.Files.{file}
 use Rattle.cpg_inputs.specs.Says.{Value, graph_value, tables_value}
 use Rattle.cpg_inputs.specs.Reading.{IsRead, StopsAt}

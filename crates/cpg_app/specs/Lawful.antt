@@ -1,7 +1,7 @@
 -- What each exit status of a run says.
 use Rattle.std.specs.Prelude.{ℕ, ◌≡◌, ◌≢◌, ◌⊎◌, [], ◌∷◌, true, false, List, Some, None, Result, Ok, Err}
 use Rattle.cpg_io.specs.Causes.{Rose}
-use Rattle.cpg_tale.specs.Fetch.{Fetch}
+use Rattle.cpg_history.specs.Fetch.{Fetch}
 use Rattle.cpg_base.specs.Graph.{Graph}
 use Rattle.cpg_base.specs.Scenario.{Scenario}
 use Rattle.cpg_words.specs.Parts.{Text}

@@ -26,7 +26,7 @@ use Rattle.cpg_show.specs.NodeText.{node_text}
 use Rattle.cpg_log.specs.Log.{Log}
 use Rattle.cpg_audit.specs.Gives.{Gives}
 use Rattle.cpg_live.specs.Follower.{Follower, open_follower}
-use Rattle.cpg_inputs.specs.declared.kind.Kind.TheVariants.{PackFile}
+use Rattle.cpg_inputs.specs.declared.kind.FileKind.TheVariants.{PackFile}
 use Rattle.cpg_inputs.specs.Files.{limit_of}
 use Rattle.cpg_inputs.specs.Says.{Value}
 use Rattle.cpg_inputs.specs.Shapes.{OnGraph, OnJudged, OnLogged, OnParts, OnPlayed, OnTables}

@@ -1,5 +1,6 @@
 -- A scenario gives a log exactly if no cube that the log excludes matches.
-use Rattle.std.proofs.Common.{ℕ, suc, ◌≤◌, ◌≡◌, ◌≢◌, ◌==◌, Bool, true, false, not, List, [], ◌∷◌, ◌++◌, map, filter, Option, Some, None, IfSome, IfNone, All, AllPairs, Contains, arith, refl, sym, ap, ◌∙◌, subst, inl, inr, eq-eqb, eqb-true, ne_eqb, true≢false}
+use Rattle.std.proofs.Common.{ℕ, suc, ◌≤◌, ◌≡◌, ◌≢◌, ◌==◌, Bool, true, false, not, List, [], ◌∷◌, ◌++◌, map, filter, Option, Some, None, IfSome, IfNone, All, AllPairs, Contains, arith, refl, sym, ap}
+use Rattle.std.proofs.Common.{◌∙◌, subst, inl, inr, eq-eqb, eqb-true, ne_eqb, true≢false}
 use Rattle.std.specs.Prelude.{nat_le}
 use Rattle.std.specs.List.{list_any, flat_map}
 use Rattle.std.proofs.lemmas.Bool.{cases_eq, cond-true, cond-false, false_from_ne_true, leb-true, le-leb, not-false}
@@ -8,7 +9,8 @@ use Rattle.std.proofs.lemmas.Option.{none-some, same_Some}
 use Rattle.cpg_base.specs.Numbers.{numbers_below}
 use Rattle.cpg_base.specs.Graph.{Graph, item_at, item_count}
 use Rattle.cpg_base.specs.Activity.{item_active}
-use Rattle.cpg_base.proofs.Lists.{Contains-first, Contains-rest, Contains-cases, Contains-nil, Contains-map, Contains-map_parts, Contains-filter, Contains-filter_parts, Contains-flat_map, Contains-flat_map_parts, Contains-numbers, list_any_false, from_any_false, slice_get-Contains}
+use Rattle.cpg_base.proofs.Lists.{Contains-first, Contains-rest, Contains-cases, Contains-nil, Contains-map, Contains-map_parts, Contains-filter, Contains-filter_parts, Contains-flat_map}
+use Rattle.cpg_base.proofs.Lists.{Contains-flat_map_parts, Contains-numbers, list_any_false, from_any_false, slice_get-Contains}
 use Rattle.cpg_base.specs.Scenario.{Scenario, IsScenario, IsLeast}
 use Rattle.cpg_base.specs.First.{IsFirst}
 use Rattle.cpg_cube.specs.Cube.{matches}
@@ -101,11 +103,13 @@ module _ {g : Graph} {tables : List NodeTable} {s : Scenario} (k : Setting g tab
         let act = All-contains (IsActBy g log.until) log.acts l is.acts c in
         let m = match_there k l.item (act_within g l.item act.item) (fits.active l c) in
         let a = act_of l.item m.0 m.1 in
-        let same : m.0.time ≡ l.time = eqb-true m.0.time l.time (not-false (m.0.time == l.time) (subst (λ o. is_excluded log.until o m.0.time ≡ false) (logged_at log.acts is.apart l c) (fits.times l.item m.0 m.1))) in
+        let same : m.0.time ≡ l.time = eqb-true m.0.time l.time
+        (not-false (m.0.time == l.time) (subst (λ o. is_excluded log.until o m.0.time ≡ false) (logged_at log.acts is.apart l c) (fits.times l.item m.0 m.1))) in
         (a.0, a.1, same_logged (logged a.0) l.time l.item (a.2 ∙ same) a.3);
   }
     where
-      named : (a : Act) (c : Column) (o : Option ℕ) → logged_time log.acts a.item ≡ o → is_excluded log.until (logged_time log.acts a.item) c.time ≡ false → c.time ≡ a.time → a.time ≤ log.until → Contains log.acts (logged a)
+      named : (a : Act) (c : Column) (o : Option ℕ) → logged_time log.acts a.item ≡ o → is_excluded log.until (logged_time log.acts a.item) c.time ≡ false → c.time ≡ a.time → a.time ≤ log.until →
+          Contains log.acts (logged a)
       named a c None e x same early = absurd (true≢false (sym (le-leb c.time log.until (omega (arith, same, early))) ∙ subst (λ o. is_excluded log.until o c.time ≡ false) e x))
       named a c (Some time) e x same early =
           let at : c.time ≡ time = eqb-true c.time time (not-false (c.time == time) (subst (λ o. is_excluded log.until o c.time ≡ false) e x)) in
@@ -184,5 +188,6 @@ excluded_known g tables log x known =
     let excluded : Column → Bool = λ c. is_excluded log.until (logged_time log.acts x) c.time in
     All-map (IsKnown g) (λ (c : Column). c.cube) (filter excluded (columns_of tables x)) (All-filter excluded (λ (c : Column). IsKnown g c.cube) (columns_of tables x) known)
 
-pub idle_known : (g : Graph) (kept : List (List Literal)) (idle : List Column) → All (IsKnown g) kept → All (λ (c : Column). IsKnown g c.cube) idle → All (IsKnown g) (kept ++ map (λ (c : Column). c.cube) idle)
+pub idle_known : (g : Graph) (kept : List (List Literal)) (idle : List Column) → All (IsKnown g) kept → All (λ (c : Column). IsKnown g c.cube) idle →
+    All (IsKnown g) (kept ++ map (λ (c : Column). c.cube) idle)
 idle_known g kept idle first then = All-append (IsKnown g) kept (map (λ (c : Column). c.cube) idle) first (All-map (IsKnown g) (λ (c : Column). c.cube) idle then)

@@ -1,5 +1,6 @@
 -- The columns of the tree of where an item isn't active match in just the scenarios in which it isn't.
-use Rattle.std.proofs.Common.{ℕ, ◌+◌, ◌<◌, ◌≡◌, ◌||◌, Bool, true, false, not, List, [], ◌++◌, length, take, get_or, Option, Some, None, Contains, IsPermutation, refl, sym, ap, ap₂, ◌∙◌, subst, inl, inr}
+use Rattle.std.proofs.Common.{ℕ, ◌+◌, ◌<◌, ◌≡◌, ◌||◌, Bool, true, false, not, List, [], ◌++◌, length, take, get_or, Option, Some, None, Contains, IsPermutation, refl, sym, ap, ap₂, ◌∙◌, subst, inl}
+use Rattle.std.proofs.Common.{inr}
 use Rattle.std.specs.List.{list_any}
 use Rattle.std.proofs.lemmas.List.Folds.{list_any-append, list_any_more}
 use Rattle.std.proofs.lemmas.List.Sorted.{IsPermutation-sym, Contains-permutation}
@@ -11,7 +12,7 @@ use Rattle.cpg_base.specs.Scenario.{Scenario, IsScenario}
 use Rattle.cpg_cube.specs.Column.{Column}
 use Rattle.cpg_cube.specs.Cube.{matches}
 use Rattle.cpg_cube.specs.declared.literal.Literal.{Literal}
-use Rattle.cpg_paths.specs.Columns.{column_of, columns_of_paths}
+use Rattle.cpg_tree_columns.specs.Columns.{column_of, columns_of_paths}
 use Rattle.cpg_tree.specs.Space.{HasFew}
 use Rattle.cpg_tree.specs.Tree.{Path, TreeState, IsOn, IsMap, HasOnePathEach}
 use Rattle.cpg_expand.specs.Active.{IsActivityOf}
@@ -70,7 +71,9 @@ module _ (g : Graph) (x : ℕ) (a : TreeState Bool) (tree : IsTree g a) (active 
   idle_columns = same_truth (list_any (λ (c : Column). matches c.cube s) columns) (not (item_active g s.values (item_at g x))) from_column to_column
 
 -- the columns of one act more
-pub idle_more : (g : Graph) (s : Scenario) (acts : List Logged) (i : ℕ) (d : Logged) → i < length acts → (old columns : List Column) → list_any (λ (c : Column). matches c.cube s) old ≡ is_some_idle g (take i acts) s
-    → list_any (λ (c : Column). matches c.cube s) columns ≡ not (item_active g s.values (item_at g (get_or acts i d).item)) → list_any (λ (c : Column). matches c.cube s) (old ++ columns) ≡ is_some_idle g (take (i + 1) acts) s
+pub idle_more : (g : Graph) (s : Scenario) (acts : List Logged) (i : ℕ) (d : Logged) → i < length acts → (old columns : List Column) →
+    list_any (λ (c : Column). matches c.cube s) old ≡ is_some_idle g (take i acts) s
+    → list_any (λ (c : Column). matches c.cube s) columns ≡ not (item_active g s.values (item_at g (get_or acts i d).item)) →
+    list_any (λ (c : Column). matches c.cube s) (old ++ columns) ≡ is_some_idle g (take (i + 1) acts) s
 idle_more g s acts i d l old columns first second = list_any-append (λ (c : Column). matches c.cube s) old columns
     ∙ ap₂ (λ a b. a || b) first second ∙ sym (list_any_more (λ (l : Logged). not (item_active g s.values (item_at g l.item))) acts i d l)

@@ -1,5 +1,6 @@
 -- What ranges tell of the cubes that they are narrowed by.
-use Rattle.std.proofs.Common.{ℕ, zero, suc, refl, ◌||◌, ◌∷◌, ◌++◌, ◌+◌, ◌-◌, ◌<◌, ◌≤◌, ◌≡◌, true, false, not, ◌&&◌, List, [], length, get_or, take, drop, map, All, Bor, Bool, arith, sym, ap, ◌∙◌, subst, inl, inr, Option, Some, None}
+use Rattle.std.proofs.Common.{ℕ, zero, suc, refl, ◌||◌, ◌∷◌, ◌++◌, ◌+◌, ◌-◌, ◌<◌, ◌≤◌, ◌≡◌, true, false, not, ◌&&◌, List, [], length, get_or, take, drop, map, All, Bor, Bool, arith, sym, ap, ◌∙◌}
+use Rattle.std.proofs.Common.{subst, inl, inr, Option, Some, None}
 use Rattle.std.specs.Prelude.{IfNone, IfSome, IsPermutation}
 use Rattle.std.specs.List.{flat_map, list_any}
 use Rattle.std.proofs.Math.Bool.{and-true, and-false, or-false}
@@ -39,11 +40,13 @@ module _ (s : Scenario) (l : Literal) (off : holds s l ≡ false) where
 
 -- ---- one cube more, from the last
 
-pub before_place : {X : Type 0} (f : X → Bool) (xs : List X) (place : ℕ) (x : X) (held : Bool) → 0 < place → place ≤ length xs → x ≡ get_or xs (place - 1) x → ((held || list_any f (drop place xs)) || f x) ≡ (held || list_any f (drop (place - 1) xs))
+pub before_place : {X : Type 0} (f : X → Bool) (xs : List X) (place : ℕ) (x : X) (held : Bool) → 0 < place → place ≤ length xs → x ≡ get_or xs (place - 1) x →
+    ((held || list_any f (drop place xs)) || f x) ≡ (held || list_any f (drop (place - 1) xs))
 before_place f xs place x held some within is =
     let more = at_drop_more (list_any f) xs (place - 1) x (omega (arith, some, within)) in
     let next : place - 1 + 1 ≡ place = omega (arith, some) in
-    turn held (list_any f (drop place xs)) (f x) ∙ ap (λ b. held || (b || list_any f (drop place xs))) (ap f is) ∙ ap (λ k. held || (f (get_or xs (place - 1) x) || list_any f (drop k xs))) (sym next) ∙ ap (λ b. held || b) (sym more)
+    turn held (list_any f (drop place xs)) (f x) ∙ ap (λ b. held || (b || list_any f (drop place xs))) (ap f is) ∙
+    ap (λ k. held || (f (get_or xs (place - 1) x) || list_any f (drop k xs))) (sym next) ∙ ap (λ b. held || b) (sym more)
   where
     turn : (a b c : Bool) → ((a || b) || c) ≡ (a || (c || b))
     turn true b c = refl
@@ -52,7 +55,8 @@ before_place f xs place x held some within is =
     turn false false true = refl
     turn false false false = refl
 
-pub one_before : {X : Type 0} (f : X → Bool) (xs : List X) (place : ℕ) (x : X) → 0 < place → place ≤ length xs → x ≡ get_or xs (place - 1) x → list_any f (drop (place - 1) xs) ≡ false → (list_any f (drop place xs) ≡ false) × (f x ≡ false)
+pub one_before : {X : Type 0} (f : X → Bool) (xs : List X) (place : ℕ) (x : X) → 0 < place → place ≤ length xs → x ≡ get_or xs (place - 1) x → list_any f (drop (place - 1) xs) ≡ false →
+    (list_any f (drop place xs) ≡ false) × (f x ≡ false)
 one_before f xs place x some within is off =
     let more = at_drop_more (list_any f) xs (place - 1) x (omega (arith, some, within)) in
     let next : place - 1 + 1 ≡ place = omega (arith, some) in
@@ -98,7 +102,8 @@ any_flat p f (x ∷ xs) = ap (list_any p) (flat_map-cons f x xs) ∙ list_any-ap
 pub any_in_order : {X Y : Type 0} (p : Y → Bool) (f : X → List Y) (xs ys : List X) → IsPermutation xs ys → list_any p (flat_map f ys) ≡ list_any p (flat_map f xs)
 any_in_order p f xs ys perm = any_flat p f ys ∙ sym (list_any-IsPermutation (λ x. list_any p (f x)) xs ys perm) ∙ sym (any_flat p f xs)
 
-pub flat_more : {X Y Z : Type 0} (f : Y → List Z) (g : X → Y) (xs : List X) (i : ℕ) (d : X) → i < length xs → flat_map f (map g (take (i + 1) xs)) ≡ flat_map f (map g (take i xs)) ++ f (g (get_or xs i d))
+pub flat_more : {X Y Z : Type 0} (f : Y → List Z) (g : X → Y) (xs : List X) (i : ℕ) (d : X) → i < length xs →
+    flat_map f (map g (take (i + 1) xs)) ≡ flat_map f (map g (take i xs)) ++ f (g (get_or xs i d))
 flat_more f g xs i d within =
     ap (λ ys. flat_map f (map g ys)) (take_more xs i d within) ∙ ap (flat_map f) (map-append g (take i xs) (get_or xs i d ∷ [])) ∙ flat_map-append f (map g (take i xs)) (g (get_or xs i d) ∷ [])
     ∙ ap (λ ys. flat_map f (map g (take i xs)) ++ ys) (append-nil (f (g (get_or xs i d))))
@@ -115,12 +120,14 @@ module _ (space : Space) (ls : List Literal) (i : ℕ) (d : Literal) (within : i
     none_with_told None h = λ s lies. same_with_told s lies ∙ h s lies
     none_with_told (Some l) h = tt
 
-    pub some_with_told : (o : Option Literal) → IfSome o (λ l. (s : Scenario) → Lies space s → matches (take i ls) s ≡ holds s l) → IfSome o (λ l. (s : Scenario) → Lies space s → matches (take (i + 1) ls) s ≡ holds s l)
+    pub some_with_told : (o : Option Literal) → IfSome o (λ l. (s : Scenario) → Lies space s → matches (take i ls) s ≡ holds s l) →
+        IfSome o (λ l. (s : Scenario) → Lies space s → matches (take (i + 1) ls) s ≡ holds s l)
     some_with_told None h = tt
     some_with_told (Some l) h = λ s lies. same_with_told s lies ∙ h s lies
 
   -- the first that may not hold
-  pub first_open : (o : Option Literal) → o ≡ None → IfNone o ((s : Scenario) → Lies space s → matches (take i ls) s ≡ true) → (s : Scenario) → Lies space s → matches (take (i + 1) ls) s ≡ holds s (get_or ls i d)
+  pub first_open : (o : Option Literal) → o ≡ None → IfNone o ((s : Scenario) → Lies space s → matches (take i ls) s ≡ true) → (s : Scenario) → Lies space s →
+      matches (take (i + 1) ls) s ≡ holds s (get_or ls i d)
   first_open o e h s lies =
       let none : (s : Scenario) → Lies space s → matches (take i ls) s ≡ true = subst (λ (x : Option Literal). IfNone x ((s : Scenario) → Lies space s → matches (take i ls) s ≡ true)) e h in
       list_all_more (holds s) ls i d within ∙ ap (λ b. b && holds s (get_or ls i d)) (none s lies)
@@ -148,7 +155,8 @@ module _ (kept by : List (Bor (List Literal))) (idle all : List (List Literal)) 
   pub left_of_whole : map seen by ≡ map seen kept ++ idle → list_any (λ (b : Bor (List Literal)). matches b.now s) kept ≡ list_any test all
       → (list_any (λ (b : Bor (List Literal)). matches b.now s) kept ≡ false → matches cube s ≡ true) → is_left (map seen by) cube s ≡ is_left (all ++ idle) [] s
   left_of_whole added alike within =
-      let parts : list_any test (map seen by) ≡ (list_any (λ (b : Bor (List Literal)). matches b.now s) kept || list_any test idle) = ap (list_any test) added ∙ list_any-append test (map seen kept) idle ∙ ap (λ b. b || list_any test idle) (any_map test seen kept) in
+      let parts : list_any test (map seen by) ≡ (list_any (λ (b : Bor (List Literal)). matches b.now s) kept || list_any test idle) = ap (list_any test) added ∙
+      list_any-append test (map seen kept) idle ∙ ap (λ b. b || list_any test idle) (any_map test seen kept) in
       let same : list_any test (map seen by) ≡ list_any test (all ++ idle) = parts ∙ ap (λ b. b || list_any test idle) alike ∙ sym (list_any-append test all idle) in
       elim (cases_Bool (list_any test (map seen by))) [
         | inl on ↦ ap (λ x. matches cube s && not x) on ∙ and-false (matches cube s) ∙ sym (ap not (sym same ∙ on))

@@ -14,9 +14,9 @@ use cpg_base::OutOfMemory;
 use cpg_cube::Entry;
 use cpg_expand::active_item;
 use cpg_log::Logged;
-use cpg_paths::columns;
 use cpg_rules::Admitted;
 use cpg_tree::Tree;
+use cpg_tree_columns::columns;
 use std::alloc::Global;
 
 /// A time where something isn't active.

@@ -9,7 +9,7 @@ use std::alloc::Global;
 
 /// An item, at the time at which a log names it or, if it doesn't, at the greatest.
 #[derive(Drop)]
-pub struct Timed {
+pub struct TimedItem {
     time: u64,
     /// The number of the item.
     pub item: u32,
@@ -17,13 +17,17 @@ pub struct Timed {
 
 /// All items, those that a log names first, by time: a column speaks of what was before its item, which the items before it have
 /// told by then.
-pub fn in_log_order(alloc: Global, problem: &Problem, log: &Log) -> Result<Vec<Timed>, OutOfMemory>
+pub fn in_log_order(
+    alloc: Global,
+    problem: &Problem,
+    log: &Log,
+) -> Result<Vec<TimedItem>, OutOfMemory>
     ensures { IfOk result (λ ordered. IsPermutation (numbers_below (item_count problem.now)) (map (λ t. t.item) ordered.items)) }
 {
     let mut ordered = Vec::new(alloc);
     for item in 0..problem.item_count() {
         let time = log.time_of(item).unwrap_or(u64::MAX);
-        ordered.push(Timed { time, item })?;
+        ordered.push(TimedItem { time, item })?;
     }
     ordered.sort_by_key(|timed| timed.time)?;
     Ok(ordered)

@@ -42,4 +42,5 @@ pub processes_apart : (b : Bool) (ps : List Process) → are_apart (λ p q. byte
 processes_apart b ps e = apart_iff (λ p q. bytes_eq p.name q.name) (λ p q. p.name ≢ q.name) (λ p q. names_differ p.name q.name) (λ p q. differ_names p.name q.name) b ps e
 
 pub slots_apart : (b : Bool) (ss : List Slot) → are_apart (λ s t. s.node == t.node) ss ≡ b → IsTrue b ↔ AllPairs (λ s t. s.node ≢ t.node) ss
-slots_apart b ss e = apart_iff (λ s t. s.node == t.node) (λ s t. s.node ≢ t.node) (λ s t e. eqb-false s.node t.node e) (λ s t apart. false_from_ne_true (s.node == t.node) (λ e. apart (eqb-true s.node t.node e))) b ss e
+slots_apart b ss e = apart_iff (λ s t. s.node == t.node) (λ s t. s.node ≢ t.node) (λ s t e. eqb-false s.node t.node e)
+    (λ s t apart. false_from_ne_true (s.node == t.node) (λ e. apart (eqb-true s.node t.node e))) b ss e

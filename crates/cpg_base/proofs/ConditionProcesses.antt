@@ -21,7 +21,8 @@ place-get_or xs k rises h =
     let c = Contains-get_or xs k 0 h in
     let le = place-le xs (get_or xs k 0) k h (get_or_here xs k h) in
     ⊎_elim
-    (λ (l : place xs (get_or xs k 0) < k). absurd (lt_irrefl _ (subst (λ y. y < get_or xs k 0) (get_or-place xs (get_or xs k 0) 0 c) (AllPairs-from_increasing xs rises (place xs (get_or xs k 0)) k 0 l h))))
+    (λ (l : place xs (get_or xs k 0) < k). absurd
+    (lt_irrefl _ (subst (λ y. y < get_or xs k 0) (get_or-place xs (get_or xs k 0) 0 c) (AllPairs-from_increasing xs rises (place xs (get_or xs k 0)) k 0 l h))))
     (λ (l : k ≤ place xs (get_or xs k 0)). omega arith)
     (cases_lt (place xs (get_or xs k 0)) k)
   where
@@ -46,7 +47,8 @@ module _ (g : Graph) where
       (place (disjunctions g) p, place-lt (disjunctions g) p c, get_or-place (disjunctions g) p 0 c)
 
   -- the source of a conditional edge has a condition
-  pub condition_of_edge : (e : ℕ) (wanted : Bool) → e < edge_count g → source g e < process_count g → (edge_at g e).when ≡ Some wanted → (c : ℕ) × (c < condition_count g) × (process_of g c ≡ source g e)
+  pub condition_of_edge : (e : ℕ) (wanted : Bool) → e < edge_count g → source g e < process_count g → (edge_at g e).when ≡ Some wanted → (c : ℕ) × (c < condition_count g) ×
+      (process_of g c ≡ source g e)
   condition_of_edge e wanted h s w = condition_there (source g e) s
       (list_any_true (λ f. is_some (edge_at g f).when) (outputs g (source g e)) e
       (outputs-Contains g e h)

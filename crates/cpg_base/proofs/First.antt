@@ -56,7 +56,8 @@ module _ (g : Graph) (order : List ℕ) where
       }
 
   -- the first scenario that passes one of a list of tests is the earliest of theirs
-  pub first_of_all : {X : Type 0} (test : X → Scenario → Bool) (answer : X → Option Scenario) (cs : List X) → ((c : X) → Contains cs c → IsFirst g order (test c) (answer c)) → IsFirst g order (λ s. list_any (λ c. test c s) cs) (first_of g order answer cs)
+  pub first_of_all : {X : Type 0} (test : X → Scenario → Bool) (answer : X → Option Scenario) (cs : List X) → ((c : X) → Contains cs c → IsFirst g order (test c) (answer c)) →
+      IsFirst g order (λ s. list_any (λ c. test c s) cs) (first_of g order answer cs)
   first_of_all test answer [] h = λ s i. refl
   first_of_all test answer (c ∷ cs) h = first_or (test c) (λ s. list_any (λ d. test d s) cs) (answer c) (first_of g order answer cs)
       (h c (Contains-first c cs))

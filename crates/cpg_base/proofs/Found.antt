@@ -18,7 +18,8 @@ module _ (g : Graph) where
   from_output p h =
       let a = list_any_parts (λ e. is_some (edge_at g e).when) (outputs g p) h in
       let o = outputs_parts g p a.0 a.1 in
-      list_any_true (is_conditional_output p) g.edges (edge_at g a.0) (Contains-get_or g.edges a.0 _ o.0) (and_from (source g a.0 == p) (is_some (edge_at g a.0).when) (eq-eqb (source g a.0) p o.1) a.2)
+      list_any_true (is_conditional_output p) g.edges (edge_at g a.0) (Contains-get_or g.edges a.0 _ o.0)
+      (and_from (source g a.0 == p) (is_some (edge_at g a.0).when) (eq-eqb (source g a.0) p o.1) a.2)
 
   to_output : (p : ℕ) → has_conditional_output g.edges p ≡ true → is_disjunction g p ≡ true
   to_output p h =

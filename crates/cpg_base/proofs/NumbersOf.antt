@@ -47,7 +47,9 @@ variable_or_not g v = ⊎_elim
 
 pub unknown-zero : (g : Graph) (s : Scenario) → IsScenario g s → (v : ℕ) → (IsVariable g v → ⊥) → number_of s v ≡ 0
 unknown-zero g s i v n = ⊎_elim
-    (λ (a : v < 128). let f = i.faults in number_of-fault s v a ∙ ⊎_elim (λ (b : v < process_count g). absurd (n (inl b))) (λ (b : process_count g ≤ v). get_or_past s.faults v 0 (omega arith)) (cases_lt v (process_count g)))
+    (λ (a : v < 128). let f = i.faults in number_of-fault s v a ∙ ⊎_elim (λ (b : v < process_count g). absurd (n (inl b))) (λ (b : process_count g ≤ v). get_or_past s.faults v 0 (omega arith))
+    (cases_lt v (process_count g)))
     (λ (a : 128 ≤ v). let f = i.values in cond-false (nat_lt v 128) (fault_of s v) (number_of_value (get_or s.values (v - 128) false)) (le-ltb v 128 a)
-    ∙ ⊎_elim (λ (b : v < value_variable (condition_count g)). absurd (n (inr (a, b)))) (λ (b : value_variable (condition_count g) ≤ v). ap number_of_value (get_or_past s.values (v - 128) false (omega arith))) (cases_lt v (value_variable (condition_count g))))
+    ∙ ⊎_elim (λ (b : v < value_variable (condition_count g)). absurd (n (inr (a, b))))
+    (λ (b : value_variable (condition_count g) ≤ v). ap number_of_value (get_or_past s.values (v - 128) false (omega arith))) (cases_lt v (value_variable (condition_count g))))
     (cases_lt v 128)

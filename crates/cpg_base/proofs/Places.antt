@@ -1,5 +1,6 @@
 -- The places of processes in an order: what comes before another has a lower place, and of two one comes first.
-use Rattle.std.proofs.Common.{◌⊎◌, inl, inr, ◌≢◌, ℕ, ◌<◌, ◌≤◌, ◌≡◌, true, cond, ◌==◌, List, [], ◌∷◌, ◌++◌, length, get_or, Contains, IsPermutation, position, Some, None, unwrap_or, arith, refl, sym, ap, ◌∙◌, subst, ⊎_elim, lt-ltb, le-ltb, eq-eqb, eqb-true, length-take}
+use Rattle.std.proofs.Common.{◌⊎◌, inl, inr, ◌≢◌, ℕ, ◌<◌, ◌≤◌, ◌≡◌, true, cond, ◌==◌, List, [], ◌∷◌, ◌++◌, length, get_or, Contains, IsPermutation, position, Some, None, unwrap_or, arith, refl, sym}
+use Rattle.std.proofs.Common.{ap, ◌∙◌, subst, ⊎_elim, lt-ltb, le-ltb, eq-eqb, eqb-true, length-take}
 use Rattle.std.specs.List.{position_or_len, AllPairs}
 use Rattle.std.proofs.lemmas.Bool.{both_ways, cases_lt, cases_order}
 use Rattle.std.proofs.lemmas.List.{get_or-take, get_or_default}

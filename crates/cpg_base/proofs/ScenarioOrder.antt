@@ -1,6 +1,7 @@
 -- The order of scenarios along an order of all processes is total. If a scenario has a fact, there is a least that
 -- has it, and one alone.
-use Rattle.std.proofs.Common.{ℕ, ◌<◌, ◌≤◌, ◌≡◌, true, false, List, [], ◌∷◌, ◌++◌, length, get_or, flat_map, Contains, Option, Some, None, arith, refl, sym, ap₂, ◌∙◌, subst, ⊎_elim, inl, inr, IsPermutation, ext_get_or}
+use Rattle.std.proofs.Common.{ℕ, ◌<◌, ◌≤◌, ◌≡◌, true, false, List, [], ◌∷◌, ◌++◌, length, get_or, flat_map, Contains, Option, Some, None, arith, refl, sym, ap₂, ◌∙◌, subst, ⊎_elim, inl, inr}
+use Rattle.std.proofs.Common.{IsPermutation, ext_get_or}
 use Rattle.std.proofs.lemmas.Bool.{cases_lt}
 use Rattle.std.proofs.lemmas.List.{get_or_past}
 use Rattle.cpg_base.specs.Numbers.{numbers_below, is_below}
@@ -55,14 +56,17 @@ piece : Graph → Scenario → ℕ → List ℕ
 piece g s p = fault_of s p ∷ value_in_key s.values (condition_of g p)
 
 module _ (g : Graph) (s t : Scenario) where
-  not_below_value : (o : Option ℕ) (xs ys : List ℕ) → ((c : ℕ) → o ≡ Some c → number_of_value (get_or s.values c false) ≤ number_of_value (get_or t.values c false)) → is_below xs ys ≡ false → is_below (value_in_key t.values o ++ xs) (value_in_key s.values o ++ ys) ≡ false
+  not_below_value : (o : Option ℕ) (xs ys : List ℕ) → ((c : ℕ) → o ≡ Some c → number_of_value (get_or s.values c false) ≤ number_of_value (get_or t.values c false)) → is_below xs ys ≡ false →
+      is_below (value_in_key t.values o ++ xs) (value_in_key s.values o ++ ys) ≡ false
   not_below_value None xs ys h k = k
   not_below_value (Some c) xs ys h k = not_below-cons (number_of_value (get_or t.values c false)) (number_of_value (get_or s.values c false)) xs ys (h c refl) k
 
   -- for every order
-  pub not_before_by_parts : (order : List ℕ) → ((p : ℕ) → fault_of s p ≤ fault_of t p) → ((p c : ℕ) → condition_of g p ≡ Some c → number_of_value (get_or s.values c false) ≤ number_of_value (get_or t.values c false)) → is_before g order t s ≡ false
+  pub not_before_by_parts : (order : List ℕ) → ((p : ℕ) → fault_of s p ≤ fault_of t p) →
+      ((p c : ℕ) → condition_of g p ≡ Some c → number_of_value (get_or s.values c false) ≤ number_of_value (get_or t.values c false)) → is_before g order t s ≡ false
   not_before_by_parts [] f v = refl
-  not_before_by_parts (p ∷ ps) f v = not_below-cons (fault_of t p) (fault_of s p) (value_in_key t.values (condition_of g p) ++ key g ps t) (value_in_key s.values (condition_of g p) ++ key g ps s) (f p)
+  not_before_by_parts (p ∷ ps) f v = not_below-cons (fault_of t p) (fault_of s p) (value_in_key t.values (condition_of g p) ++ key g ps t) (value_in_key s.values (condition_of g p) ++ key g ps s)
+      (f p)
       (not_below_value (condition_of g p) (key g ps t) (key g ps s) (v p) (not_before_by_parts ps f v))
 
   pub not_before : (order : List ℕ) → process_count g ≤ 128 → IsScenario g s → ((v : ℕ) → IsVariable g v → number_of s v ≤ number_of t v) → is_before g order t s ≡ false
@@ -77,7 +81,8 @@ module _ (g : Graph) (s t : Scenario) where
 
 -- ---- scenarios with one key are one
 
-module _ (g : Graph) (order : List ℕ) (all : IsPermutation (numbers_below (process_count g)) order) (s t : Scenario) (i : IsScenario g s) (j : IsScenario g t) (same : key g order s ≡ key g order t) where
+module _ (g : Graph) (order : List ℕ) (all : IsPermutation (numbers_below (process_count g)) order) (s t : Scenario) (i : IsScenario g s) (j : IsScenario g t)
+    (same : key g order s ≡ key g order t) where
   same_piece : (p : ℕ) → p < process_count g → piece g s p ≡ piece g t p
   unfolding piece
   same_piece p h = same_pieces (piece g s) (piece g t) order (λ q. of_one_length (fault_of s q) (fault_of t q) (condition_of g q)) same p (Contains-order (process_count g) order all p h)
@@ -102,7 +107,8 @@ module _ (g : Graph) (order : List ℕ) (all : IsPermutation (numbers_below (pro
       heads : (a b x y : ℕ) → a ∷ x ∷ [] ≡ b ∷ y ∷ [] → x ≡ y
       heads a b x y e = cc
 
-      at_condition : (c : ℕ) → condition_of g (process_of g c) ≡ Some c → fault_of s (process_of g c) ∷ value_in_key s.values (condition_of g (process_of g c)) ≡ fault_of t (process_of g c) ∷ value_in_key t.values (condition_of g (process_of g c))
+      at_condition : (c : ℕ) → condition_of g (process_of g c) ≡ Some c → fault_of s (process_of g c) ∷ value_in_key s.values (condition_of g (process_of g c)) ≡ fault_of t
+          (process_of g c) ∷ value_in_key t.values (condition_of g (process_of g c))
           → number_of_value (get_or s.values c false) ≡ number_of_value (get_or t.values c false)
       at_condition c is e = heads (fault_of s (process_of g c)) (fault_of t (process_of g c)) (number_of_value (get_or s.values c false)) (number_of_value (get_or t.values c false))
           (subst (λ o. fault_of s (process_of g c) ∷ value_in_key s.values o ≡ fault_of t (process_of g c) ∷ value_in_key t.values o) is e)
@@ -111,10 +117,12 @@ module _ (g : Graph) (order : List ℕ) (all : IsPermutation (numbers_below (pro
   same_scenario = ap₂ (λ vs fs. let r : Scenario = record { values = vs; faults = fs } in r) same_values same_faults
 
 -- neither is before the other: they are one
-pub before_total : (g : Graph) (order : List ℕ) → IsPermutation (numbers_below (process_count g)) order → (s t : Scenario) → IsScenario g s → IsScenario g t → is_before g order s t ≡ false → is_before g order t s ≡ false → s ≡ t
+pub before_total : (g : Graph) (order : List ℕ) → IsPermutation (numbers_below (process_count g)) order → (s t : Scenario) → IsScenario g s → IsScenario g t → is_before g order s t ≡ false →
+    is_before g order t s ≡ false → s ≡ t
 before_total g order all s t i j h k = same_scenario g order all s t i j (same_keys g order s t h k)
 
 -- ---- the least scenario of a fact
 
-pub one_least : (g : Graph) (order : List ℕ) → IsPermutation (numbers_below (process_count g)) order → (fact : Scenario → Type 0) (s t : Scenario) → IsLeast g order fact s → IsLeast g order fact t → s ≡ t
+pub one_least : (g : Graph) (order : List ℕ) → IsPermutation (numbers_below (process_count g)) order → (fact : Scenario → Type 0) (s t : Scenario) → IsLeast g order fact s → IsLeast g order fact t →
+    s ≡ t
 one_least g order all fact s t a b = before_total g order all s t a.lawful b.lawful (b.least s a.lawful a.holds) (a.least t b.lawful b.holds)

@@ -38,7 +38,7 @@ fn disjunctions(edges: &[Edge]) -> [bool; MOST_PROCESSES]
     found
 }
 
-fn place_of(processes: &[u32], process: u32) -> Option<usize>
+fn process_index(processes: &[u32], process: u32) -> Option<usize>
     ensures place { result ≡ position (λ other. other == process) processes.now }
     ensures within { IfSome result (λ place. place < length processes.now) }
 {
@@ -106,7 +106,7 @@ impl Conditions {
     pub fn of_process(&self, process: u32) -> Option<u32>
         ensures { result ≡ position (λ other. other == process) self.now }
     {
-        match place_of(self.processes(), process) {
+        match process_index(self.processes(), process) {
             Some(condition) => Some(condition as u32),
             None => None,
         }

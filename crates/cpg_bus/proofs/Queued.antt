@@ -1,11 +1,13 @@
 -- What a process sends, in its order: all that it makes and that goes over the bus, each once, by rising rank.
-use Rattle.std.proofs.Common.{◌≡◌, ◌∙◌, ℕ, zero, suc, ◌<◌, ◌≤◌, Bool, true, false, ltb, ◌==◌, if◌then◌else◌, List, [], ◌∷◌, length, get_or, take, map, filter, Contains, Option, Some, None, arith, refl, sym, ap, inl, inr, subst, true≢false, length-take}
+use Rattle.std.proofs.Common.{◌≡◌, ◌∙◌, ℕ, zero, suc, ◌<◌, ◌≤◌, Bool, true, false, ltb, ◌==◌, if◌then◌else◌, List, [], ◌∷◌, length, get_or, take, map, filter, Contains, Option, Some, None, arith}
+use Rattle.std.proofs.Common.{refl, sym, ap, inl, inr, subst, true≢false, length-take}
 use Rattle.std.proofs.lemmas.Bool.{cases_Bool, cases_order, cond-true, cond-false}
 use Rattle.std.proofs.lemmas.List.{get_or-take, get_or_default}
 use Rattle.std.proofs.lemmas.List.Elements.{Contains-append_cases, Contains-append_left, Contains-append_right, Contains-get_or}
 use Rattle.std.proofs.lemmas.List.Kept.{AllPairs-from_increasing, IsStrictlyIncreasing-filter}
 use Rattle.cpg_base.specs.Numbers.{numbers_below}
-use Rattle.cpg_base.specs.Graph.{Graph, process_count, edge_count, condition_count, item_count, item_at, source, outputs, is_message, condition_of, process_of, message_item, broadcast_item, producer, producer_of_item, is_sent, is_sent_item}
+use Rattle.cpg_base.specs.Graph.{Graph, process_count, edge_count, condition_count, item_count, item_at, source, outputs, is_message, condition_of, process_of, message_item, broadcast_item, producer}
+use Rattle.cpg_base.specs.Graph.{producer_of_item, is_sent, is_sent_item}
 use Rattle.cpg_base.proofs.Inputs.{outputs_parts, outputs-Contains}
 use Rattle.cpg_base.proofs.Items.{item_cases, item_at-message, item_at-broadcast}
 use Rattle.cpg_base.proofs.Lists.{Contains-nil, Contains-cases, Contains-first, Contains-map, Contains-map_parts, Contains-filter, Contains-filter_parts, numbers_rise}
@@ -58,7 +60,8 @@ module _ (g : Graph) where
 
   -- ---- what is in it
 
-  a_broadcast : (p x : ℕ) (o : Option ℕ) → condition_of g p ≡ o → Contains (broadcasts_of g o) x → (c : ℕ) × (c < condition_count g) × (x ≡ broadcast_item g c) × (process_of g c ≡ p) × (ltb 1 (length g.nodes) ≡ true)
+  a_broadcast : (p x : ℕ) (o : Option ℕ) → condition_of g p ≡ o → Contains (broadcasts_of g o) x → (c : ℕ) × (c < condition_count g) × (x ≡ broadcast_item g c) × (process_of g c ≡ p) ×
+      (ltb 1 (length g.nodes) ≡ true)
   a_broadcast p x None e k = absurd (Contains-nil x k)
   a_broadcast p x (Some c) e k = elim (cases_Bool (ltb 1 (length g.nodes))) [
     | inl many ↦ elim (Contains-cases (broadcast_item g c) [] x (subst (λ xs. Contains xs x) (cond-true _ _ _ many) k)) [

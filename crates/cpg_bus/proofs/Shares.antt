@@ -14,12 +14,17 @@ is_share g node within has =
     let l = slot_place-lt g node has in
     record {
       lasts = (within.slots (slot_place g node) _ l).lasts;
-      inside = omega (arith, sum_by_more (λ (s : Slot). s.length) g.slots (slot_place g node) (record { node = 0; length = 0; bytes = 0 }) l, sum_by-take-le (λ (s : Slot). s.length) g.slots (slot_place g node + 1));
+      inside = omega (
+        arith,
+        sum_by_more (λ (s : Slot). s.length) g.slots (slot_place g node) (record { node = 0; length = 0; bytes = 0 }) l,
+        sum_by-take-le (λ (s : Slot). s.length) g.slots (slot_place g node + 1),
+      );
       short = round-le g within;
     }
 
 -- where a node's slot lies in the round, as code finds it
-module _ (g : Graph) (node place : ℕ) (found : Option ℕ) (slots : List Slot) (same : slots ≡ g.slots) (is : found ≡ position (λ (s : Slot). s.node == node) slots) (at : place ≡ unwrap_or found 0) where
+module _ (g : Graph) (node place : ℕ) (found : Option ℕ) (slots : List Slot) (same : slots ≡ g.slots) (is : found ≡ position (λ (s : Slot). s.node == node) slots)
+    (at : place ≡ unwrap_or found 0) where
   place_is : place ≡ slot_place g node
   place_is = at ∙ ap (λ o. unwrap_or o 0) (is ∙ ap (position (λ (s : Slot). s.node == node)) same)
 

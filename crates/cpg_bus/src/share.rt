@@ -27,7 +27,7 @@ impl Model for Share {
 }
 
 /// The place of a node's slot.
-fn place_of(slots: &[Slot], node: u32) -> Option<usize>
+fn slot_index(slots: &[Slot], node: u32) -> Option<usize>
     ensures { result ≡ position (λ s. s.node == node) slots.now }
 {
     slots.iter().position(|slot| slot.node == node)
@@ -48,7 +48,7 @@ impl Share {
         ensures { result ≡ share_of problem.now node }
     {
         let slots = problem.slots();
-        let place = place_of(slots, node).unwrap_or(0);
+        let place = slot_index(slots, node).unwrap_or(0);
         Share {
             offset: total(&slots[..place]),
             length: slots[place].length,

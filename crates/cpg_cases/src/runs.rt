@@ -7,7 +7,7 @@ use cpg_io::{MemoryShelf, MemorySink};
 
 /// What a run has of its own.
 #[derive(Clone, Copy)]
-pub struct Setting {
+pub struct RunSetting {
     /// How many bytes the output takes.
     pub out: usize,
     /// How many bytes the error output takes.
@@ -19,7 +19,7 @@ pub struct Setting {
 }
 
 /// What a run has if nothing is said.
-pub const USUAL: Setting = Setting {
+pub const USUAL: RunSetting = RunSetting {
     out: 10_000_000,
     err: 1000,
     failing: None,
@@ -61,7 +61,7 @@ fn run_over(
     rt: &HostRuntime,
     shelf: &mut MemoryShelf,
     words: &[String],
-    setting: Setting,
+    setting: RunSetting,
 ) -> Result<Outcome, Stopped> {
     if let Some(call) = setting.failing {
         shelf.fail_call(call)?;
@@ -77,7 +77,7 @@ pub fn run_words(
     rt: &HostRuntime,
     files: &mut MemoryShelf,
     words: &[String],
-    setting: Setting,
+    setting: RunSetting,
 ) -> Result<Outcome, Stopped> {
     let mut shelf = shelf_for(rt, files, words)?;
     run_over(rt, &mut shelf, words, setting)

@@ -2,7 +2,7 @@
 
 use crate::files::{bytes_of, changed, replaced};
 use crate::printing::{print_outcome, print_sweep, print_words};
-use crate::runs::{Outcome, Setting, USUAL, run_words};
+use crate::runs::{Outcome, RunSetting, USUAL, run_words};
 use crate::stopped::Stopped;
 use crate::sweeps::{Sweep, calls, parts, refusals, rooms};
 use cpg_base::OutOfMemory;
@@ -13,7 +13,7 @@ use std::alloc::Global;
 #[derive(Drop)]
 pub struct Session {
     files: MemoryShelf,
-    next: Setting,
+    next: RunSetting,
     wrote: Vec<u8>,
 }
 

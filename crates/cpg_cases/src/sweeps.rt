@@ -1,7 +1,7 @@
 //! Many runs of the same words.
 
 use crate::files::bytes_of;
-use crate::runs::{Setting, USUAL, run_words};
+use crate::runs::{RunSetting, USUAL, run_words};
 use crate::stopped::Stopped;
 use cpg_io::MemoryShelf;
 
@@ -34,7 +34,7 @@ fn rooms_below(
 ) -> Result<Sweep, Stopped> {
     let mut sweep = Sweep::none();
     for out in 0..written.len() {
-        let got = run_words(rt, files, words, Setting { out, ..USUAL })?;
+        let got = run_words(rt, files, words, RunSetting { out, ..USUAL })?;
         sweep.count(got.is(3, &written[..out], b"cpgc: write fault\n"));
     }
     Ok(sweep)
@@ -59,7 +59,7 @@ fn refusals_below(
 ) -> Result<Sweep, Stopped> {
     let mut sweep = Sweep::none();
     for err in 0..line.len() {
-        let got = run_words(rt, files, words, Setting { err, ..USUAL })?;
+        let got = run_words(rt, files, words, RunSetting { err, ..USUAL })?;
         sweep.count(got.is(3, &[], &line[..err]));
     }
     Ok(sweep)
@@ -84,7 +84,7 @@ pub fn calls(
     let mut sweep = Sweep::none();
     for call in 0..1000 {
         let failing = Some(call);
-        let got = run_words(rt, files, words, Setting { failing, ..USUAL })?;
+        let got = run_words(rt, files, words, RunSetting { failing, ..USUAL })?;
         if got.status == 0 {
             break;
         }

@@ -33,7 +33,8 @@ module _ (g : Graph) (tables : List NodeTable) where
     | inr there ↦ heard_due x items cs (sym (cond-false (y == x) _ _ there) ∙ e)
   ]
 
-  not_heard : IsValid g tables → (x place node : ℕ) → node < length tables → (o : Option (List Column)) → row_columns (table_at tables node).hears x ≡ o → IsSomeAnd o (λ cs. DifferFirstAt cs (due_columns g tables x) place) → ⊥
+  not_heard : IsValid g tables → (x place node : ℕ) → node < length tables → (o : Option (List Column)) → row_columns (table_at tables node).hears x ≡ o →
+      IsSomeAnd o (λ cs. DifferFirstAt cs (due_columns g tables x) place) → ⊥
   not_heard valid x place node l None e differ = differ
   not_heard valid x place node l (Some cs) e differ =
       let hears = valid.hears node (table_at tables node) (slice_get-get_or tables node empty_table l) in

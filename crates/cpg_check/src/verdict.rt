@@ -6,18 +6,18 @@ ghost use Rattle.cpg_violation.specs.Heads.{IsHeadFor};
 ghost use Rattle.cpg_violation.specs.Lines.{AreLines};
 ghost use Rattle.cpg_violation.specs.Sure.{AreTimeMarks};
 ghost use Rattle.cpg_violation.specs.Violation.{AllHold, IsFirstOf, row_rules, time_rules};
-ghost use Rattle.cpg_places.specs.Trees.{AreRowTrees};
+ghost use Rattle.cpg_row_trees.specs.Trees.{AreRowTrees};
 ghost use Rattle.cpg_check.specs.Verdict.{ShowsFault, ShowsVerdict};
 
 use cpg_base::OutOfMemory;
 use cpg_check_heard::check_heard;
+use cpg_check_quick::time_marks;
 use cpg_check_rows::{check_hears, check_rows, row_marks};
 use cpg_check_time::check_time;
-use cpg_places::{Places, row_trees};
+use cpg_row_trees::{Places, row_trees};
 use cpg_rules::Admitted;
-use cpg_sure::time_marks;
 use cpg_table::{Fault, Tables};
-use cpg_violation::{HeadPart, Line, TimeMarks, first_difference, lines_of};
+use cpg_violation::{HeadPart, SievedLine, TimeMarks, first_difference, lines_of};
 use std::alloc::Global;
 
 /// What a check answers.
@@ -59,7 +59,7 @@ fn later_fault(
     alloc: Global,
     admitted: &Admitted,
     tables: &Tables,
-    lines: &[Line<'_>],
+    lines: &[SievedLine<'_>],
     marks: &TimeMarks,
 ) -> Result<Option<Fault>, OutOfMemory>
     requires head { IsHeadFor admitted.now.graph tables.now.head }

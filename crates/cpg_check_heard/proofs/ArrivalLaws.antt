@@ -13,20 +13,21 @@ use Rattle.cpg_cube.specs.Fit.{IsKnown}
 use Rattle.cpg_cube.specs.Column.{Column, column_at}
 use Rattle.cpg_table.specs.Heard.{value_fact}
 use Rattle.cpg_check_heard.specs.declared.arrivals.Arrival.{Arrival}
-use Rattle.cpg_check_heard.specs.declared.bound.Bound.{Bound}
+use Rattle.cpg_check_heard.specs.declared.bound.LiteralBound.{LiteralBound}
 use Rattle.cpg_check_heard.specs.declared.tellers.Telling.{Telling}
 use Rattle.cpg_check_heard.specs.declared.tellers.Telling.TheVariants.{Frame}
 use Rattle.cpg_check_heard.specs.Arrivals.{IsArrival, do_tell}
 use Rattle.cpg_check_heard.specs.Bounds.{tells}
 use Rattle.cpg_check_heard.specs.Tellings.{column_tells, is_telling, is_telling_at}
 
-module _ (g : Graph) (time : ℕ) (b : Bound) (s : Scenario) where
+module _ (g : Graph) (time : ℕ) (b : LiteralBound) (s : Scenario) where
   -- a frame that comes later tells nothing
   pub late_frame : (delay : ℕ) (o : Option ℕ) (c : Column) → time < c.time + delay → is_telling g (Frame delay o) time b s c ≡ false
   late_frame delay o c l = and_right (matches c.cube s) (column_tells g (Frame delay o) time b s c) (ap (λ t. t && list_any (tells b) (c.cube ++ value_fact s o)) (lt-leb (c.time + delay) time l))
 
   -- one that has come tells what its column's literals do
-  pub whole_frame : (delay : ℕ) (o : Option ℕ) (c : Column) → nat_le (c.time + delay) time ≡ true → list_any (tells b) c.cube ≡ true → matches c.cube s ≡ true → is_telling g (Frame delay o) time b s c ≡ true
+  pub whole_frame : (delay : ℕ) (o : Option ℕ) (c : Column) → nat_le (c.time + delay) time ≡ true → list_any (tells b) c.cube ≡ true → matches c.cube s ≡ true →
+      is_telling g (Frame delay o) time b s c ≡ true
   whole_frame delay o c come told m = and_from (matches c.cube s) (column_tells g (Frame delay o) time b s c) m
       (and_from (nat_le (c.time + delay) time) (list_any (tells b) (c.cube ++ value_fact s o)) come
       (list_any-append (tells b) c.cube (value_fact s o) ∙ ap (λ t. t || list_any (tells b) (value_fact s o)) told))
@@ -47,7 +48,8 @@ module _ (g : Graph) where
   known_column columns i c l e all = subst (λ (d : Column). IsKnown g d.cube) (sym (e c)) (all i c l)
 
 -- the column that is found at a place
-pub telling_at : (g : Graph) (time : ℕ) (b : Bound) (s : Scenario) (telling : Telling) (columns : List Column) (i : ℕ) (c : Column) → i < length columns → ((d : Column) → c ≡ get_or columns i d)
+pub telling_at : (g : Graph) (time : ℕ) (b : LiteralBound) (s : Scenario) (telling : Telling) (columns : List Column) (i : ℕ) (c : Column) → i < length columns →
+    ((d : Column) → c ≡ get_or columns i d)
     → is_telling_at g telling time b columns s i ≡ is_telling g telling time b s c
 telling_at g time b s telling columns i c l e =
     ap (λ t. t && is_telling g telling time b s (column_at columns i)) (lt-ltb i (length columns) l)

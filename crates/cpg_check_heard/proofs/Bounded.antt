@@ -18,7 +18,8 @@ above_min n a b = grind (arith, nat_tests)
 module _ {X : Type 0} (p : X → Bool) (f : X → ℕ) (n : ℕ) where
   max_step : (b : Bool) (x : X) (xs : List X) (a : ℕ) → ((c : ℕ) → nat_le n (fold max c (map f (filter p xs))) ≡ (nat_le n c || list_any (λ x. p x && nat_le n (f x)) xs))
       → nat_le n (fold max a (map f (cond b (x ∷ filter p xs) (filter p xs)))) ≡ (nat_le n a || ((b && nat_le n (f x)) || list_any (λ x. p x && nat_le n (f x)) xs))
-  max_step true x xs a ih = ih (max a (f x)) ∙ ap (λ t. t || list_any (λ x. p x && nat_le n (f x)) xs) (below_max n a (f x)) ∙ or_assoc (nat_le n a) (nat_le n (f x)) (list_any (λ x. p x && nat_le n (f x)) xs)
+  max_step true x xs a ih = ih (max a (f x)) ∙ ap (λ t. t || list_any (λ x. p x && nat_le n (f x)) xs) (below_max n a (f x)) ∙
+      or_assoc (nat_le n a) (nat_le n (f x)) (list_any (λ x. p x && nat_le n (f x)) xs)
   max_step false x xs a ih = ih a
 
   any_max : (xs : List X) (a : ℕ) → nat_le n (fold max a (map f (filter p xs))) ≡ (nat_le n a || list_any (λ x. p x && nat_le n (f x)) xs)
@@ -27,7 +28,8 @@ module _ {X : Type 0} (p : X → Bool) (f : X → ℕ) (n : ℕ) where
 
   min_step : (b : Bool) (x : X) (xs : List X) (a : ℕ) → ((c : ℕ) → nat_le (fold min c (map f (filter p xs))) n ≡ (nat_le c n || list_any (λ x. p x && nat_le (f x) n) xs))
       → nat_le (fold min a (map f (cond b (x ∷ filter p xs) (filter p xs)))) n ≡ (nat_le a n || ((b && nat_le (f x) n) || list_any (λ x. p x && nat_le (f x) n) xs))
-  min_step true x xs a ih = ih (min a (f x)) ∙ ap (λ t. t || list_any (λ x. p x && nat_le (f x) n) xs) (above_min n a (f x)) ∙ or_assoc (nat_le a n) (nat_le (f x) n) (list_any (λ x. p x && nat_le (f x) n) xs)
+  min_step true x xs a ih = ih (min a (f x)) ∙ ap (λ t. t || list_any (λ x. p x && nat_le (f x) n) xs) (above_min n a (f x)) ∙
+      or_assoc (nat_le a n) (nat_le (f x) n) (list_any (λ x. p x && nat_le (f x) n) xs)
   min_step false x xs a ih = ih a
 
   any_min : (xs : List X) (a : ℕ) → nat_le (fold min a (map f (filter p xs))) n ≡ (nat_le a n || list_any (λ x. p x && nat_le (f x) n) xs)
@@ -37,7 +39,8 @@ module _ {X : Type 0} (p : X → Bool) (f : X → ℕ) (n : ℕ) where
 none_below : (n : ℕ) → nat_le n 0 ≡ (n == 0)
 none_below n = grind (arith, nat_tests)
 
-pub heard_is : (k : ℕ) (known : List Literal) (l : Literal) → is_heard k known l ≡ ((is_free k (low_of l) || list_any (tells (low_of l)) known) && (is_free k (high_of l) || list_any (tells (high_of l)) known))
+pub heard_is : (k : ℕ) (known : List Literal) (l : Literal) →
+    is_heard k known l ≡ ((is_free k (low_of l) || list_any (tells (low_of l)) known) && (is_free k (high_of l) || list_any (tells (high_of l)) known))
 heard_is k known l = ap (λ t. t && nat_le (kept_high k known l.variable) l.high) (any_max (λ (m : Literal). m.variable == l.variable) (λ (m : Literal). m.low) l.low known 0
     ∙ ap (λ t. t || list_any (tells (low_of l)) known) (none_below l.low))
     ∙ ap (λ t. (is_free k (low_of l) || list_any (tells (low_of l)) known) && t) (any_min (λ (m : Literal). m.variable == l.variable) (λ (m : Literal). m.high) l.high known (top k l.variable))

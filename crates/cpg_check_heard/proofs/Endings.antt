@@ -20,7 +20,7 @@ use Rattle.cpg_table.specs.Table.{NodeTable, columns_of}
 use Rattle.cpg_cube.specs.Column.{Column}
 use Rattle.cpg_violation.specs.Violation.{AllHold, row_rules}
 use Rattle.cpg_violation.proofs.Matching.{match_where}
-use Rattle.cpg_check_heard.specs.declared.bound.Bound.{Bound}
+use Rattle.cpg_check_heard.specs.declared.bound.LiteralBound.{LiteralBound}
 use Rattle.cpg_check_heard.specs.declared.tellers.Telling.TheVariants.{End}
 use Rattle.cpg_check_heard.specs.Bounds.{high_of, is_free, is_told, low_of, tells, variable_of}
 use Rattle.cpg_check_heard.specs.Ended.{HasEnded}
@@ -35,7 +35,7 @@ use Rattle.cpg_check_heard.proofs.Untolds.{own_told}
 
 module _ (g : Graph) (tables : List NodeTable) (few : process_count g ≤ 128) (rules : AllHold g tables row_rules) (s : Scenario) (law : IsScenario g s) (node time : ℕ) where
   -- the end tells a bound that the number is within
-  own_bound : (b : Bound) → IsVariable g (variable_of b) → HasEnded g tables node (variable_of b) time → active g s.values (process_of_variable g (variable_of b)) ≡ true
+  own_bound : (b : LiteralBound) → IsVariable g (variable_of b) → HasEnded g tables node (variable_of b) time → active g s.values (process_of_variable g (variable_of b)) ≡ true
       → side b (number_of s (variable_of b)) ≡ true → own_tells g tables node time b s ≡ true
   own_bound b known ended on within =
       let p : ℕ = process_of_variable g (variable_of b) in
@@ -47,9 +47,10 @@ module _ (g : Graph) (tables : List NodeTable) (few : process_count g ≤ 128) (
       and_from _ _ (eq-eqb (node_of g p) node ended.home)
       (ap (λ i. row_tells g (item_telling g p i) time b (columns_of tables p) s) (item_at-start g p l) ∙ list_any_true (is_telling g (End p) time b s) (columns_of tables p) d.0 d.1 told)
 
-  told_bound : (b : Bound) → IsVariable g (variable_of b) → HasEnded g tables node (variable_of b) time → active g s.values (process_of_variable g (variable_of b)) ≡ true
+  told_bound : (b : LiteralBound) → IsVariable g (variable_of b) → HasEnded g tables node (variable_of b) time → active g s.values (process_of_variable g (variable_of b)) ≡ true
       → side b (number_of s (variable_of b)) ≡ true → is_told g tables node time b s ≡ true
-  told_bound b known ended on within = own_told (is_free g.faults b) (own_tells g tables node time b s) (own_tells g tables node time b s) (are_told_by g tables time b (heard_by g node) s) (list_any (tells b) (facts g tables node s time))
+  told_bound b known ended on within = own_told (is_free g.faults b) (own_tells g tables node time b s) (own_tells g tables node time b s) (are_told_by g tables time b (heard_by g node) s)
+      (list_any (tells b) (facts g tables node s time))
       refl (facts_told g tables time b s few (variable_within g (variable_of b) few known) node) (own_bound b known ended on within)
 
   pub ended_heard : (l : Literal) → IsVariable g l.variable → HasEnded g tables node l.variable time → active g s.values (process_of_variable g l.variable) ≡ true

@@ -1,5 +1,6 @@
 -- What a node is told altogether, row by row.
-use Rattle.std.proofs.Common.{ℕ, ◌+◌, ◌-◌, ◌<◌, ◌≤◌, ◌≡◌, ◌≢◌, ◌==◌, Bool, true, false, cond, ◌&&◌, ◌||◌, List, [], ◌∷◌, ◌++◌, filter, flat_map, Contains, Option, Some, None, arith, refl, sym, ap, ◌∙◌, subst, inl, inr, lt-ltb, le-ltb, true≢false}
+use Rattle.std.proofs.Common.{ℕ, ◌+◌, ◌-◌, ◌<◌, ◌≤◌, ◌≡◌, ◌≢◌, ◌==◌, Bool, true, false, cond, ◌&&◌, ◌||◌, List, [], ◌∷◌, ◌++◌, filter, flat_map, Contains, Option, Some, None, arith, refl, sym, ap}
+use Rattle.std.proofs.Common.{◌∙◌, subst, inl, inr, lt-ltb, le-ltb, true≢false}
 use Rattle.std.specs.Prelude.{nat_le}
 use Rattle.std.specs.List.{list_any}
 use Rattle.std.proofs.lemmas.Bool.{and_from, and_parts, and_right, both_ways, cases_order, ne_eqb, cond-true, cond-false}
@@ -20,7 +21,7 @@ use Rattle.cpg_cube.specs.Column.{Column}
 use Rattle.cpg_table.specs.Shape.{heard_by}
 use Rattle.cpg_table.specs.Heard.{exactly, value_fact, matching, facts_of_end, frame_value, facts_of_frame, facts}
 use Rattle.cpg_violation.proofs.Columnwise.{any_filter}
-use Rattle.cpg_check_heard.specs.declared.bound.Bound.{Bound}
+use Rattle.cpg_check_heard.specs.declared.bound.LiteralBound.{LiteralBound}
 use Rattle.cpg_check_heard.specs.declared.tellers.Telling.TheVariants.{End, Frame}
 use Rattle.cpg_check_heard.specs.Bounds.{tells, variable_of}
 use Rattle.cpg_check_heard.specs.Tellings.{column_tells, is_telling, row_tells, telling_of, item_telling, carried, is_value, CanTell}
@@ -64,12 +65,13 @@ frame_carried s (Start p) = refl
 frame_carried s (Message e) = refl
 frame_carried s (Broadcast c) = refl
 
-module _ (g : Graph) (tables : List NodeTable) (time : ℕ) (b : Bound) (s : Scenario) where
+module _ (g : Graph) (tables : List NodeTable) (time : ℕ) (b : LiteralBound) (s : Scenario) where
   -- ---- a process
 
   end_row : (p : ℕ) → list_any (tells b) (facts_of_end g tables s time p) ≡ row_tells g (End p) time b (columns_of tables p) s
   end_row p = any_flat_map (tells b) (λ (c : Column). cond (nat_le (c.time + duration g p (number_of s p)) time) (exactly p (number_of s p) ∷ value_fact s (condition_of g p)) []) (matching tables s p)
-      ∙ any_filter (λ (c : Column). list_any (tells b) (cond (nat_le (c.time + duration g p (number_of s p)) time) (exactly p (number_of s p) ∷ value_fact s (condition_of g p)) [])) (λ (c : Column). matches c.cube s) (columns_of tables p)
+      ∙ any_filter (λ (c : Column). list_any (tells b) (cond (nat_le (c.time + duration g p (number_of s p)) time) (exactly p (number_of s p) ∷ value_fact s (condition_of g p)) []))
+      (λ (c : Column). matches c.cube s) (columns_of tables p)
       ∙ any_ext (λ (c : Column). matches c.cube s && list_any (tells b) (cond (nat_le (c.time + duration g p (number_of s p)) time) (exactly p (number_of s p) ∷ value_fact s (condition_of g p)) []))
       (is_telling g (End p) time b s) (columns_of tables p)
       (λ (c : Column). ap (λ t. matches c.cube s && t) (any_cond (tells b) (nat_le (c.time + duration g p (number_of s p)) time) (exactly p (number_of s p) ∷ value_fact s (condition_of g p))))
@@ -82,7 +84,8 @@ module _ (g : Graph) (tables : List NodeTable) (time : ℕ) (b : Bound) (s : Sce
   other_value None h = refl
   other_value (Some c) h = ne_eqb (value_variable c) (variable_of b) (h c refl)
 
-  other_end : process_count g ≤ 128 → (q : ℕ) → q < process_count g → q ≢ process_of_variable g (variable_of b) → list_any (tells b) (exactly q (number_of s q) ∷ value_fact s (condition_of g q)) ≡ false
+  other_end : process_count g ≤ 128 → (q : ℕ) → q < process_count g → q ≢ process_of_variable g (variable_of b) →
+      list_any (tells b) (exactly q (number_of s q) ∷ value_fact s (condition_of g q)) ≡ false
   other_end few q l n =
       let v : ℕ = variable_of b in
       ap (λ t. t || list_any (tells b) (value_fact s (condition_of g q))) (tells_exactly b q (number_of s q)
@@ -94,7 +97,8 @@ module _ (g : Graph) (tables : List NodeTable) (time : ℕ) (b : Bound) (s : Sce
 
   other_row : process_count g ≤ 128 → (q : ℕ) → q < process_count g → q ≢ process_of_variable g (variable_of b) → list_any (tells b) (facts_of_end g tables s time q) ≡ false
   other_row few q l n = end_row q ∙ list_any_false (is_telling g (End q) time b s) (columns_of tables q)
-      (λ c _. and_right (matches c.cube s) (column_tells g (End q) time b s c) (and_right (nat_le (c.time + duration g q (number_of s q)) time) (list_any (tells b) (exactly q (number_of s q) ∷ value_fact s (condition_of g q))) (other_end few q l n)))
+      (λ c _. and_right (matches c.cube s) (column_tells g (End q) time b s c)
+      (and_right (nat_le (c.time + duration g q (number_of s q)) time) (list_any (tells b) (exactly q (number_of s q) ∷ value_fact s (condition_of g q))) (other_end few q l n)))
 
   -- ---- what a node hears
 
@@ -108,7 +112,8 @@ module _ (g : Graph) (tables : List NodeTable) (time : ℕ) (b : Bound) (s : Sce
 
   frame_row : (x node : ℕ) → is_heard_by g node (item_at g x) ≡ true → list_any (tells b) (facts_of_frame g tables s time x) ≡ item_tells g tables time b s x
   frame_row x node h = any_flat_map (tells b) (λ (c : Column). cond (nat_le (c.time + slot_length g (home g x)) time) (c.cube ++ frame_value s (item_at g x)) []) (matching tables s x)
-      ∙ any_filter (λ (c : Column). list_any (tells b) (cond (nat_le (c.time + slot_length g (home g x)) time) (c.cube ++ frame_value s (item_at g x)) [])) (λ (c : Column). matches c.cube s) (columns_of tables x)
+      ∙ any_filter (λ (c : Column). list_any (tells b) (cond (nat_le (c.time + slot_length g (home g x)) time) (c.cube ++ frame_value s (item_at g x)) [])) (λ (c : Column). matches c.cube s)
+      (columns_of tables x)
       ∙ any_ext (λ (c : Column). matches c.cube s && list_any (tells b) (cond (nat_le (c.time + slot_length g (home g x)) time) (c.cube ++ frame_value s (item_at g x)) []))
       (is_telling g (Frame (slot_length g (home g x)) (carried (item_at g x))) time b s) (columns_of tables x)
       (λ (c : Column). ap (λ t. matches c.cube s && t) (any_cond (tells b) (nat_le (c.time + slot_length g (home g x)) time) (c.cube ++ frame_value s (item_at g x))

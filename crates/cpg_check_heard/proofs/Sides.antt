@@ -13,17 +13,17 @@ use Rattle.cpg_base.specs.Variable.{top}
 use Rattle.cpg_cube.proofs.Boxes.{number_within, top_of_count}
 use Rattle.cpg_table.specs.Heard.{exactly, value_fact}
 use Rattle.cpg_violation.proofs.Tests.{same_where, with_true}
-use Rattle.cpg_check_heard.specs.declared.bound.Bound.{Bound}
-use Rattle.cpg_check_heard.specs.declared.bound.Bound.TheVariants.{Low, High}
+use Rattle.cpg_check_heard.specs.declared.bound.LiteralBound.{LiteralBound}
+use Rattle.cpg_check_heard.specs.declared.bound.LiteralBound.TheVariants.{Low, High}
 use Rattle.cpg_check_heard.specs.Bounds.{tells, range_of, variable_of}
 use Rattle.cpg_check_heard.specs.Tellings.{is_value}
 
 -- whether a number is within a bound
-abbrev pub side : Bound → ℕ → Bool
+abbrev pub side : LiteralBound → ℕ → Bool
 side (Low v least) n = nat_le least n
 side (High v most) n = nat_le n most
 
-pub tells_exactly : (b : Bound) (w n : ℕ) → tells b (exactly w n) ≡ ((w == variable_of b) && side b n)
+pub tells_exactly : (b : LiteralBound) (w n : ℕ) → tells b (exactly w n) ≡ ((w == variable_of b) && side b n)
 tells_exactly (Low v least) w n = refl
 tells_exactly (High v most) w n = refl
 
@@ -39,11 +39,12 @@ come_holds n c h = elim (cases_lt n c) [
 ]
 
 -- the value of a condition tells what its number does
-pub value_side : (s : Scenario) (b : Bound) (o : Option ℕ) → list_any (tells b) (value_fact s o) ≡ (is_value o (variable_of b) && side b (number_of s (variable_of b)))
+pub value_side : (s : Scenario) (b : LiteralBound) (o : Option ℕ) → list_any (tells b) (value_fact s o) ≡ (is_value o (variable_of b) && side b (number_of s (variable_of b)))
 value_side s b None = refl
 value_side s b (Some c) = or-false (tells b (exactly (value_variable c) (number_of s (value_variable c))))
     ∙ tells_exactly b (value_variable c) (number_of s (value_variable c))
-    ∙ same_where (value_variable c == variable_of b) (side b (number_of s (value_variable c))) (side b (number_of s (variable_of b))) (λ e. ap (λ v. side b (number_of s v)) (eqb-true (value_variable c) (variable_of b) e))
+    ∙ same_where (value_variable c == variable_of b) (side b (number_of s (value_variable c))) (side b (number_of s (variable_of b)))
+    (λ e. ap (λ v. side b (number_of s v)) (eqb-true (value_variable c) (variable_of b) e))
 
 -- the cases of a variable
 variable_parts : (g : Graph) (v : ℕ) → process_count g ≤ 128 → IsVariable g v → (v < process_count g) ⊎ ((128 ≤ v) × (v - 128 < condition_count g))
@@ -58,7 +59,7 @@ variable_within g v few known = elim (variable_parts g v few known) as (λ _. pr
 ]
 
 module _ (g : Graph) (few : process_count g ≤ 128) (s : Scenario) (i : IsScenario g s) where
-  pub range_holds : (b : Bound) → IsVariable g (variable_of b) → holds s (range_of g.faults b) ≡ side b (number_of s (variable_of b))
+  pub range_holds : (b : LiteralBound) → IsVariable g (variable_of b) → holds s (range_of g.faults b) ≡ side b (number_of s (variable_of b))
   range_holds (Low v least) known = sym (with_true (nat_le least (number_of s v)) (nat_le (number_of s v) (top g.faults v)) (le-leb (number_of s v) (top g.faults v) (number_within g few s i v known)))
   range_holds (High v most) known = ap (λ b. b && nat_le (number_of s v) most) (le-leb 0 (number_of s v) (omega arith))
 
@@ -66,11 +67,12 @@ module _ (g : Graph) (few : process_count g ≤ 128) (s : Scenario) (i : IsScena
   count_within p l = let a = number_within g few s i p (inl l) in let t = top_of_count g.faults p (omega arith) in omega (arith, a, t)
 
   -- the end of a process tells its count and its value
-  pub end_side : (b : Bound) (p : ℕ) → IsVariable g (variable_of b) → p < process_count g → process_of_variable g (variable_of b) ≡ p
+  pub end_side : (b : LiteralBound) (p : ℕ) → IsVariable g (variable_of b) → p < process_count g → process_of_variable g (variable_of b) ≡ p
       → list_any (tells b) (exactly p (number_of s p) ∷ value_fact s (condition_of g p)) ≡ side b (number_of s (variable_of b))
   end_side b p known l is = ap (λ t. t || list_any (tells b) (value_fact s (condition_of g p))) (tells_exactly b p (number_of s p))
       ∙ ap (λ t. ((p == variable_of b) && side b (number_of s p)) || t) (value_side s b (condition_of g p))
-      ∙ elim (variable_parts g (variable_of b) few known) as (λ _. (((p == variable_of b) && side b (number_of s p)) || (is_value (condition_of g p) (variable_of b) && side b (number_of s (variable_of b)))) ≡ side b (number_of s (variable_of b))) [
+      ∙ elim (variable_parts g (variable_of b) few known) as
+      (λ _. (((p == variable_of b) && side b (number_of s p)) || (is_value (condition_of g p) (variable_of b) && side b (number_of s (variable_of b)))) ≡ side b (number_of s (variable_of b))) [
         | inl m ↦
             let same : p ≡ variable_of b = sym is ∙ cond-true _ _ _ (lt-ltb (variable_of b) 128 (omega arith)) in
             ap (λ t. (t && side b (number_of s p)) || (is_value (condition_of g p) (variable_of b) && side b (number_of s (variable_of b)))) (eq-eqb p (variable_of b) same)
@@ -81,7 +83,8 @@ module _ (g : Graph) (few : process_count g ≤ 128) (s : Scenario) (i : IsScena
             let at : process_of g c ≡ p = sym (cond-false _ _ _ (le-ltb (variable_of b) 128 m.0)) ∙ is in
             let has : condition_of g p ≡ Some c = ap (condition_of g) (sym at) ∙ condition_of_process_of g c m.1 in
             let here : value_variable c ≡ variable_of b = omega (arith, m.0) in
-            ap (λ t. (t && side b (number_of s p)) || (is_value (condition_of g p) (variable_of b) && side b (number_of s (variable_of b)))) (ne_eqb p (variable_of b) (λ e. omega (arith, e, m.0, l, few)))
+            ap (λ t. (t && side b (number_of s p)) || (is_value (condition_of g p) (variable_of b) && side b (number_of s (variable_of b))))
+            (ne_eqb p (variable_of b) (λ e. omega (arith, e, m.0, l, few)))
             ∙ ap (λ o. is_value o (variable_of b) && side b (number_of s (variable_of b))) has
             ∙ ap (λ t. t && side b (number_of s (variable_of b))) (eq-eqb (value_variable c) (variable_of b) here)
       ]

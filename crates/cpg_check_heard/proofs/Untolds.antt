@@ -37,7 +37,8 @@ pub told_heard : (own heard all : Bool) → all ≡ (own || heard) → heard ≡
 told_heard own heard all is t = is ∙ or_right own heard t
 
 -- if a bound is told all over a cube, it isn't open there
-pub untold_nowhere : (g : Graph) (cube : List Literal) (facts : Scenario → Bool) (free : Bool) → ((s : Scenario) → IsScenario g s → matches cube s ≡ true → facts s ≡ true) → (s : Scenario) → IsScenario g s → (matches cube s && not (free || facts s)) ≡ false
+pub untold_nowhere : (g : Graph) (cube : List Literal) (facts : Scenario → Bool) (free : Bool) → ((s : Scenario) → IsScenario g s → matches cube s ≡ true → facts s ≡ true) → (s : Scenario) →
+    IsScenario g s → (matches cube s && not (free || facts s)) ≡ false
 untold_nowhere g cube facts free h s i = off_where (matches cube s) (not (free || facts s)) (λ m. ap not (or_right free (facts s) (h s i m)))
 
 -- what a node's own ends tell is told

@@ -13,32 +13,32 @@ use Rattle.cpg_table.specs.Table.{NodeTable, columns_of}
 use Rattle.cpg_cube.specs.Column.{Column, column_at}
 use Rattle.cpg_table.specs.Heard.{exactly, value_fact}
 use Rattle.cpg_violation.specs.Lines.{IsLine}
-use Rattle.cpg_check_heard.specs.declared.bound.Bound.{Bound}
+use Rattle.cpg_check_heard.specs.declared.bound.LiteralBound.{LiteralBound}
 use Rattle.cpg_check_heard.specs.declared.tellers.Telling.{Telling}
 use Rattle.cpg_check_heard.specs.declared.tellers.Telling.TheVariants.{End, Frame}
 use Rattle.cpg_check_heard.specs.declared.tellers.Teller.{Teller}
 use Rattle.cpg_check_heard.specs.Bounds.{tells, variable_of}
 
 -- whether an end or a frame by a column has come by a time and tells a bound
-abbrev pub column_tells : Graph → Telling → ℕ → Bound → Scenario → Column → Bool
+abbrev pub column_tells : Graph → Telling → ℕ → LiteralBound → Scenario → Column → Bool
 column_tells g (End p) time b s c = nat_le (c.time + duration g p (number_of s p)) time
     && list_any (tells b) (exactly p (number_of s p) ∷ value_fact s (condition_of g p))
 column_tells g (Frame delay condition) time b s c = nat_le (c.time + delay) time && list_any (tells b) (c.cube ++ value_fact s condition)
 
 -- whether a column matches, and its end or frame tells a bound by a time
-abbrev pub is_telling : Graph → Telling → ℕ → Bound → Scenario → Column → Bool
+abbrev pub is_telling : Graph → Telling → ℕ → LiteralBound → Scenario → Column → Bool
 is_telling g telling time b s c = matches c.cube s && column_tells g telling time b s c
 
 -- whether there is a column at a place that matches, and whose end or frame tells a bound by a time
-abbrev pub is_telling_at : Graph → Telling → ℕ → Bound → List Column → Scenario → ℕ → Bool
+abbrev pub is_telling_at : Graph → Telling → ℕ → LiteralBound → List Column → Scenario → ℕ → Bool
 is_telling_at g telling time b columns s i = nat_lt i (length columns) && is_telling g telling time b s (column_at columns i)
 
 -- whether a column of a row does
-abbrev pub row_tells : Graph → Telling → ℕ → Bound → List Column → Scenario → Bool
+abbrev pub row_tells : Graph → Telling → ℕ → LiteralBound → List Column → Scenario → Bool
 row_tells g telling time b columns s = list_any (is_telling g telling time b s) columns
 
 -- an end can only tell of the count and the value of its process
-abbrev pub CanTell : Graph → Bound → Telling → Type 0
+abbrev pub CanTell : Graph → LiteralBound → Telling → Type 0
 CanTell g b (End p) = (p < process_count g) × (process_of_variable g (variable_of b) ≡ p)
 CanTell g b (Frame delay condition) = Unit {0}
 

@@ -9,7 +9,7 @@ use Rattle.cpg_cube.specs.Column.{Column}
 use Rattle.cpg_table.specs.Heard.{facts, is_heard}
 use Rattle.cpg_table.specs.Valid.{breaks_heard}
 use Rattle.cpg_violation.specs.Broken.{is_broken}
-use Rattle.cpg_check_heard.specs.declared.bound.Bound.{Bound}
+use Rattle.cpg_check_heard.specs.declared.bound.LiteralBound.{LiteralBound}
 use Rattle.cpg_check_heard.specs.Bounds.{is_told}
 
 -- whether a node hasn't heard a literal by a time
@@ -17,7 +17,7 @@ abbrev pub is_literal_unheard : Graph → List NodeTable → ℕ → ℕ → Sce
 is_literal_unheard g tables node time s l = not (is_heard g.faults (facts g tables node s time) l)
 
 -- whether a node hasn't been told one of these bounds by a time
-abbrev pub is_one_untold : Graph → List NodeTable → ℕ → ℕ → List Bound → Scenario → Bool
+abbrev pub is_one_untold : Graph → List NodeTable → ℕ → ℕ → List LiteralBound → Scenario → Bool
 is_one_untold g tables node time bounds s = list_any (λ b. not (is_told g tables node time b s)) bounds
 
 -- whether a node hasn't heard all literals of a column by its time

@@ -14,9 +14,9 @@ ghost use Rattle.cpg_check_heard.specs.Arrivals.{AreArrivals, IsArrival, do_tell
 ghost use Rattle.cpg_check_heard.specs.Bounds.{variable_of};
 ghost use Rattle.cpg_check_heard.specs.Hearings.{IsHearing};
 ghost use Rattle.cpg_check_heard.specs.Tellings.{CanTell, is_telling, is_telling_at, row_tells};
-ghost use Rattle.cpg_check_heard.specs.declared.bound.Bound.{Bound};
+ghost use Rattle.cpg_check_heard.specs.declared.bound.LiteralBound.{LiteralBound};
 
-use crate::bound::Bound;
+use crate::bound::LiteralBound;
 use crate::hearing::Hearing;
 use crate::parts::{add, part_of};
 use crate::tellers::{Teller, Telling, has_come};
@@ -34,7 +34,7 @@ pub(crate) struct Arrival<'a> {
 /// Whether the frame of a column may have come by a time; not if that of a column at this start hasn't, and the column
 /// is no earlier.
 fn may_have_come(telling: Telling, start: u64, time: u64) -> bool
-    ensures { OnFalse result ((g : Graph) (b : Bound) (s : Scenario) (c : Column) → start ≤ c.time → is_telling g telling time b s c ≡ false) }
+    ensures { OnFalse result ((g : Graph) (b : LiteralBound) (s : Scenario) (c : Column) → start ≤ c.time → is_telling g telling time b s c ≡ false) }
 {
     match telling {
         Telling::End { .. } => true,
@@ -50,9 +50,9 @@ fn add_column<'a>(
     time: u64,
     arrivals: &mut Vec<Arrival<'a>>,
 ) -> Result<(), OutOfMemory>
-    ensures each { IfOk result (λ _. (g : Graph) → All (λ c. IsKnown g c.cube) columns.now → ((b : Bound) → CanTell g b telling)
+    ensures each { IfOk result (λ _. (g : Graph) → All (λ c. IsKnown g c.cube) columns.now → ((b : LiteralBound) → CanTell g b telling)
         → All (IsArrival g) arrivals.old.items → All (IsArrival g) arrivals.new.items) }
-    ensures told { IfOk result (λ _. (g : Graph) (b : Bound) (s : Scenario)
+    ensures told { IfOk result (λ _. (g : Graph) (b : LiteralBound) (s : Scenario)
         → do_tell g time b arrivals.new.items s ≡ (do_tell g time b arrivals.old.items s
         || is_telling_at g telling time b columns.now s place)) }
 {
@@ -76,9 +76,9 @@ fn add_row<'a>(
 ) -> Result<(), OutOfMemory>
     requires { IsSieveOf teller.now.line.now.columns.now teller.now.line.now.sieve }
     ensures each { IfOk result (λ _. (g : Graph) → All (λ c. IsKnown g c.cube) teller.now.line.now.columns.now
-        → ((b : Bound) → CanTell g b teller.now.telling) → All (IsArrival g) arrivals.old.items
+        → ((b : LiteralBound) → CanTell g b teller.now.telling) → All (IsArrival g) arrivals.old.items
         → All (IsArrival g) arrivals.new.items) }
-    ensures told { IfOk result (λ _. (g : Graph) (b : Bound) (s : Scenario) → matches cube.now s ≡ true
+    ensures told { IfOk result (λ _. (g : Graph) (b : LiteralBound) (s : Scenario) → matches cube.now s ≡ true
         → do_tell g time b arrivals.new.items s ≡ (do_tell g time b arrivals.old.items s
         || row_tells g teller.now.telling time b teller.now.line.now.columns.now s)) }
 {
@@ -120,7 +120,7 @@ fn tells_whole(
     arrival: &Arrival<'_>,
     cube: &Cube,
     time: u64,
-    bound: Bound,
+    bound: LiteralBound,
 ) -> bool
     requires cube { IsKnown problem.now cube.now }
     requires column { IsKnown problem.now arrival.now.column.now.cube }
@@ -146,7 +146,7 @@ pub(crate) fn tells_one_whole(
     arrivals: &[Arrival<'_>],
     cube: &Cube,
     time: u64,
-    bound: Bound,
+    bound: LiteralBound,
 ) -> bool
     requires cube { IsKnown problem.now cube.now }
     requires arrivals { All (IsArrival problem.now) arrivals.now }
@@ -163,7 +163,7 @@ pub(crate) fn add_told(
     problem: &Problem,
     arrivals: &[Arrival<'_>],
     time: u64,
-    bound: Bound,
+    bound: LiteralBound,
     told: &mut Vec<Cube>,
 ) -> Result<(), OutOfMemory>
     requires variable { IsVariable problem.now (variable_of bound) }

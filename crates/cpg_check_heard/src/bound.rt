@@ -8,29 +8,29 @@ use cpg_cube::Literal;
 
 /// One end of a literal's range.
 #[derive(Clone, Copy)]
-pub(crate) enum Bound {
+pub(crate) enum LiteralBound {
     /// The variable is this number at least.
     Low { variable: u8, least: u8 },
     /// The variable is this number at most.
     High { variable: u8, most: u8 },
 }
 
-impl Bound {
+impl LiteralBound {
     /// The low of a literal.
-    pub(crate) fn low_of(literal: &Literal) -> Bound
+    pub(crate) fn low_of(literal: &Literal) -> LiteralBound
         ensures { result ≡ low_of literal.now }
     {
-        Bound::Low {
+        LiteralBound::Low {
             variable: literal.variable,
             least: literal.low,
         }
     }
 
     /// The high of a literal.
-    pub(crate) fn high_of(literal: &Literal) -> Bound
+    pub(crate) fn high_of(literal: &Literal) -> LiteralBound
         ensures { result ≡ high_of literal.now }
     {
-        Bound::High {
+        LiteralBound::High {
             variable: literal.variable,
             most: literal.high,
         }
@@ -41,8 +41,8 @@ impl Bound {
         ensures { result ≡ variable_of self.now }
     {
         match self {
-            Bound::Low { variable, .. } => *variable,
-            Bound::High { variable, .. } => *variable,
+            LiteralBound::Low { variable, .. } => *variable,
+            LiteralBound::High { variable, .. } => *variable,
         }
     }
 
@@ -51,8 +51,8 @@ impl Bound {
         ensures { result ≡ is_free k self.now }
     {
         match self {
-            Bound::Low { least, .. } => *least == 0,
-            Bound::High { variable, most } => top(k, *variable) <= *most,
+            LiteralBound::Low { least, .. } => *least == 0,
+            LiteralBound::High { variable, most } => top(k, *variable) <= *most,
         }
     }
 
@@ -61,10 +61,10 @@ impl Bound {
         ensures { result ≡ tells self.now literal.now }
     {
         match self {
-            Bound::Low { variable, least } => {
+            LiteralBound::Low { variable, least } => {
                 literal.variable == *variable && *least <= literal.low
             }
-            Bound::High { variable, most } => {
+            LiteralBound::High { variable, most } => {
                 literal.variable == *variable && literal.high <= *most
             }
         }
@@ -82,12 +82,12 @@ impl Bound {
         ensures { result ≡ range_of k self.now }
     {
         match self {
-            Bound::Low { variable, least } => Literal {
+            LiteralBound::Low { variable, least } => Literal {
                 variable: *variable,
                 low: *least,
                 high: top(k, *variable),
             },
-            Bound::High { variable, most } => Literal {
+            LiteralBound::High { variable, most } => Literal {
                 variable: *variable,
                 low: 0,
                 high: *most,

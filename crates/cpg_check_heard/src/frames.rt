@@ -13,7 +13,7 @@ ghost use Rattle.cpg_check_heard.specs.Hearings.{IsHearing};
 ghost use Rattle.cpg_check_heard.specs.Unheard.{is_one_untold};
 
 use crate::arrivals::{Arrival, tells_one_whole};
-use crate::bound::Bound;
+use crate::bound::LiteralBound;
 use crate::hearing::Hearing;
 use cpg_base::{OutOfMemory, Problem};
 use cpg_cube::Entry;
@@ -22,7 +22,7 @@ use std::cmp::Reverse;
 
 /// A row that a node hears, by the length of its longest cube.
 #[derive(Clone, Copy, PartialEq, Eq, PartialOrd, Ord)]
-pub(crate) struct Rank {
+pub(crate) struct RowRank {
     longest: Reverse<usize>,
     item: u32,
 }
@@ -33,14 +33,14 @@ fn left_open(
     problem: &Problem,
     arrivals: &[Arrival<'_>],
     column: &Entry,
-    bounds: &[Bound],
-) -> Result<Vec<Bound>, OutOfMemory>
+    bounds: &[LiteralBound],
+) -> Result<Vec<LiteralBound>, OutOfMemory>
     requires cube { IsKnown problem.now column.now.cube }
     requires arrivals { All (IsArrival problem.now) arrivals.now }
     requires bounds { All (λ b. IsVariable problem.now (variable_of b)) bounds.now }
     ensures known { IfOk result (λ left. All (λ b. IsVariable problem.now (variable_of b)) left.items) }
-    ensures left { IfOk result (λ left. (s : Scenario) (test : Bound → Bool) → IsScenario problem.now s
-        → matches column.now.cube s ≡ true → ((b : Bound) → IsVariable problem.now (variable_of b)
+    ensures left { IfOk result (λ left. (s : Scenario) (test : LiteralBound → Bool) → IsScenario problem.now s
+        → matches column.now.cube s ≡ true → ((b : LiteralBound) → IsVariable problem.now (variable_of b)
         → do_tell problem.now column.now.time b arrivals.now s ≡ true → test b ≡ false)
         → list_any test left.items ≡ list_any test bounds.now) }
 {
@@ -61,7 +61,7 @@ impl Hearing<'_> {
         alloc: Global,
         node: u32,
         items: &[u32],
-    ) -> Result<Vec<Rank>, OutOfMemory>
+    ) -> Result<Vec<RowRank>, OutOfMemory>
         requires hearing { IsHearing self.now }
         requires items { All (Contains (heard_by self.now.admitted.now.graph node)) items.now }
         ensures { IfOk result (λ ranks. All (λ r. Contains (heard_by self.now.admitted.now.graph node) r.item) ranks.items) }
@@ -69,7 +69,7 @@ impl Hearing<'_> {
         let mut ranks = Vec::new(alloc);
         for item in items {
             let teller = &self.tellers[*item as usize];
-            ranks.push(Rank {
+            ranks.push(RowRank {
                 longest: Reverse(teller.longest),
                 item: *item,
             })?;
@@ -83,10 +83,10 @@ impl Hearing<'_> {
         &self,
         alloc: Global,
         node: u32,
-        ranks: &[Rank],
+        ranks: &[RowRank],
         column: &Entry,
-        bounds: Vec<Bound>,
-    ) -> Result<Vec<Bound>, OutOfMemory>
+        bounds: Vec<LiteralBound>,
+    ) -> Result<Vec<LiteralBound>, OutOfMemory>
         requires hearing { IsHearing self.now }
         requires ranks { All (λ r. Contains (heard_by self.now.admitted.now.graph node) r.item) ranks.now }
         requires cube { IsKnown self.now.admitted.now.graph column.now.cube }

@@ -19,7 +19,7 @@ use cpg_base::{OutOfMemory, Scenario};
 use cpg_cube::Entry;
 use cpg_rules::Admitted;
 use cpg_table::{Fault, NodeItems, Rule, Tables};
-use cpg_violation::{Line, is_marked};
+use cpg_violation::{SievedLine, is_marked};
 use std::alloc::Global;
 
 /// The first column of an item's row that matches in a scenario in which the item's node hasn't heard one of its literals
@@ -61,7 +61,7 @@ pub fn check_heard(
     alloc: Global,
     admitted: &Admitted,
     tables: &Tables,
-    lines: &[Line<'_>],
+    lines: &[SievedLine<'_>],
     marks: &[bool],
 ) -> Result<Option<Fault>, OutOfMemory>
     requires head { IsHeadFor admitted.now.graph tables.now.head }

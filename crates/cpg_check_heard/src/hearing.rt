@@ -17,8 +17,8 @@ ghost use Rattle.cpg_check_heard.specs.Unheard.{is_column_unheard, is_literal_un
 ghost use Rattle.cpg_check_heard.specs.Untold.{own_tells};
 
 use crate::arrivals::{Arrival, add_told, tells_one_whole};
-use crate::bound::Bound;
-use crate::frames::Rank;
+use crate::bound::LiteralBound;
+use crate::frames::RowRank;
 use crate::parts::add_row;
 use crate::tellers::Teller;
 use cpg_base::{OutOfMemory, Problem, Scenario};
@@ -90,7 +90,7 @@ impl Hearing<'_> {
         node: u32,
         cube: &Cube,
         time: u64,
-        bound: Bound,
+        bound: LiteralBound,
         told: &mut Vec<Cube>,
     ) -> Result<(), OutOfMemory>
         requires hearing { IsHearing self.now }
@@ -119,7 +119,7 @@ impl Hearing<'_> {
         node: u32,
         cube: &Cube,
         time: u64,
-        bound: Bound,
+        bound: LiteralBound,
     ) -> Result<bool, OutOfMemory>
         requires hearing { IsHearing self.now }
         requires variable { IsVariable self.now.admitted.now.graph (variable_of bound) }
@@ -146,8 +146,8 @@ impl Hearing<'_> {
         alloc: Global,
         node: u32,
         column: &Entry,
-        bound: Bound,
-        bounds: &mut Vec<Bound>,
+        bound: LiteralBound,
+        bounds: &mut Vec<LiteralBound>,
     ) -> Result<(), OutOfMemory>
         requires hearing { IsHearing self.now }
         requires variable { IsVariable self.now.admitted.now.graph (variable_of bound) }
@@ -173,7 +173,7 @@ impl Hearing<'_> {
         node: u32,
         column: &Entry,
         literal: &Literal,
-        bounds: &mut Vec<Bound>,
+        bounds: &mut Vec<LiteralBound>,
     ) -> Result<(), OutOfMemory>
         requires hearing { IsHearing self.now }
         requires cube { IsKnown self.now.admitted.now.graph column.now.cube }
@@ -191,8 +191,8 @@ impl Hearing<'_> {
         if self.has_ended(node, literal.variable, column.time) {
             return Ok(());
         }
-        self.add_open(alloc, node, column, Bound::low_of(literal), bounds)?;
-        self.add_open(alloc, node, column, Bound::high_of(literal), bounds)?;
+        self.add_open(alloc, node, column, LiteralBound::low_of(literal), bounds)?;
+        self.add_open(alloc, node, column, LiteralBound::high_of(literal), bounds)?;
         Ok(())
     }
 
@@ -202,7 +202,7 @@ impl Hearing<'_> {
         alloc: Global,
         node: u32,
         column: &Entry,
-    ) -> Result<Vec<Bound>, OutOfMemory>
+    ) -> Result<Vec<LiteralBound>, OutOfMemory>
         requires hearing { IsHearing self.now }
         requires cube { IsKnown self.now.admitted.now.graph column.now.cube }
         requires active { HasActive self.now.admitted.now.graph column.now }
@@ -228,7 +228,7 @@ impl Hearing<'_> {
         items: &[u32],
         arrivals: &[Arrival<'_>],
         column: &Entry,
-        bound: Bound,
+        bound: LiteralBound,
     ) -> Result<Option<Scenario>, OutOfMemory>
         requires hearing { IsHearing self.now }
         requires items { items.now ≡ heard_by self.now.admitted.now.graph node }
@@ -262,7 +262,7 @@ impl Hearing<'_> {
         items: &[u32],
         arrivals: &[Arrival<'_>],
         column: &Entry,
-        bounds: &[Bound],
+        bounds: &[LiteralBound],
     ) -> Result<Option<Scenario>, OutOfMemory>
         requires hearing { IsHearing self.now }
         requires items { items.now ≡ heard_by self.now.admitted.now.graph node }
@@ -289,7 +289,7 @@ impl Hearing<'_> {
         alloc: Global,
         node: u32,
         items: &[u32],
-        ranks: &[Rank],
+        ranks: &[RowRank],
         column: &Entry,
     ) -> Result<Option<Scenario>, OutOfMemory>
         requires hearing { IsHearing self.now }

@@ -12,7 +12,7 @@ ghost use Rattle.cpg_check_heard.specs.Bounds.{variable_of};
 ghost use Rattle.cpg_check_heard.specs.Tellings.{CanTell, IsPart, is_telling, is_telling_at, is_value, row_tells};
 ghost use Rattle.cpg_check_heard.specs.declared.tellers.Telling.TheVariants.{End, Frame};
 
-use crate::bound::Bound;
+use crate::bound::LiteralBound;
 use crate::tellers::{Teller, Telling, has_come};
 use cpg_base::{FIRST_VALUE, OutOfMemory, Problem};
 use cpg_cube::{Cube, Entry, Literal};
@@ -43,7 +43,7 @@ fn end_part(
     process: u32,
     column: &Entry,
     time: u64,
-    bound: Bound,
+    bound: LiteralBound,
 ) -> Result<Option<Cube>, OutOfMemory>
     requires can { CanTell problem.now bound (End process) }
     requires variable { IsVariable problem.now (variable_of bound) }
@@ -86,7 +86,7 @@ fn frame_part(
     condition: Option<u32>,
     column: &Entry,
     time: u64,
-    bound: Bound,
+    bound: LiteralBound,
 ) -> Result<Option<Cube>, OutOfMemory>
     requires variable { IsVariable problem.now (variable_of bound) }
     requires cube { IsKnown problem.now column.now.cube }
@@ -113,7 +113,7 @@ pub(crate) fn part_of(
     telling: Telling,
     column: &Entry,
     time: u64,
-    bound: Bound,
+    bound: LiteralBound,
 ) -> Result<Option<Cube>, OutOfMemory>
     requires can { CanTell problem.now bound telling }
     requires variable { IsVariable problem.now (variable_of bound) }
@@ -140,7 +140,7 @@ fn part_at(
     columns: &[Entry],
     place: u32,
     time: u64,
-    bound: Bound,
+    bound: LiteralBound,
 ) -> Result<Option<Cube>, OutOfMemory>
     requires can { CanTell problem.now bound telling }
     requires variable { IsVariable problem.now (variable_of bound) }
@@ -172,7 +172,7 @@ pub(crate) fn add_row(
     teller: &Teller<'_>,
     cube: &Cube,
     time: u64,
-    bound: Bound,
+    bound: LiteralBound,
     told: &mut Vec<Cube>,
 ) -> Result<(), OutOfMemory>
     requires can { CanTell problem.now bound teller.now.telling }

@@ -9,7 +9,7 @@ ghost use Rattle.cpg_check_heard.specs.Tellings.{AreTellers, telling_of};
 use cpg_base::{Item, OutOfMemory, Problem};
 use cpg_cube::Entry;
 use cpg_rules::Admitted;
-use cpg_violation::Line;
+use cpg_violation::SievedLine;
 use std::alloc::Global;
 
 /// How the columns of a row tell.
@@ -34,7 +34,7 @@ pub(crate) fn has_come(start: u64, delay: u64, time: u64) -> bool
 /// The row of an item, how it tells, and how many literals its longest cube has.
 #[derive(Clone, Copy)]
 pub(crate) struct Teller<'a> {
-    pub(crate) line: &'a Line<'a>,
+    pub(crate) line: &'a SievedLine<'a>,
     pub(crate) telling: Telling,
     pub(crate) longest: usize,
 }
@@ -67,7 +67,7 @@ fn telling_of(problem: &Problem, item: u32) -> Telling
 pub(crate) fn tellers<'a>(
     alloc: Global,
     admitted: &Admitted,
-    lines: &'a [Line<'a>],
+    lines: &'a [SievedLine<'a>],
 ) -> Result<Vec<Teller<'a>>, OutOfMemory>
     requires { length lines.now ≡ item_count admitted.now.graph }
     ensures { IfOk result (λ tellers. (tables : List NodeTable) → AreLines tables (item_count admitted.now.graph) lines.now

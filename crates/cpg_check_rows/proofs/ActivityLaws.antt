@@ -45,29 +45,37 @@ idle_found {g} {order} {guards} a cube p l o f = first_same g order (λ s. is_le
 
 module _ (g : Graph) (order : List ℕ) (cube : List Literal) where
   -- the first scenario of the part of the cube in which a literal holds
-  pub with_part : (l : Literal) (part : List Literal) (o : Option Scenario) → ((s : Scenario) → matches part s ≡ (holds s l && matches cube s)) → IsFirst g order (matches part) o → IsFirst g order (λ s. matches cube s && holds s l) o
+  pub with_part : (l : Literal) (part : List Literal) (o : Option Scenario) → ((s : Scenario) → matches part s ≡ (holds s l && matches cube s)) → IsFirst g order (matches part) o →
+      IsFirst g order (λ s. matches cube s && holds s l) o
   with_part l part o both f = first_same g order (matches part) (λ s. matches cube s && holds s l) o (λ s _. both s ∙ and_comm (holds s l) (matches cube s)) f
 
   pub with_none : (l : Literal) → ((s : Scenario) → (holds s l && matches cube s) ≡ false) → (s : Scenario) → IsScenario g s → (matches cube s && holds s l) ≡ false
   with_none l none s i = and_comm (matches cube s) (holds s l) ∙ none s
 
   -- what is inactive together
-  pub inactive_same : (a b : Scenario → Bool) (o : Option Scenario) → ((s : Scenario) → IsScenario g s → b s ≡ a s) → IsFirst g order (λ s. matches cube s && not (a s)) o → IsFirst g order (λ s. matches cube s && not (b s)) o
+  pub inactive_same : (a b : Scenario → Bool) (o : Option Scenario) → ((s : Scenario) → IsScenario g s → b s ≡ a s) → IsFirst g order (λ s. matches cube s && not (a s)) o →
+      IsFirst g order (λ s. matches cube s && not (b s)) o
   inactive_same a b o is f = first_same g order (λ s. matches cube s && not (a s)) (λ s. matches cube s && not (b s)) o (λ s i. ap (λ t. matches cube s && not t) (sym (is s i))) f
 
   -- what is never active
-  pub inactive_always : (b : Scenario → Bool) (o : Option Scenario) → ((s : Scenario) → IsScenario g s → b s ≡ false) → IsFirst g order (matches cube) o → IsFirst g order (λ s. matches cube s && not (b s)) o
-  inactive_always b o off f = first_same g order (matches cube) (λ s. matches cube s && not (b s)) o (λ s i. sym (ap (λ t. matches cube s && not t) (off s i) ∙ sym (with_true (matches cube s) true refl))) f
+  pub inactive_always : (b : Scenario → Bool) (o : Option Scenario) → ((s : Scenario) → IsScenario g s → b s ≡ false) → IsFirst g order (matches cube) o →
+      IsFirst g order (λ s. matches cube s && not (b s)) o
+  inactive_always b o off f = first_same g order (matches cube) (λ s. matches cube s && not (b s)) o
+      (λ s i. sym (ap (λ t. matches cube s && not t) (off s i) ∙ sym (with_true (matches cube s) true refl))) f
 
   -- an edge that asks for no value
-  pub unlive_idle : (source_active passed whole : Scenario → Bool) (o : Option Scenario) → ((s : Scenario) → IsScenario g s → whole s ≡ (source_active s && passed s)) → ((s : Scenario) → passed s ≡ true)
+  pub unlive_idle : (source_active passed whole : Scenario → Bool) (o : Option Scenario) → ((s : Scenario) → IsScenario g s → whole s ≡ (source_active s && passed s)) →
+      ((s : Scenario) → passed s ≡ true)
       → IsFirst g order (λ s. matches cube s && not (source_active s)) o → IsFirst g order (λ s. matches cube s && not (whole s)) o
   unlive_idle source_active passed whole o is all f = inactive_same source_active whole o (λ s i. is s i ∙ ap (λ b. source_active s && b) (all s) ∙ sym (with_true (source_active s) true refl)) f
 
   -- an edge that asks for a value
-  pub unlive_either : (source_active passed whole : Scenario → Bool) (l : Literal) (a b : Option Scenario) → ((s : Scenario) → IsScenario g s → whole s ≡ (source_active s && passed s)) → ((s : Scenario) → holds s l ≡ not (passed s))
-      → IsFirst g order (λ s. matches cube s && not (source_active s)) a → IsFirst g order (λ s. matches cube s && holds s l) b → IsFirst g order (λ s. matches cube s && not (whole s)) (earlier g order a b)
-  unlive_either source_active passed whole l a b is other f h = first_same g order (λ s. matches cube s && (not (source_active s) || holds s l)) (λ s. matches cube s && not (whole s)) (earlier g order a b)
+  pub unlive_either : (source_active passed whole : Scenario → Bool) (l : Literal) (a b : Option Scenario) → ((s : Scenario) → IsScenario g s → whole s ≡ (source_active s && passed s)) →
+      ((s : Scenario) → holds s l ≡ not (passed s))
+      → IsFirst g order (λ s. matches cube s && not (source_active s)) a → IsFirst g order (λ s. matches cube s && holds s l) b →
+      IsFirst g order (λ s. matches cube s && not (whole s)) (earlier g order a b)
+  unlive_either source_active passed whole l a b is other f h = first_same g order (λ s. matches cube s && (not (source_active s) || holds s l)) (λ s. matches cube s && not (whole s))
+      (earlier g order a b)
       (λ s i. ap (λ t. matches cube s && (not (source_active s) || t)) (other s) ∙ ap (λ t. matches cube s && t) (not_both (source_active s) (passed s) ∙ ap not (sym (is s i))))
       (first_either g order (matches cube) (λ s. not (source_active s)) (λ s. holds s l) a b f h)
 

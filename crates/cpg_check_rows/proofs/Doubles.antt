@@ -29,5 +29,6 @@ module _ (g : Graph) (order : List ℕ) (columns : List Column) (i : ℕ) (d : C
   pub at_place : (o : Option Scenario) → ((s : Scenario) (j : ℕ) → matches (get_or columns i d).cube s ≡ true → j < length columns → matches (column_at columns j).cube s ≡ true → Contains places j)
       → IsFirst g order (λ s. matches (get_or columns i d).cube s && list_any (is_at (take i columns) s) places) o → IsFirst g order (is_double columns i) o
   at_place o among f = first_same g order (λ s. matches (get_or columns i d).cube s && list_any (is_at (take i columns) s) places) (is_double columns i) o
-      (λ s _. same_where (matches (get_or columns i d).cube s) (list_any (is_at (take i columns) s) places) (breaks_single s (take i columns)) (λ m. before_at columns i places s (omega arith) (λ j l n. among s j m l n))
+      (λ s _. same_where (matches (get_or columns i d).cube s) (list_any (is_at (take i columns) s) places) (breaks_single s (take i columns))
+      (λ m. before_at columns i places s (omega arith) (λ j l n. among s j m l n))
       ∙ double_at columns i d s h) f

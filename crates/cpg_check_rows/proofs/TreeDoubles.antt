@@ -9,10 +9,10 @@ use Rattle.cpg_base.specs.Scenario.{Scenario, IsScenario}
 use Rattle.cpg_cube.specs.Cube.{matches}
 use Rattle.cpg_cube.specs.Column.{Column, column_at}
 use Rattle.cpg_table.specs.Valid.{breaks_single}
-use Rattle.cpg_places.specs.declared.places.Places.{Places}
-use Rattle.cpg_places.specs.Trees.{IsRowTree}
+use Rattle.cpg_row_trees.specs.declared.places.Places.{Places}
+use Rattle.cpg_row_trees.specs.Trees.{IsRowTree}
 use Rattle.cpg_violation.proofs.Tests.{off_where}
-use Rattle.cpg_places.proofs.TreeLaws.{none_earlier}
+use Rattle.cpg_row_trees.proofs.TreeLaws.{none_earlier}
 use Rattle.cpg_check_rows.specs.Single.{is_double}
 use Rattle.cpg_check_rows.proofs.Doubles.{double_at, double_past}
 

@@ -15,13 +15,13 @@ use Rattle.cpg_table.specs.Table.{NodeTable, columns_of}
 use Rattle.cpg_cube.specs.Column.{Column, column_at}
 use Rattle.cpg_table.specs.Valid.{breaks_at, breaks_present}
 use Rattle.cpg_table.specs.declared.rule.Rule.{Rule}
-use Rattle.cpg_places.specs.declared.places.Places.{Places}
-use Rattle.cpg_places.specs.Places.{place_at}
-use Rattle.cpg_places.specs.Trees.{IsRowTree}
-use Rattle.cpg_places.proofs.TreeLaws.{none_earlier, place_there, place_matches, tree_of_row}
+use Rattle.cpg_row_trees.specs.declared.places.Places.{Places}
+use Rattle.cpg_row_trees.specs.Places.{place_at}
+use Rattle.cpg_row_trees.specs.Trees.{IsRowTree}
+use Rattle.cpg_row_trees.proofs.TreeLaws.{none_earlier, place_there, place_matches, tree_of_row}
 use Rattle.cpg_violation.specs.Sure.{IsSure}
 use Rattle.cpg_violation.proofs.Tests.{off_where}
-use Rattle.cpg_places.specs.Trees.{AreRowTrees}
+use Rattle.cpg_row_trees.specs.Trees.{AreRowTrees}
 use Rattle.cpg_check_rows.specs.Absent.{IsIdleWhere}
 
 module _ (g : Graph) (tables : List NodeTable) (x : ℕ) {tree : Places} (is : IsRowTree g (columns_of tables x) tree) where
@@ -44,7 +44,8 @@ module _ (g : Graph) (tables : List NodeTable) (x : ℕ) {tree : Places} (is : I
       go None e = ap (λ b. b && not (list_any (λ (d : Column). matches d.cube s) (columns_of tables x))) (idle s law e law)
       go (Some i) e =
           let there : i < length (columns_of tables x) = place_there is s law i e in
-          let some = list_any_true (λ (d : Column). matches d.cube s) (columns_of tables x) (column_at (columns_of tables x) i) (i, there, get_or_default (columns_of tables x) i (column_at (columns_of tables x) i) (record { time = 0; cube = [] }) there) (place_matches is s law i e) in
+          let some = list_any_true (λ (d : Column). matches d.cube s) (columns_of tables x) (column_at (columns_of tables x) i)
+          (i, there, get_or_default (columns_of tables x) i (column_at (columns_of tables x) i) (record { time = 0; cube = [] }) there) (place_matches is s law i e) in
           ap (λ b. item_active g s.values (item_at g x) && not b) some ∙ and-false (item_active g s.values (item_at g x))
 
 module _ (g : Graph) (tables : List NodeTable) (trees : List (Option Places)) (x : ℕ) (o : Option Places) where

@@ -3,7 +3,7 @@
 //! | rule | first violation | quick test | with |
 //! |---|---|---|---|
 //! | V1, activity | `activity` | `quick_activity` | `cpg_violation` (`guards`) |
-//! | V2, one column | `single` | `quick_single` | trees of `cpg_places` |
+//! | V2, one column | `single` | `quick_single` | trees of `cpg_row_trees` |
 //! | V3, a column | `present` | `quick_present` | both |
 //! | V10, hear rows | `hears` | | |
 //!

@@ -5,11 +5,11 @@ ghost use Rattle.cpg_base.specs.Graph.{item_count};
 ghost use Rattle.cpg_table.specs.Table.{NodeTable};
 ghost use Rattle.cpg_table.specs.declared.rule.Rule.{Rule};
 ghost use Rattle.cpg_violation.specs.Sure.{AreSure, IsSure};
-ghost use Rattle.cpg_places.specs.Trees.{AreRowTrees};
+ghost use Rattle.cpg_row_trees.specs.Trees.{AreRowTrees};
 ghost use Rattle.cpg_check_rows.specs.Absent.{IsIdleWhere};
 
 use cpg_base::OutOfMemory;
-use cpg_places::{Places, Test};
+use cpg_row_trees::{Places, Test};
 use cpg_rules::Admitted;
 use cpg_tree::Space;
 use cpg_violation::is_item_idle;

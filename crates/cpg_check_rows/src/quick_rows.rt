@@ -2,13 +2,13 @@
 ghost use Rattle.std.specs.Prelude.{IfOk};
 ghost use Rattle.cpg_violation.specs.Heads.{IsHeadFor};
 ghost use Rattle.cpg_violation.specs.Sure.{AreRowMarks};
-ghost use Rattle.cpg_places.specs.Trees.{AreRowTrees};
+ghost use Rattle.cpg_row_trees.specs.Trees.{AreRowTrees};
 
 use crate::quick_activity::activity_marks;
 use crate::quick_present::present_marks;
 use crate::quick_single::single_marks;
 use cpg_base::OutOfMemory;
-use cpg_places::Places;
+use cpg_row_trees::Places;
 use cpg_rules::Admitted;
 use cpg_table::Tables;
 use cpg_violation::RowMarks;

@@ -4,10 +4,10 @@ ghost use Rattle.cpg_base.specs.Graph.{Graph};
 ghost use Rattle.cpg_table.specs.Table.{NodeTable};
 ghost use Rattle.cpg_table.specs.declared.rule.Rule.{Rule};
 ghost use Rattle.cpg_violation.specs.Sure.{AreSure};
-ghost use Rattle.cpg_places.specs.Trees.{AreRowTrees};
+ghost use Rattle.cpg_row_trees.specs.Trees.{AreRowTrees};
 
 use cpg_base::OutOfMemory;
-use cpg_places::Places;
+use cpg_row_trees::Places;
 use std::alloc::Global;
 
 /// The items whose rows have trees: no two of their columns match together.

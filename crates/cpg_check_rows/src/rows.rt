@@ -12,7 +12,7 @@ use crate::single::single_by;
 use cpg_base::OutOfMemory;
 use cpg_rules::Admitted;
 use cpg_table::{Fault, Tables};
-use cpg_violation::{Line, RowMarks};
+use cpg_violation::{RowMarks, SievedLine};
 use std::alloc::Global;
 
 /// The first violation of V1, V2 and V3, by rule, item and column, with the least scenario in the urgency order in which
@@ -22,7 +22,7 @@ pub fn check_rows(
     alloc: Global,
     admitted: &Admitted,
     tables: &Tables,
-    lines: &[Line<'_>],
+    lines: &[SievedLine<'_>],
     marks: &RowMarks,
 ) -> Result<Option<Fault>, OutOfMemory>
     requires head { IsHeadFor admitted.now.graph tables.now.head }

@@ -20,10 +20,10 @@ ghost use Rattle.cpg_check_rows.specs.Single.{is_double};
 use cpg_base::{Order, OutOfMemory, Problem, Scenario};
 use cpg_cover::earlier;
 use cpg_cube::{Cube, Entry};
-use cpg_places::tree_of;
+use cpg_row_trees::tree_of;
 use cpg_rules::Admitted;
 use cpg_table::{Fault, Rule, Tables};
-use cpg_violation::{Line, Sieve, is_marked, met};
+use cpg_violation::{Sieve, SievedLine, is_marked, met};
 use std::alloc::Global;
 
 /// The least scenario that a cube matches together with the column at a place, if there is one.
@@ -161,7 +161,7 @@ pub(crate) fn single_by(
     alloc: Global,
     admitted: &Admitted,
     tables: &Tables,
-    lines: &[Line<'_>],
+    lines: &[SievedLine<'_>],
     marks: &[bool],
 ) -> Result<Option<Fault>, OutOfMemory>
     requires head { IsHeadFor admitted.now.graph tables.now.head }

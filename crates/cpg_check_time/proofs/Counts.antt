@@ -24,7 +24,8 @@ first_is_least g p start time f below here = λ n. (
 )
 
 -- the part of a cube is the graph's
-pub part_known : (g : Graph) (p : ℕ) → p < process_count g → (cube : List Literal) (low high : ℕ) (o : Option (List Literal)) → IsKnown g cube → o ≡ with_literal (record { variable = p; low = low; high = high }) cube → IfSome o (IsKnown g)
+pub part_known : (g : Graph) (p : ℕ) → p < process_count g → (cube : List Literal) (low high : ℕ) (o : Option (List Literal)) → IsKnown g cube →
+    o ≡ with_literal (record { variable = p; low = low; high = high }) cube → IfSome o (IsKnown g)
 part_known g p l cube low high None known is = tt
 part_known g p l cube low high (Some part) known is =
     let literal : Literal = record { variable = p; low = low; high = high } in

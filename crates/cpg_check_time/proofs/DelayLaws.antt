@@ -35,7 +35,8 @@ pub most_faults : (g : Graph) → process_count g ≤ 128 → (p : ℕ) → p < 
 most_faults g few p l s time i = omega (arith, duration_grows g p (fault_of s p) g.faults (fault_within g few p l s i))
 
 -- a frame is late wherever its column matches
-pub slot_first : (g : Graph) (order : List ℕ) (cube : List Literal) (c : Column) (length time : ℕ) → time < c.time + length → (o : Option Scenario) → IsFirst g order (λ s. matches cube s && matches c.cube s) o
+pub slot_first : (g : Graph) (order : List ℕ) (cube : List Literal) (c : Column) (length time : ℕ) → time < c.time + length → (o : Option Scenario) →
+    IsFirst g order (λ s. matches cube s && matches c.cube s) o
     → IsFirst g order (λ s. matches cube s && (matches c.cube s && nat_lt time (c.time + length))) o
 slot_first g order cube c length time late o f = first_same g order (λ s. matches cube s && matches c.cube s) (λ s. matches cube s && (matches c.cube s && nat_lt time (c.time + length))) o
     (λ s _. ap (λ b. matches cube s && b) (with_true (matches c.cube s) _ (lt-ltb time (c.time + length) late))) f
@@ -48,12 +49,14 @@ module _ (g : Graph) (cube : List Literal) (delay : Delay) (time : ℕ) where
       (p.0, (and_parts (matches d.cube s) (nat_lt time (done_at g s delay d.time)) p.1).0)
 
   -- the cube's test is asked once
-  pub first_delay : (order : List ℕ) (columns : List Column) (o : Option Scenario) → IsFirst g order (λ s. list_any (λ d. delays g cube delay time d s) columns) o → IsFirst g order (λ s. matches cube s && list_any (λ d. is_late g delay time d s) columns) o
+  pub first_delay : (order : List ℕ) (columns : List Column) (o : Option Scenario) → IsFirst g order (λ s. list_any (λ d. delays g cube delay time d s) columns) o →
+      IsFirst g order (λ s. matches cube s && list_any (λ d. is_late g delay time d s) columns) o
   first_delay order columns o f = first_same g order (λ s. list_any (λ d. delays g cube delay time d s) columns) (λ s. matches cube s && list_any (λ d. is_late g delay time d s) columns) o
       (λ s _. both_any (matches cube s) (λ d. is_late g delay time d s) columns) f
 
   -- if the last is early enough, all are
-  pub never_delays : (most last : ℕ) → IsMost g delay most → (columns : List Column) → All (λ d. d.time ≤ last) columns → last + most ≤ time → (s : Scenario) → IsScenario g s → (matches cube s && list_any (λ d. is_late g delay time d s) columns) ≡ false
+  pub never_delays : (most last : ℕ) → IsMost g delay most → (columns : List Column) → All (λ d. d.time ≤ last) columns → last + most ≤ time → (s : Scenario) → IsScenario g s →
+      (matches cube s && list_any (λ d. is_late g delay time d s) columns) ≡ false
   never_delays most last is columns all early s i = and_right (matches cube s) _ (list_any_false (λ d. is_late g delay time d s) columns (λ d k.
       let by : d.time ≤ last = All-contains (λ (d : Column). d.time ≤ last) columns d all k in
       let done = is s d.time i in

@@ -32,7 +32,8 @@ module _ (g : Graph) (few : process_count g ≤ 128) (columns : List Column) (ar
 
   -- it is met
   pub time_here : possible_time g columns ≡ possible_time g (drop i columns) → is_met g.faults d.cube ≡ true → Some d.time ≡ possible_time g columns
-  time_here so_far met = ap (λ (c : Column). Some c.time) is ∙ sym (so_far ∙ ap (option_map (λ (c : Column). c.time)) (found_step ∙ ap (λ b. cond b (Some (get_or columns i d)) (find (is_possible g) (drop (i + 1) columns))) met))
+  time_here so_far met = ap (λ (c : Column). Some c.time) is ∙
+      sym (so_far ∙ ap (option_map (λ (c : Column). c.time)) (found_step ∙ ap (λ b. cond b (Some (get_or columns i d)) (find (is_possible g) (drop (i + 1) columns))) met))
 
   -- it isn't
   pub time_later : possible_time g columns ≡ possible_time g (drop i columns) → is_met g.faults d.cube ≡ false → possible_time g columns ≡ possible_time g (drop (i + 1) columns)
@@ -64,5 +65,6 @@ module _ (g : Graph) (order : List ℕ) (tables : List NodeTable) (x : ℕ) (c :
   frozen_first t e other o f = first_same g order (matches c.cube) (breaks_column Rule.Frozen g tables x c) o (λ s _. frozen_other t e other s) f
 
 -- the time in the list
-pub time_at : (g : Graph) (tables : List NodeTable) (times : List (Option ℕ)) (x : ℕ) (d : Option ℕ) → times ≡ map (frozen_time g tables) (numbers_below (item_count g)) → x < item_count g → get_or times x d ≡ frozen_time g tables x
+pub time_at : (g : Graph) (tables : List NodeTable) (times : List (Option ℕ)) (x : ℕ) (d : Option ℕ) → times ≡ map (frozen_time g tables) (numbers_below (item_count g)) → x < item_count g →
+    get_or times x d ≡ frozen_time g tables x
 time_at g tables times x d is l = ap (λ ts. get_or ts x d) is ∙ get_or-map-below (frozen_time g tables) (item_count g) x d l

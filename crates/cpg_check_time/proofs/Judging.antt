@@ -32,7 +32,8 @@ never_asks : (rule : Rule) → is_alone rule ≡ true → asks_for_one rule ≡ 
 never_asks Present e = absurd (true≢false (sym e))
 never_asks rule e = refl
 
-same_rule : (rule : Rule) → is_alone rule ≡ true → (g : Graph) (tables : List NodeTable) (s : Scenario) (x : ℕ) (earlier : List Column) (c : Column) → breaks_rule rule g tables s x earlier c ≡ breaks_rule rule g tables s x [] c
+same_rule : (rule : Rule) → is_alone rule ≡ true → (g : Graph) (tables : List NodeTable) (s : Scenario) (x : ℕ) (earlier : List Column) (c : Column) →
+    breaks_rule rule g tables s x earlier c ≡ breaks_rule rule g tables s x [] c
 same_rule Single e g tables s x earlier c = absurd (true≢false (sym e))
 same_rule rule e g tables s x earlier c = refl
 
@@ -92,7 +93,8 @@ module _ {g : Graph} {order : List ℕ} {guards : Guards} (admitted : IsAdmitted
       let node : home g x < length g.nodes = home_within admitted.well_formed shape x has.within in
       let r = row_of admitted.well_formed shape (home g x) x node has in
       let there : Contains r.0.columns c = subst (λ cs. Contains cs c) (ap (columns_of tables) (sym r.2) ∙ row_columns admitted.well_formed shape (home g x) node r.0 r.1) k in
-      let row : IsLawfulRow (space_of (head_of g)) r.0 = All-contains (IsLawfulRow (space_of (head_of g))) (rows_of (table_at tables (home g x))) r.0 (are.each (home g x) node).lawful (in_rows_of (table_at tables (home g x)) r.0 r.1) in
+      let row : IsLawfulRow (space_of (head_of g)) r.0 = All-contains (IsLawfulRow (space_of (head_of g))) (rows_of (table_at tables (home g x))) r.0 (are.each (home g x) node).lawful
+      (in_rows_of (table_at tables (home g x)) r.0 r.1) in
       All-contains (IsLawfulColumn (space_of (head_of g))) r.0.columns c row.columns there
 
   pub column_is : (x : ℕ) (c : Column) → Contains (columns_of tables x) c → IsColumn g c

@@ -34,13 +34,15 @@ module _ (columns : List Column) (places : List ℕ) (k d : ℕ) (l : k < length
 
   pub among_more : All (λ c. Contains columns c) found → All (λ c. Contains columns c) more
   among_more before = elim (cases_lt (get_or places k d) (length columns)) [
-    | inl lt ↦ subst (All (λ c. Contains columns c)) (sym (there lt)) (All-push (λ c. Contains columns c) found (column_at columns (get_or places k d)) before (Contains-get_or columns (get_or places k d) (record { time = 0; cube = [] }) lt))
+    | inl lt ↦ subst (All (λ c. Contains columns c)) (sym (there lt))
+        (All-push (λ c. Contains columns c) found (column_at columns (get_or places k d)) before (Contains-get_or columns (get_or places k d) (record { time = 0; cube = [] }) lt))
     | inr ge ↦ subst (All (λ c. Contains columns c)) (sym (none ge)) before
   ]
 
 -- a test that only columns pass that match together with the cube
 pub same_found : (columns found : List Column) (places : List ℕ) (cube : List Literal) → All (λ c. Contains columns c) found → AreFound columns found places
-    → ((s : Scenario) (i : ℕ) → i < length columns → matches (column_at columns i).cube s ≡ true → matches cube s ≡ true → Contains places i) → (s : Scenario) (test : Column → Bool) → ((c : Column) → test c ≡ true → (matches cube s ≡ true) × (matches c.cube s ≡ true)) → list_any test found ≡ list_any test columns
+    → ((s : Scenario) (i : ℕ) → i < length columns → matches (column_at columns i).cube s ≡ true → matches cube s ≡ true → Contains places i) → (s : Scenario) (test : Column → Bool) →
+    ((c : Column) → test c ≡ true → (matches cube s ≡ true) × (matches c.cube s ≡ true)) → list_any test found ≡ list_any test columns
 same_found columns found places cube among all candidates s test both = same_truth _ _
     (λ t. let r = list_any_parts test found t in list_any_true test columns r.0 (All-contains (λ c. Contains columns c) found r.0 among r.1) r.2)
     (λ t.

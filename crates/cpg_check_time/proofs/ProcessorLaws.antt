@@ -29,13 +29,15 @@ use Rattle.cpg_check_time.proofs.Seeking.{and_swap, any_at, both_any}
 
 module _ (g : Graph) (within : IsWithinLimits g) (p : ℕ) (l : p < process_count g) (c : Column) (q : ℕ) (d : Column) where
   -- the other one starts first
-  pub overlap_after : d.time ≤ c.time → (order : List ℕ) (o : Option Scenario) → IsFirst g order (λ s. matches c.cube s && (matches d.cube s && ends_after g q d.time c.time s)) o → IsFirst g order (overlaps g p c q d) o
+  pub overlap_after : d.time ≤ c.time → (order : List ℕ) (o : Option Scenario) → IsFirst g order (λ s. matches c.cube s && (matches d.cube s && ends_after g q d.time c.time s)) o →
+      IsFirst g order (overlaps g p c q d) o
   overlap_after first order o f = first_same g order (λ s. matches c.cube s && (matches d.cube s && ends_after g q d.time c.time s)) (overlaps g p c q d) o
       (λ s _. ap (λ b. matches c.cube s && (matches d.cube s && b)) (with_true (ends_after g q d.time c.time s) (ltb d.time (c.time + duration g p (fault_of s p)))
       (lt-ltb d.time (c.time + duration g p (fault_of s p)) (omega (arith, duration_some g within p (fault_of s p) l))))) f
 
   -- the other one starts later
-  pub overlap_before : c.time < d.time → (order : List ℕ) (o : Option Scenario) → IsFirst g order (λ s. matches d.cube s && (matches c.cube s && ends_after g p c.time d.time s)) o → IsFirst g order (overlaps g p c q d) o
+  pub overlap_before : c.time < d.time → (order : List ℕ) (o : Option Scenario) → IsFirst g order (λ s. matches d.cube s && (matches c.cube s && ends_after g p c.time d.time s)) o →
+      IsFirst g order (overlaps g p c q d) o
   overlap_before first order o f = first_same g order (λ s. matches d.cube s && (matches c.cube s && ends_after g p c.time d.time s)) (overlaps g p c q d) o
       (λ s _. and_swap (matches d.cube s) (matches c.cube s) (ends_after g p c.time d.time s)
       ∙ ap (λ b. matches c.cube s && (matches d.cube s && (b && ends_after g p c.time d.time s))) (sym (lt-ltb c.time (d.time + duration g q (fault_of s q)) (omega arith)))) f
@@ -49,7 +51,8 @@ module _ (g : Graph) (within : IsWithinLimits g) (p : ℕ) (l : p < process_coun
 -- ---- the columns of another process
 
 module _ (g : Graph) (tables : List NodeTable) (p : ℕ) (c : Column) (q : ℕ) where
-  pub other_node : node_of g q ≡ node_of g p → (order : List ℕ) (o : Option Scenario) → IsFirst g order (λ s. list_any (λ d. overlaps g p c q d s) (columns_of tables q)) o → IsFirst g order (overlaps_some g tables p c q) o
+  pub other_node : node_of g q ≡ node_of g p → (order : List ℕ) (o : Option Scenario) → IsFirst g order (λ s. list_any (λ d. overlaps g p c q d s) (columns_of tables q)) o →
+      IsFirst g order (overlaps_some g tables p c q) o
   other_node same order o f = first_same g order (λ s. list_any (λ d. overlaps g p c q d s) (columns_of tables q)) (overlaps_some g tables p c q) o
       (λ s _. sym (ap (λ b. b && list_any (λ d. overlaps g p c q d s) (columns_of tables q)) (eq-eqb (node_of g q) (node_of g p) same))) f
 
@@ -59,7 +62,8 @@ module _ (g : Graph) (tables : List NodeTable) (p : ℕ) (c : Column) (q : ℕ) 
     starts_late l first all late = and_right (node_of g q == node_of g p) _ (list_any_false (λ d. overlaps g p c q d s) (columns_of tables q) (λ d k.
         let from : first ≤ d.time = All-contains (λ (d : Column). first ≤ d.time) (columns_of tables q) d all k in
         let own = duration_grows g p (fault_of s p) g.faults (fault_within g few p l s i) in
-        and_right (matches c.cube s) _ (and_right (matches d.cube s) _ (and_right (ltb c.time (d.time + duration g q (fault_of s q))) _ (le-ltb d.time (c.time + duration g p (fault_of s p)) (omega arith))))))
+        and_right (matches c.cube s) _ (and_right (matches d.cube s) _
+        (and_right (ltb c.time (d.time + duration g q (fault_of s q))) _ (le-ltb d.time (c.time + duration g p (fault_of s p)) (omega arith))))))
 
     -- all end early enough
     pub ends_early : q < process_count g → (last : ℕ) → All (λ d. d.time ≤ last) (columns_of tables q) → last + duration g q g.faults ≤ c.time → overlaps_some g tables p c q s ≡ false
@@ -77,7 +81,8 @@ module _ (g : Graph) (order : List ℕ) (tables : List NodeTable) (p : ℕ) (l :
 
   of_process : (s : Scenario) (q : ℕ) → overlaps_some g tables p c q s ≡ (matches c.cube s && ((node_of g q == node_of g p) && list_any (at_start s q) (at tables q s)))
   of_process s q =
-      ap (λ b. (node_of g q == node_of g p) && b) (both_any (matches c.cube s) (λ (d : Column). matches d.cube s && at_start s q d.time) (columns_of tables q) ∙ ap (λ b. matches c.cube s && b) (sym (any_at tables q s (at_start s q))))
+      ap (λ b. (node_of g q == node_of g p) && b)
+      (both_any (matches c.cube s) (λ (d : Column). matches d.cube s && at_start s q d.time) (columns_of tables q) ∙ ap (λ b. matches c.cube s && b) (sym (any_at tables q s (at_start s q))))
       ∙ and_swap (node_of g q == node_of g p) (matches c.cube s) (list_any (at_start s q) (at tables q s))
 
   processor_is : (s : Scenario) → list_any (λ q. overlaps_some g tables p c q s) (numbers_below p) ≡ breaks_column Rule.Processor g tables p c s

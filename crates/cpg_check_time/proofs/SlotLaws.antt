@@ -32,9 +32,11 @@ shares_both c s d t =
     (r.0, (and_parts (matches d.cube s) (d.time == c.time) r.1).0)
 
 module _ (g : Graph) (tables : List NodeTable) (x : ℕ) (c : Column) (y : ℕ) where
-  pub other_item : is_sent g y ≡ true → home g y ≡ home g x → (order : List ℕ) (o : Option Scenario) → IsFirst g order (λ s. list_any (λ d. shares c d s) (columns_of tables y)) o → IsFirst g order (shares_some g tables x c y) o
+  pub other_item : is_sent g y ≡ true → home g y ≡ home g x → (order : List ℕ) (o : Option Scenario) → IsFirst g order (λ s. list_any (λ d. shares c d s) (columns_of tables y)) o →
+      IsFirst g order (shares_some g tables x c y) o
   other_item sent node order o f = first_same g order (λ s. list_any (λ d. shares c d s) (columns_of tables y)) (shares_some g tables x c y) o
-      (λ s _. sym (ap (λ b. (b && (home g y == home g x)) && list_any (λ d. shares c d s) (columns_of tables y)) sent ∙ ap (λ b. b && list_any (λ d. shares c d s) (columns_of tables y)) (eq-eqb (home g y) (home g x) node))) f
+      (λ s _. sym (ap (λ b. (b && (home g y == home g x)) && list_any (λ d. shares c d s) (columns_of tables y)) sent ∙
+      ap (λ b. b && list_any (λ d. shares c d s) (columns_of tables y)) (eq-eqb (home g y) (home g x) node))) f
 
   -- none has the time
   never_shares : ((d : Column) → Contains (columns_of tables y) d → d.time ≢ c.time) → (s : Scenario) → shares_some g tables x c y s ≡ false
@@ -61,7 +63,8 @@ module _ (g : Graph) (order : List ℕ) (tables : List NodeTable) (x : ℕ) (c :
     no_start : next_slot g (home g x) c.time ≢ c.time → (s : Scenario) → matches c.cube s ≡ breaks_column Rule.Slot g tables x c s
     no_start n s =
         let starts : (next_slot g (home g x) c.time == c.time) ≡ false = ne_eqb (next_slot g (home g x) c.time) c.time n in
-        with_true (matches c.cube s) _ (ap (λ b. b && (not (next_slot g (home g x) c.time == c.time) || list_any (other_at s) (numbers_below x))) sent ∙ ap (λ b. not b || list_any (other_at s) (numbers_below x)) starts)
+        with_true (matches c.cube s) _ (ap (λ b. b && (not (next_slot g (home g x) c.time == c.time) || list_any (other_at s) (numbers_below x))) sent ∙
+        ap (λ b. not b || list_any (other_at s) (numbers_below x)) starts)
 
     pub first_no_start : next_slot g (home g x) c.time ≢ c.time → (o : Option Scenario) → IsFirst g order (matches c.cube) o → IsFirst g order (breaks_column Rule.Slot g tables x c) o
     first_no_start n o f = first_same g order (matches c.cube) (breaks_column Rule.Slot g tables x c) o (λ s _. no_start n s) f
@@ -73,9 +76,12 @@ module _ (g : Graph) (order : List ℕ) (tables : List NodeTable) (x : ℕ) (c :
 
       of_item : (s : Scenario) (y : ℕ) → shares_some g tables x c y s ≡ (matches c.cube s && other_at s y)
       of_item s y =
-          ap (λ b. (is_sent g y && (home g y == home g x)) && b) (both_any (matches c.cube s) (λ (d : Column). matches d.cube s && (d.time == c.time)) (columns_of tables y) ∙ ap (λ b. matches c.cube s && b) (sym (any_at tables y s (λ t. t == c.time))))
+          ap (λ b. (is_sent g y && (home g y == home g x)) && b)
+          (both_any (matches c.cube s) (λ (d : Column). matches d.cube s && (d.time == c.time)) (columns_of tables y) ∙
+          ap (λ b. matches c.cube s && b) (sym (any_at tables y s (λ t. t == c.time))))
           ∙ and_swap (is_sent g y && (home g y == home g x)) (matches c.cube s) (list_any (λ t. t == c.time) (at tables y s))
 
       pub first_shared : (o : Option Scenario) → IsFirst g order (λ s. list_any (λ y. shares_some g tables x c y s) (numbers_below x)) o → IsFirst g order (breaks_column Rule.Slot g tables x c) o
       first_shared o f = first_same g order (λ s. list_any (λ y. shares_some g tables x c y s) (numbers_below x)) (breaks_column Rule.Slot g tables x c) o
-          (λ s _. same_any (λ y. shares_some g tables x c y s) (λ y. matches c.cube s && other_at s y) (numbers_below x) (λ y _. of_item s y) ∙ both_any (matches c.cube s) (other_at s) (numbers_below x) ∙ sym (others_only s)) f
+          (λ s _. same_any (λ y. shares_some g tables x c y s) (λ y. matches c.cube s && other_at s y) (numbers_below x) (λ y _. of_item s y) ∙
+          both_any (matches c.cube s) (other_at s) (numbers_below x) ∙ sym (others_only s)) f

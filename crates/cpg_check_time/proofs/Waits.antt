@@ -18,7 +18,8 @@ use Rattle.cpg_violation.proofs.Matching.{at_rule, active_where, match_where}
 use Rattle.cpg_violation.proofs.Moments.{in_at, at_parts}
 
 module _ (g : Graph) (tables : List NodeTable) (s : Scenario) (law : IsScenario g s) (x : ℕ) (l : x < item_count g) (rules : AllHold g tables row_rules) where
-  not_after : (c d : Column) (i j : ℕ) → i < length (columns_of tables x) → j < i → get_or (columns_of tables x) i c ≡ c → get_or (columns_of tables x) j d ≡ d → matches c.cube s ≡ true → matches d.cube s ≡ true → ⊥
+  not_after : (c d : Column) (i j : ℕ) → i < length (columns_of tables x) → j < i → get_or (columns_of tables x) i c ≡ c → get_or (columns_of tables x) j d ≡ d → matches c.cube s ≡ true →
+      matches d.cube s ≡ true → ⊥
   not_after c d i j h k e f m n =
       let none = at_rule g tables s law x l Rule.Single rules.1.0 i c h (ap (λ (c : Column). matches c.cube s) e ∙ m) in
       let there : Contains (take i (columns_of tables x)) d = (j, omega (arith, length-take i (columns_of tables x)), get_or-take i (columns_of tables x) j d k ∙ f) in
@@ -33,7 +34,8 @@ module _ (g : Graph) (tables : List NodeTable) (s : Scenario) (law : IsScenario 
   ]
 
   -- if it is active and not done by a time, a column that matches is done later
-  pub late_where : (done : ℕ → ℕ) (time : ℕ) → (item_active g s.values (item_at g x) && not (is_by time (map done (at tables x s)))) ≡ list_any (λ d. matches d.cube s && nat_lt time (done d.time)) (columns_of tables x)
+  pub late_where : (done : ℕ → ℕ) (time : ℕ) → (item_active g s.values (item_at g x) && not (is_by time (map done (at tables x s)))) ≡ list_any (λ d. matches d.cube s && nat_lt time (done d.time))
+      (columns_of tables x)
   late_where done time = same_truth _ _
       (λ t.
       let p = and_parts (item_active g s.values (item_at g x)) (not (is_by time (map done (at tables x s)))) t in

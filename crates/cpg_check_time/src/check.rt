@@ -9,7 +9,7 @@ ghost use Rattle.cpg_violation.specs.Sure.{AreTimeMarks};
 
 use crate::due::check_due;
 use crate::frozen::check_frozen;
-use crate::inputs::Inputs;
+use crate::inputs::WaitedInputs;
 use crate::judge::first_violation;
 use crate::processor::Processors;
 use crate::slots::Slots;
@@ -17,7 +17,7 @@ use cpg_base::OutOfMemory;
 use cpg_order::Links;
 use cpg_rules::Admitted;
 use cpg_table::{Fault, Rule, Tables};
-use cpg_violation::{Line, TimeMarks};
+use cpg_violation::{SievedLine, TimeMarks};
 use std::alloc::Global;
 
 /// The first violation of the first of V5 to V9 that is broken, by item and column, with the least scenario in the urgency
@@ -27,7 +27,7 @@ pub fn check_time(
     alloc: Global,
     admitted: &Admitted,
     tables: &Tables,
-    lines: &[Line<'_>],
+    lines: &[SievedLine<'_>],
     marks: &TimeMarks,
 ) -> Result<Option<Fault>, OutOfMemory>
     requires head { IsHeadFor admitted.now.graph tables.now.head }
@@ -38,7 +38,7 @@ pub fn check_time(
     ensures first { IfOk result (λ r. IfSome r (IsFirstOf admitted.now.graph admitted.now.order tables.now.nodes time_rules)) }
 {
     let links = Links::of(alloc, admitted.problem())?;
-    let inputs = Inputs { links, lines };
+    let inputs = WaitedInputs { links, lines };
     let sure = marks.inputs.as_slice();
     if let Some(fault) = first_violation(alloc, admitted, tables, Rule::Inputs, &inputs, sure)? {
         return Ok(Some(fault));

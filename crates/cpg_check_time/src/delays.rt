@@ -18,7 +18,7 @@ use cpg_base::{OutOfMemory, Problem, Scenario};
 use cpg_cube::{Cube, Entry};
 use cpg_rules::Admitted;
 use cpg_table::Tables;
-use cpg_violation::{Line, met};
+use cpg_violation::{SievedLine, met};
 use std::alloc::Global;
 
 /// How long it takes from a column's time until what it begins is done.
@@ -85,7 +85,7 @@ pub(crate) fn least_delay(
     alloc: Global,
     admitted: &Admitted,
     tables: &Tables,
-    lines: &[Line<'_>],
+    lines: &[SievedLine<'_>],
     item: u32,
     column: &Entry,
     delay: Delay,

@@ -6,7 +6,7 @@ ghost use Rattle.cpg_violation.specs.Heads.{IsHeadFor};
 ghost use Rattle.cpg_violation.specs.Sure.{AreSure};
 ghost use Rattle.cpg_violation.specs.Violation.{Holds, IsFirstViolation};
 
-use crate::judge::{Judge, first_violation};
+use crate::judge::{TimeJudge, first_violation};
 use crate::lateness::late_part;
 use cpg_base::{OutOfMemory, Scenario};
 use cpg_cube::Entry;
@@ -17,7 +17,7 @@ use std::alloc::Global;
 /// That every execution ends by its due.
 struct Due;
 
-impl Judge for Due {
+impl TimeJudge for Due {
     ghost rule = { Rule.Due };
 
     ghost suits = { λ _ _ _. ⊤ };

@@ -11,7 +11,7 @@ ghost use Rattle.cpg_violation.specs.Violation.{Holds, IsFirstViolation};
 ghost use Rattle.cpg_check_time.specs.Columns.{IsColumn};
 ghost use Rattle.cpg_check_time.specs.Frozen.{frozen_time, possible_time};
 
-use crate::judge::{Judge, first_violation};
+use crate::judge::{TimeJudge, first_violation};
 use cpg_base::{OutOfMemory, Problem, Scenario};
 use cpg_cube::Entry;
 use cpg_rules::Admitted;
@@ -46,7 +46,7 @@ fn frozen_time(admitted: &Admitted, tables: &Tables, item: u32) -> Option<u64>
 
 /// That a frozen item has one time: for each item, what that time is.
 #[derive(Drop)]
-struct Frozen {
+struct FrozenStarts {
     times: Vec<Option<u64>>,
 }
 
@@ -68,7 +68,7 @@ fn frozen_times(
     Ok(times)
 }
 
-impl Judge for Frozen {
+impl TimeJudge for FrozenStarts {
     ghost rule = { Rule.Frozen };
 
     ghost suits = { λ judge g tables. judge.times.items ≡ map (frozen_time g tables) (numbers_below (item_count g)) };
@@ -116,7 +116,7 @@ pub(crate) fn check_frozen(
         admitted,
         tables,
         Rule::Frozen,
-        &Frozen { times },
+        &FrozenStarts { times },
         marks,
     )?;
     Ok(found)

@@ -16,14 +16,14 @@ ghost use Rattle.cpg_violation.specs.Lines.{AreLines};
 ghost use Rattle.cpg_check_time.specs.Ready.{IsReady};
 
 use crate::delays::{Delay, least_delay};
-use crate::judge::Judge;
+use crate::judge::TimeJudge;
 use cpg_base::{OutOfMemory, Scenario};
 use cpg_cover::earlier;
 use cpg_cube::{Cube, Entry};
 use cpg_order::Links;
 use cpg_rules::Admitted;
 use cpg_table::Tables;
-use cpg_violation::{Line, edge_cube};
+use cpg_violation::{SievedLine, edge_cube};
 use std::alloc::Global;
 
 /// The scenarios that two cubes match; `None` exactly if there are none.
@@ -47,7 +47,7 @@ fn least_lacking(
     alloc: Global,
     admitted: &Admitted,
     tables: &Tables,
-    lines: &[Line<'_>],
+    lines: &[SievedLine<'_>],
     edge: u32,
     column: &Entry,
 ) -> Result<Option<Scenario>, OutOfMemory>
@@ -84,7 +84,7 @@ fn least_of_lacking(
     alloc: Global,
     admitted: &Admitted,
     tables: &Tables,
-    lines: &[Line<'_>],
+    lines: &[SievedLine<'_>],
     edges: &[u32],
     column: &Entry,
 ) -> Result<Option<Scenario>, OutOfMemory>
@@ -107,12 +107,12 @@ fn least_of_lacking(
 
 /// That all that an item waits for is there: the inputs of each process, and the columns of each item.
 #[derive(Drop)]
-pub(crate) struct Inputs<'a> {
+pub(crate) struct WaitedInputs<'a> {
     pub(crate) links: Links,
-    pub(crate) lines: &'a [Line<'a>],
+    pub(crate) lines: &'a [SievedLine<'a>],
 }
 
-impl<'a> Judge for Inputs<'a> {
+impl<'a> TimeJudge for WaitedInputs<'a> {
     ghost rule = { Rule.Inputs };
 
     ghost suits = { λ judge g tables. IsReady g tables judge };

@@ -22,7 +22,7 @@ use cpg_violation::is_marked;
 use std::alloc::Global;
 
 /// A rule on single columns, with what its questions need to know of the tables.
-pub(crate) trait Judge {
+pub(crate) trait TimeJudge {
     ghost rule: { Rule };
 
     ghost suits: { Self → Graph → List NodeTable → Type 0 };
@@ -47,7 +47,7 @@ pub(crate) trait Judge {
 }
 
 /// The first column of an item that breaks the rule, and the least scenario in which it does.
-fn first_in_row<J: Judge>(
+fn first_in_row<J: TimeJudge>(
     alloc: Global,
     admitted: &Admitted,
     tables: &Tables,
@@ -75,7 +75,7 @@ fn first_in_row<J: Judge>(
 
 /// The first violation of the rule, by item and column, with the least scenario in the urgency order in which it
 /// stands. `None` exactly if the rule holds. Items at which it is marked as sure are left out.
-pub(crate) fn first_violation<J: Judge>(
+pub(crate) fn first_violation<J: TimeJudge>(
     alloc: Global,
     admitted: &Admitted,
     tables: &Tables,

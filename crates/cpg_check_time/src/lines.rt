@@ -8,7 +8,7 @@ ghost use Rattle.cpg_violation.specs.Lines.{IsLine};
 
 use cpg_base::OutOfMemory;
 use cpg_cube::{Cube, Entry};
-use cpg_violation::Line;
+use cpg_violation::SievedLine;
 use std::alloc::Global;
 
 /// Adds the column at a place, if there is one.
@@ -30,7 +30,7 @@ fn push_column<'a>(
 /// The columns of a line among which each is that matches some scenario together with a cube.
 pub(crate) fn meeting<'a>(
     alloc: Global,
-    line: &Line<'a>,
+    line: &SievedLine<'a>,
     cube: &Cube,
 ) -> Result<Vec<&'a Entry>, OutOfMemory>
     requires { IsLine line.now.columns.now line.now }

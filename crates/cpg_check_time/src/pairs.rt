@@ -19,7 +19,7 @@ use cpg_table::Tables;
 use std::alloc::Global;
 
 /// A rule on pairs of items of a node, with what its questions need to know of the tables.
-pub(crate) trait Pairs {
+pub(crate) trait ColumnPairs {
     ghost fits: { Self → Graph → List NodeTable → Type 0 };
 
     ghost count: { Graph → ℕ };
@@ -46,7 +46,7 @@ pub(crate) trait Pairs {
 }
 
 /// The least scenario in which a column of an item clashes with one of an item with a lower number, if there is one.
-pub(crate) fn least_of_lower<P: Pairs>(
+pub(crate) fn least_of_lower<P: ColumnPairs>(
     alloc: Global,
     admitted: &Admitted,
     tables: &Tables,

@@ -6,15 +6,15 @@ ghost use Rattle.cpg_check_time.specs.Clashes.{overlaps, overlaps_some};
 ghost use Rattle.cpg_check_time.specs.Questions.{FitsOverlap};
 ghost use Rattle.cpg_violation.specs.Lines.{AreLines};
 
-use crate::judge::Judge;
+use crate::judge::TimeJudge;
 use crate::lateness::least_late;
-use crate::pairs::{Pairs, least_of_lower};
+use crate::pairs::{ColumnPairs, least_of_lower};
 use crate::questions::{Question, least_near};
 use cpg_base::{OutOfMemory, Problem, Scenario};
 use cpg_cube::Entry;
 use cpg_rules::Admitted;
 use cpg_table::Tables;
-use cpg_violation::Line;
+use cpg_violation::SievedLine;
 use std::alloc::Global;
 
 /// That the execution of a process that a column starts overlaps that of another process that its column starts.
@@ -56,10 +56,10 @@ impl<'a> Question for Overlap<'a> {
 /// That no two executions on a processor overlap: the columns of each item.
 #[derive(Drop)]
 pub(crate) struct Processors<'a> {
-    pub(crate) lines: &'a [Line<'a>],
+    pub(crate) lines: &'a [SievedLine<'a>],
 }
 
-impl<'a> Pairs for Processors<'a> {
+impl<'a> ColumnPairs for Processors<'a> {
     ghost fits = { λ pairs g tables. AreLines tables (item_count g) pairs.lines.now };
 
     ghost count = { process_count };
@@ -101,7 +101,7 @@ impl<'a> Pairs for Processors<'a> {
     }
 }
 
-impl<'a> Judge for Processors<'a> {
+impl<'a> TimeJudge for Processors<'a> {
     ghost rule = { Rule.Processor };
 
     ghost suits = { λ judge g tables. AreLines tables (item_count g) judge.lines.now };

@@ -15,7 +15,7 @@ use cpg_base::{Order, OutOfMemory, Problem, Scenario};
 use cpg_cover::earlier;
 use cpg_cube::{Cube, Entry};
 use cpg_rules::Admitted;
-use cpg_violation::Line;
+use cpg_violation::SievedLine;
 use std::alloc::Global;
 
 /// What is asked of a column in a scenario.
@@ -66,7 +66,7 @@ fn least_of<Q: Question>(
 pub(crate) fn least_near<Q: Question>(
     alloc: Global,
     admitted: &Admitted,
-    line: &Line<'_>,
+    line: &SievedLine<'_>,
     cube: &Cube,
     question: &Q,
 ) -> Result<Option<Scenario>, OutOfMemory>

@@ -6,15 +6,15 @@ ghost use Rattle.cpg_table.specs.declared.rule.Rule.{Rule};
 ghost use Rattle.cpg_check_time.specs.Clashes.{shares, shares_some};
 ghost use Rattle.cpg_violation.specs.Lines.{AreLines};
 
-use crate::judge::Judge;
-use crate::pairs::{Pairs, least_of_lower};
+use crate::judge::TimeJudge;
+use crate::pairs::{ColumnPairs, least_of_lower};
 use crate::questions::{Question, least_near};
 use cpg_base::{OutOfMemory, Problem, Scenario};
 use cpg_bus::is_slot_start;
 use cpg_cube::Entry;
 use cpg_rules::Admitted;
 use cpg_table::Tables;
-use cpg_violation::{Line, met};
+use cpg_violation::{SievedLine, met};
 use std::alloc::Global;
 
 /// That a column matches together with another at its time.
@@ -46,10 +46,10 @@ impl<'a> Question for Shared<'a> {
 /// That each send has a slot of its own: the columns of each item.
 #[derive(Drop)]
 pub(crate) struct Slots<'a> {
-    pub(crate) lines: &'a [Line<'a>],
+    pub(crate) lines: &'a [SievedLine<'a>],
 }
 
-impl<'a> Pairs for Slots<'a> {
+impl<'a> ColumnPairs for Slots<'a> {
     ghost fits = { λ pairs g tables. AreLines tables (item_count g) pairs.lines.now };
 
     ghost count = { item_count };
@@ -89,7 +89,7 @@ impl<'a> Pairs for Slots<'a> {
     }
 }
 
-impl<'a> Judge for Slots<'a> {
+impl<'a> TimeJudge for Slots<'a> {
     ghost rule = { Rule.Slot };
 
     ghost suits = { λ judge g tables. AreLines tables (item_count g) judge.lines.now };

@@ -1,5 +1,6 @@
 -- The times at which frames arrive from a sender say whether one is waited on.
-use Rattle.std.proofs.Common.{◌≡◌, ℕ, ◌<◌, ◌≤◌, ◌+◌, Bool, true, false, cond, ◌&&◌, ◌||◌, ◌==◌, List, [], ◌∷◌, ◌++◌, length, map, get_or, Option, Some, None, refl, sym, ap, ap₂, ◌∙◌, subst, arith, inl, inr}
+use Rattle.std.proofs.Common.{◌≡◌, ℕ, ◌<◌, ◌≤◌, ◌+◌, Bool, true, false, cond, ◌&&◌, ◌||◌, ◌==◌, List, [], ◌∷◌, ◌++◌, length, map, get_or, Option, Some, None, refl, sym, ap, ap₂, ◌∙◌, subst, arith}
+use Rattle.std.proofs.Common.{inl, inr}
 use Rattle.std.specs.Prelude.{nat_le, option_to_list}
 use Rattle.std.specs.List.{list_any}
 use Rattle.std.specs.List.Sorted.{IsNonDecreasingBy}
@@ -33,7 +34,8 @@ any_times time comes slot other (r ∷ rs) (s ∷ ss) =
 
 pub any_index : (time : ℕ) (comes : Option ℕ) (slot other : ℕ) (rows : List Row) (senders times : List ℕ) → IsIndex rows senders other times →
     list_any (waits_until time comes slot) times ≡ list_any (λ w. w) (zip_with (waits_by other time comes slot) rows senders)
-any_index time comes slot other rows senders times i = sym (list_any-IsPermutation (waits_until time comes slot) (arrival_times other rows senders) times i.same) ∙ any_times time comes slot other rows senders
+any_index time comes slot other rows senders times i = sym (list_any-IsPermutation (waits_until time comes slot) (arrival_times other rows senders) times i.same) ∙
+    any_times time comes slot other rows senders
 
 -- what may not be sent any more to arrive at a time may not be sent to arrive before
 sent_before : (comes : Option ℕ) (slot a b : ℕ) → a ≤ b → list_any (λ u. nat_le (u + slot) b) (option_to_list comes) ≡ false → list_any (λ u. nat_le (u + slot) a) (option_to_list comes) ≡ false
@@ -53,7 +55,9 @@ none_sent time comes slot times h = sym (list_any_none (waits_until time comes s
 
 -- nothing has arrived
 pub none_until : (time : ℕ) (comes : Option ℕ) (slot : ℕ) (times : List ℕ) (past : (i d : ℕ) → i < length times → time < get_or times i d) → false ≡ list_any (waits_until time comes slot) times
-none_until time comes slot times past = sym (list_any_none (waits_until time comes slot) times (λ i d l. ap (λ b. b && list_any (λ u. nat_le (u + slot) (get_or times i d)) (option_to_list comes)) (lt-leb (get_or times i d) time (past i d l))))
+none_until time comes slot times past = sym
+    (list_any_none (waits_until time comes slot) times
+    (λ i d l. ap (λ b. b && list_any (λ u. nat_le (u + slot) (get_or times i d)) (option_to_list comes)) (lt-leb (get_or times i d) time (past i d l))))
 
 -- the last arrival decides
 pub last_until : (time : ℕ) (comes : Option ℕ) (slot : ℕ) (times : List ℕ) (place x : ℕ) → IsNonDecreasingBy (λ (t : ℕ). t) times → place < length times →
@@ -77,7 +81,8 @@ last_until time comes slot times place x rises l before past is = go (list_any (
     ]))
 
 -- one more sender is indexed
-pub index_more : (rows : List Row) (senders : List ℕ) (n : ℕ) (index : List (Vec ℕ)) (v : Vec ℕ) → AreIndexed rows senders n index → IsIndex rows senders n v.items → AreIndexed rows senders (n + 1) (index ++ v ∷ [])
+pub index_more : (rows : List Row) (senders : List ℕ) (n : ℕ) (index : List (Vec ℕ)) (v : Vec ℕ) → AreIndexed rows senders n index → IsIndex rows senders n v.items →
+    AreIndexed rows senders (n + 1) (index ++ v ∷ [])
 index_more rows senders n index v a o = record {
   count = omega (arith, length-append index (v ∷ []), a.count);
   each = λ i d l. elim (cases_eq i n) [
@@ -87,5 +92,6 @@ index_more rows senders n index v a o = record {
 }
 
 -- the times of one sender
-pub index_at : (rows : List Row) (senders : List ℕ) (n : ℕ) (index : List (Vec ℕ)) (b : ℕ) (v : Vec ℕ) (seen : List ℕ) → AreIndexed rows senders n index → b < n → v ≡ get_or index b v → seen ≡ v.items → IsIndex rows senders b seen
+pub index_at : (rows : List Row) (senders : List ℕ) (n : ℕ) (index : List (Vec ℕ)) (b : ℕ) (v : Vec ℕ) (seen : List ℕ) → AreIndexed rows senders n index → b < n → v ≡ get_or index b v →
+    seen ≡ v.items → IsIndex rows senders b seen
 index_at rows senders n index b v seen a l e s = subst (IsIndex rows senders b) (sym (s ∙ ap (λ (v : Vec ℕ). v.items) e)) (a.each b v l)

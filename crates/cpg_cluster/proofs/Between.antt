@@ -47,7 +47,8 @@ module _ (g : Graph) (ms : List Member) (fits : AllFit g ms) (a : ℕ) (m : Memb
       ap (λ ss. list_any (λ w. w) (zip_with (waits_by b time (next o.node.dispatcher) o.slot) m.node.dispatcher.table.hears ss)) senders_are
       ∙ ap (list_any (λ w. w)) (zip_with-map (waits_by b time (next o.node.dispatcher) o.slot) (λ (row : Row). home g row.item) m.node.dispatcher.table.hears)
       ∙ any_map (λ (row : Row). waits_by b time (next o.node.dispatcher) o.slot row (home g row.item)) m.node.dispatcher.table.hears
-      ∙ (λ i. list_any (λ (row : Row). (home g row.item == b) && list_any (λ (col : Column). nat_le col.time time && list_any (λ u. nat_le (u + slot i) col.time) (option_to_list (comes i))) row.columns) (rows i))
+      ∙ (λ i. list_any (λ (row : Row). (home g row.item == b) && list_any (λ (col : Column). nat_le col.time time && list_any (λ u. nat_le (u + slot i) col.time) (option_to_list (comes i)))
+      row.columns) (rows i))
     where
       slot : (get_or ms b d).slot ≡ slot_length g b
       slot = (fits b d k).slot
@@ -60,7 +61,8 @@ module _ (g : Graph) (ms : List Member) (fits : AllFit g ms) (a : ℕ) (m : Memb
 
   pub answer_is : (time : ℕ) (d : Member) → answer_by (filter (λ b. waits_between time m b (get_or ms b d)) (numbers_below (length ms)))
       ≡ answer_by (filter (waits_on g (cluster_of ms) a time) (numbers_below (length (cluster_of ms).nodes)))
-  answer_is time d = ap answer_by (same_filter (λ b. waits_between time m b (get_or ms b d)) (waits_on g (cluster_of ms) a time) (numbers_below (length ms)) (λ b c. waits_is time b d (numbers-Contains (length ms) b c))
+  answer_is time d = ap answer_by (same_filter (λ b. waits_between time m b (get_or ms b d)) (waits_on g (cluster_of ms) a time) (numbers_below (length ms))
+      (λ b c. waits_is time b d (numbers-Contains (length ms) b c))
       ∙ ap (λ n. filter (waits_on g (cluster_of ms) a time) (numbers_below n)) (sym (length-map ms (λ (m : Member). m.node.dispatcher))))
 
   module _ (w : World) (time : ℕ) where

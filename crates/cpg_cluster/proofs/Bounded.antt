@@ -84,7 +84,8 @@ most_remaining g c within few own columns = omega (
   few,
   columns,
   most_of c.nodes (λ i d l.
-      let same : (get_or c.nodes i d).table.own ≡ own_of_node g i = ap (λ (d : Dispatcher). d.table.own) (get_or_default c.nodes i d (opening (record { faults = 0; first_broadcast = 0; own = []; starts = []; sends = []; hears = [] })) l) ∙ own i l in
+      let same : (get_or c.nodes i d).table.own ≡ own_of_node g i = ap (λ (d : Dispatcher). d.table.own)
+      (get_or_default c.nodes i d (opening (record { faults = 0; first_broadcast = 0; own = []; starts = []; sends = []; hears = [] })) l) ∙ own i l in
       (subst (λ (os : List Own). length os ≤ 128) (sym same) (few_own g i within), subst HaveFewEnds (sym same) (own_few_ends g i within))),
 )
 

@@ -1,5 +1,6 @@
 -- All of a cycle is over at its end.
-use Rattle.std.proofs.Common.{◌≡◌, ℕ, suc, ◌+◌, ◌-◌, ◌*◌, ◌<◌, ◌≤◌, max, true, ◌==◌, List, [], ◌∷◌, length, take, get_or, Contains, Option, Some, None, refl, sym, ap, ◌∙◌, arith, inl, inr, eq-eqb, ne_eqb, mul-le-mul_right, ltb-true}
+use Rattle.std.proofs.Common.{◌≡◌, ℕ, suc, ◌+◌, ◌-◌, ◌*◌, ◌<◌, ◌≤◌, max, true, ◌==◌, List, [], ◌∷◌, length, take, get_or, Contains, Option, Some, None, refl, sym, ap, ◌∙◌, arith, inl, inr, eq-eqb}
+use Rattle.std.proofs.Common.{ne_eqb, mul-le-mul_right, ltb-true}
 use Rattle.std.specs.Prelude.{nat_lt, sum_by, map, zero}
 use Rattle.std.specs.Int.{div_ceil}
 use Rattle.std.proofs.lemmas.Bool.{cases_eq, cases_lt, and_from, not_from_false}

@@ -14,7 +14,8 @@ use Rattle.cpg_cluster.specs.Driving.{circle, Choice, chosen, choose}
 use Rattle.cpg_node.specs.Instants.{instants_left}
 
 -- if a turn leaves a node fewer instants, it leaves fewer to all together
-pub nearer_set : (nodes : List Dispatcher) (a : ℕ) (d e : Dispatcher) → a < length nodes → instants_left d < instants_left (get_or nodes a e) → sum_by instants_left (set nodes a d) < sum_by instants_left nodes
+pub nearer_set : (nodes : List Dispatcher) (a : ℕ) (d e : Dispatcher) → a < length nodes → instants_left d < instants_left (get_or nodes a e) →
+    sum_by instants_left (set nodes a d) < sum_by instants_left nodes
 nearer_set nodes a d e l less = omega (arith, sum_by-set instants_left nodes a d e l, less)
 
 -- the node that is asked at a place of the circle
@@ -34,7 +35,8 @@ pub choosing_none : (g : Graph) (w : World) (c : Cluster) (nodes first : ℕ) �
 choosing_none g w c nodes first = record { cluster = refl; waits' = omega arith; took = refl; few = omega arith }
 
 module _ (g : Graph) (w : World) (c : Cluster) (nodes first asked waits : ℕ) (h : IsChoosing g w c nodes first asked waits) (l : asked < nodes) where
-  here : (ans : Answer) → answer g c ((first + asked) % nodes) ≡ ans → choose g w c (drop asked (circle nodes first)) ≡ chosen g w c ((first + asked) % nodes) ans (choose g w c (drop (asked + 1) (circle nodes first)))
+  here : (ans : Answer) → answer g c ((first + asked) % nodes) ≡ ans → choose g w c (drop asked (circle nodes first)) ≡ chosen g w c ((first + asked) % nodes) ans
+      (choose g w c (drop (asked + 1) (circle nodes first)))
   here ans e = ap (choose g w c) (circle_at nodes first asked l) ∙ ap (λ ans. chosen g w c ((first + asked) % nodes) ans (choose g w c (drop (asked + 1) (circle nodes first)))) e
 
   pub choosing_waits : (b : ℕ) → answer g c ((first + asked) % nodes) ≡ Waits b → IsChoosing g w c nodes first (asked + 1) (waits + 1)
@@ -53,7 +55,8 @@ module _ (g : Graph) (w : World) (c : Cluster) (nodes first asked waits : ℕ) (
     few = omega (arith, h.few);
   }
 
-  pub chosen_took : answer g c ((first + asked) % nodes) ≡ Took → ((choose g w c (circle nodes first)).cluster ≡ step g w c ((first + asked) % nodes)) × ((choose g w c (circle nodes first)).waits ≡ waits)
+  pub chosen_took : answer g c ((first + asked) % nodes) ≡ Took → ((choose g w c (circle nodes first)).cluster ≡ step g w c ((first + asked) % nodes)) ×
+      ((choose g w c (circle nodes first)).waits ≡ waits)
   chosen_took e = let one = here Took e in (sym h.cluster ∙ ap (λ (r : Choice). r.cluster) one, let z = ap (λ (r : Choice). r.waits) one in omega (arith, z, h.waits'))
 
 -- after all were asked nobody took a turn
@@ -83,28 +86,35 @@ module _ (old now new : Playing) (nodes first asked waits : ℕ) (count : nodes 
   answered : (ans : Answer) → ans ≡ answer now.graph now.cluster ((first + asked) % nodes) → ans ≡ answer old.graph old.cluster ((first + asked) % nodes)
   answered ans e = e ∙ ap (λ (p : Playing). answer p.graph p.cluster ((first + asked) % nodes)) same
 
-  pub took_state : Took ≡ answer now.graph now.cluster ((first + asked) % nodes) → new ≡ record old { cluster = (choose old.graph old.world old.cluster (circle (length old.graph.nodes) first)).cluster }
+  pub took_state : Took ≡ answer now.graph now.cluster ((first + asked) % nodes) → new ≡ record old
+      { cluster = (choose old.graph old.world old.cluster (circle (length old.graph.nodes) first)).cluster }
   took_state e = stepped' ∙ ap (λ (p : Playing). stepped p ((first + asked) % nodes)) same
-      ∙ ap (λ (c : Cluster). record old { cluster = c }) (sym (chosen_took old.graph old.world old.cluster nodes first asked waits h l (sym (answered Took e))).0 ∙ ap (λ n. (choose old.graph old.world old.cluster (circle n first)).cluster) count)
+      ∙ ap (λ (c : Cluster). record old { cluster = c })
+      (sym (chosen_took old.graph old.world old.cluster nodes first asked waits h l (sym (answered Took e))).0 ∙ ap (λ n. (choose old.graph old.world old.cluster (circle n first)).cluster) count)
 
   pub took_waits : Took ≡ answer now.graph now.cluster ((first + asked) % nodes) → waits ≡ (choose old.graph old.world old.cluster (circle (length old.graph.nodes) first)).waits
-  took_waits e = sym (chosen_took old.graph old.world old.cluster nodes first asked waits h l (sym (answered Took e))).1 ∙ ap (λ n. (choose old.graph old.world old.cluster (circle n first)).waits) count
+  took_waits e = sym (chosen_took old.graph old.world old.cluster nodes first asked waits h l (sym (answered Took e))).1 ∙
+      ap (λ n. (choose old.graph old.world old.cluster (circle n first)).waits) count
 
   pub waits_more : (b : ℕ) → Waits b ≡ answer now.graph now.cluster ((first + asked) % nodes) → (new ≡ old) × IsChoosing old.graph old.world old.cluster nodes first (asked + 1) (waits + 1)
   waits_more b e = (
-    stepped' ∙ ap (λ (p : Playing). stepped p ((first + asked) % nodes)) same ∙ ap (λ (c : Cluster). record old { cluster = c }) (still_waits old.graph old.world old.cluster ((first + asked) % nodes) b (answered (Waits b) e)),
+    stepped' ∙ ap (λ (p : Playing). stepped p ((first + asked) % nodes)) same ∙ ap (λ (c : Cluster). record old { cluster = c })
+        (still_waits old.graph old.world old.cluster ((first + asked) % nodes) b (answered (Waits b) e)),
     choosing_waits old.graph old.world old.cluster nodes first asked waits h l b (sym (answered (Waits b) e)),
   )
 
   pub done_more : Done ≡ answer now.graph now.cluster ((first + asked) % nodes) → (new ≡ old) × IsChoosing old.graph old.world old.cluster nodes first (asked + 1) waits
   done_more e = (
-    stepped' ∙ ap (λ (p : Playing). stepped p ((first + asked) % nodes)) same ∙ ap (λ (c : Cluster). record old { cluster = c }) (still_done old.graph old.world old.cluster ((first + asked) % nodes) (answered Done e)),
+    stepped' ∙ ap (λ (p : Playing). stepped p ((first + asked) % nodes)) same ∙ ap (λ (c : Cluster). record old { cluster = c })
+        (still_done old.graph old.world old.cluster ((first + asked) % nodes) (answered Done e)),
     choosing_done old.graph old.world old.cluster nodes first asked waits h l (sym (answered Done e)),
   )
 
-module _ (old now : Playing) (nodes first asked waits : ℕ) (count : nodes ≡ length old.graph.nodes) (same : now ≡ old) (h : IsChoosing old.graph old.world old.cluster nodes first asked waits) (l : nodes ≤ asked) where
+module _ (old now : Playing) (nodes first asked waits : ℕ) (count : nodes ≡ length old.graph.nodes) (same : now ≡ old) (h : IsChoosing old.graph old.world old.cluster nodes first asked waits)
+    (l : nodes ≤ asked) where
   pub none_state : now ≡ record old { cluster = (choose old.graph old.world old.cluster (circle (length old.graph.nodes) first)).cluster }
-  none_state = same ∙ ap (λ (c : Cluster). record old { cluster = c }) (sym (chosen_none old.graph old.world old.cluster nodes first asked waits h l).0 ∙ ap (λ n. (choose old.graph old.world old.cluster (circle n first)).cluster) count)
+  none_state = same ∙ ap (λ (c : Cluster). record old { cluster = c })
+      (sym (chosen_none old.graph old.world old.cluster nodes first asked waits h l).0 ∙ ap (λ n. (choose old.graph old.world old.cluster (circle n first)).cluster) count)
 
   pub none_waits : waits ≡ (choose old.graph old.world old.cluster (circle (length old.graph.nodes) first)).waits
   none_waits = sym (chosen_none old.graph old.world old.cluster nodes first asked waits h l).1 ∙ ap (λ n. (choose old.graph old.world old.cluster (circle n first)).waits) count

@@ -1,5 +1,6 @@
 -- A play that is driven: someone takes a turn in each choice while not all are done, and choices follow each other.
-use Rattle.std.proofs.Common.{◌≡◌, ℕ, zero, suc, ◌+◌, ◌-◌, ◌<◌, ◌≤◌, ◌%◌, true, false, ◌||◌, List, [], ◌∷◌, length, map, get_or, Contains, Option, Some, None, refl, sym, ap, ◌∙◌, subst, arith, inl, inr, ◌⊎◌, true≢false}
+use Rattle.std.proofs.Common.{◌≡◌, ℕ, zero, suc, ◌+◌, ◌-◌, ◌<◌, ◌≤◌, ◌%◌, true, false, ◌||◌, List, [], ◌∷◌, length, map, get_or, Contains, Option, Some, None, refl, sym, ap, ◌∙◌, subst, arith, inl}
+use Rattle.std.proofs.Common.{inr, ◌⊎◌, true≢false}
 use Rattle.std.specs.Prelude.{is_some, sum_by}
 use Rattle.std.specs.List.{list_any}
 use Rattle.std.proofs.lemmas.Bool.{cases_lt, cases_eq, cases_Bool}
@@ -27,7 +28,8 @@ use Rattle.cpg_cluster.proofs.Plays.{played_of, never_done}
 use Rattle.cpg_cluster.proofs.Stepping.{tables_of, play_of}
 
 -- a node with a next instant that no other is before, or there is none
-least_node : (f : ℕ → Option ℕ) (n : ℕ) → ((a : ℕ) × (a < n) × (time : ℕ) × (f a ≡ Some time) × ((other moment : ℕ) → other < n → f other ≡ Some moment → time ≤ moment)) ⊎ ((a : ℕ) → a < n → f a ≡ None)
+least_node : (f : ℕ → Option ℕ) (n : ℕ) → ((a : ℕ) × (a < n) × (time : ℕ) × (f a ≡ Some time) × ((other moment : ℕ) → other < n → f other ≡ Some moment → time ≤ moment)) ⊎
+    ((a : ℕ) → a < n → f a ≡ None)
 least_node f zero = inr (λ a l. absurd (omega arith))
 least_node f (suc n) = go (f n) refl (least_node f n)
   where
@@ -37,11 +39,43 @@ least_node f (suc n) = go (f n) refl (least_node f n)
     go : (o : Option ℕ) → f n ≡ o → ((a : ℕ) × (a < n) × (time : ℕ) × (f a ≡ Some time) × ((other moment : ℕ) → other < n → f other ≡ Some moment → time ≤ moment)) ⊎ ((a : ℕ) → a < n → f a ≡ None) →
         ((a : ℕ) × (a < suc n) × (time : ℕ) × (f a ≡ Some time) × ((other moment : ℕ) → other < suc n → f other ≡ Some moment → time ≤ moment)) ⊎ ((a : ℕ) → a < suc n → f a ≡ None)
     go None e (inr none) = inr (all e none)
-    go None e (inl q) = inl (q.0, omega arith, q.2, q.3, λ other moment l h. elim (cases_eq other n) [ inl s ↦ absurd (none-some moment (sym (ap f s ∙ e) ∙ h)) | inr ne ↦ q.4 other moment (omega arith) h ])
-    go (Some t) e (inr none) = inl (n, omega arith, t, e, λ other moment l h. elim (cases_eq other n) [ inl s ↦ let z : t ≡ moment = same_Some t moment (sym (ap f s ∙ e) ∙ h) in omega (arith, z) | inr ne ↦ absurd (none-some moment (sym (none other (omega arith)) ∙ h)) ])
+    go None e (inl q) = inl (
+      q.0,
+      omega arith,
+      q.2,
+      q.3,
+      λ other moment l h. elim (cases_eq other n)
+          [ inl s ↦ absurd (none-some moment (sym (ap f s ∙ e) ∙ h)) | inr ne ↦ q.4 other moment (omega arith) h ],
+    )
+    go (Some t) e (inr none) = inl (
+      n,
+      omega arith,
+      t,
+      e,
+      λ other moment l h. elim (cases_eq other n)
+          [ inl s ↦ let z : t ≡ moment = same_Some t moment (sym (ap f s ∙ e) ∙ h) in omega (arith, z) | inr ne ↦ absurd (none-some moment (sym (none other (omega arith)) ∙ h)) ],
+    )
     go (Some t) e (inl q) = elim (cases_lt t q.2) [
-      | inl less ↦ inl (n, omega arith, t, e, λ other moment l h. elim (cases_eq other n) [ inl s ↦ let z : t ≡ moment = same_Some t moment (sym (ap f s ∙ e) ∙ h) in omega (arith, z) | inr ne ↦ let y = q.4 other moment (omega arith) h in omega (arith, y, less) ])
-      | inr more ↦ inl (q.0, omega (arith, q.1), q.2, q.3, λ other moment l h. elim (cases_eq other n) [ inl s ↦ let z : t ≡ moment = same_Some t moment (sym (ap f s ∙ e) ∙ h) in omega (arith, z, more) | inr ne ↦ q.4 other moment (omega arith) h ])
+      | inl less ↦ inl (
+        n,
+        omega arith,
+        t,
+        e,
+        λ other moment l h. elim
+            (cases_eq other n) [
+              | inl s ↦ let z : t ≡ moment = same_Some t moment (sym (ap f s ∙ e) ∙ h) in omega (arith, z)
+              | inr ne ↦ let y = q.4 other moment (omega arith) h in
+                  omega (arith, y, less)
+            ],
+      )
+      | inr more ↦ inl (
+        q.0,
+        omega (arith, q.1),
+        q.2,
+        q.3,
+        λ other moment l h. elim (cases_eq other n)
+            [ inl s ↦ let z : t ≡ moment = same_Some t moment (sym (ap f s ∙ e) ∙ h) in omega (arith, z, more) | inr ne ↦ q.4 other moment (omega arith) h ],
+      )
     ]
 
 -- in a choice without a turn nobody would take one
@@ -91,7 +125,8 @@ module _ (g : Graph) (w : World) (ms : List Member) (p : IsPlaying (play_of g w 
   all_done e b l =
       let k : b < length ms = omega (arith, l, count) in
       let d = member ms b k in
-      ap (answer_at g (cluster_of ms) b) (ap next (dispatcher_is ms b d k) ∙ none_is (next (get_or ms b d).node.dispatcher) (from_any_false (λ (m : Member). is_some (next m.node.dispatcher)) ms (get_or ms b d) e (Contains-get_or ms b d k)))
+      ap (answer_at g (cluster_of ms) b) (ap next (dispatcher_is ms b d k) ∙ none_is (next (get_or ms b d).node.dispatcher)
+      (from_any_false (λ (m : Member). is_some (next m.node.dispatcher)) ms (get_or ms b d) e (Contains-get_or ms b d k)))
     where
       member : (ms : List Member) (i : ℕ) → i < length ms → Member
       member [] i l = absurd (omega arith)
@@ -102,14 +137,16 @@ module _ (g : Graph) (w : World) (ms : List Member) (p : IsPlaying (play_of g w 
   not_done e d = let q = left_node ms e in never_done _ (sym (ap (answer_at g (cluster_of ms) q.0) q.3) ∙ d q.0 (omega (arith, q.1, count)))
 
   -- then someone takes a turn
-  pub someone_takes : list_any (λ (m : Member). is_some (next m.node.dispatcher)) ms ≡ true → (first : ℕ) → first < length g.nodes → (choose g w (cluster_of ms) (circle (length g.nodes) first)).took ≡ true
+  pub someone_takes : list_any (λ (m : Member). is_some (next m.node.dispatcher)) ms ≡ true → (first : ℕ) → first < length g.nodes →
+      (choose g w (cluster_of ms) (circle (length g.nodes) first)).took ≡ true
   someone_takes e first f = elim (cases_Bool (choose g w (cluster_of ms) (circle (length g.nodes) first)).took) [
     | inl t ↦ t
     | inr none ↦ elim (least_node (λ b. next (dispatcher_at (cluster_of ms) b)) (length g.nodes)) [
       | inr no' ↦ let q = left_node ms e in absurd (none-some q.2 (sym (no' q.0 (omega (arith, q.1, count))) ∙ q.3))
       | inl q ↦
           let k = played_of g (play_of g w ms).tables p.formed p.shape p.valid w p.world in
-          absurd (not_took g w (cluster_of ms) (circle (length g.nodes) first) none q.0 (circle_all (length g.nodes) first q.0 f q.1) (least_took k (cluster_of ms) (played_reached k (cluster_of ms) p.played) q.0 q.2 q.1 q.3 q.4))
+          absurd (not_took g w (cluster_of ms) (circle (length g.nodes) first) none q.0 (circle_all (length g.nodes) first q.0 f q.1)
+          (least_took k (cluster_of ms) (played_reached k (cluster_of ms) p.played) q.0 q.2 q.1 q.3 q.4))
     ]
   ]
 
@@ -137,7 +174,9 @@ driven_more g w (suc n) x c now total e =
     let b : one.waits + rest.1 ≡ total = ap (λ (q : Cluster × ℕ). q.1) e in
     ap (λ (q : Cluster × ℕ). (q.0, one.waits + q.1)) r
     ∙ ap (λ (c : Cluster). ((choice g w c (next_number (number_after n (next_number x)))).cluster, one.waits + (rest.1 + (choice g w c (next_number (number_after n (next_number x)))).waits))) a
-    ∙ ap (λ n'. ((choice g w now (next_number (number_after n (next_number x)))).cluster, n')) (let z : one.waits + (rest.1 + (choice g w now (next_number (number_after n (next_number x)))).waits) ≡ total + (choice g w now (next_number (number_after n (next_number x)))).waits = omega (arith, b) in z)
+    ∙ ap (λ n'. ((choice g w now (next_number (number_after n (next_number x)))).cluster, n'))
+    (let z : one.waits + (rest.1 + (choice g w now (next_number (number_after n (next_number x)))).waits) ≡ total + (choice g w now (next_number (number_after n (next_number x)))).waits =
+    omega (arith, b) in z)
 
 -- a drive on the way: the number is that of the last choice
 pub record IsDriving (g : Graph) (w : World) (x : ℕ) (before now : Cluster) (number waits : ℕ) : Type 0 where
@@ -168,14 +207,18 @@ driving_done g w x c now number waits h d = record { turns = h.turns; is = h.is;
 
 -- The same of the state as code sees it.
 
-pub takes_at : (g : Graph) (w : World) (ms : List Member) (now : Playing) → play_of g w ms ≡ now → IsPlaying (play_of g w ms) → list_any (λ (m : Member). is_some (next m.node.dispatcher)) ms ≡ true → (first : ℕ) →
+pub takes_at : (g : Graph) (w : World) (ms : List Member) (now : Playing) → play_of g w ms ≡ now → IsPlaying (play_of g w ms) → list_any (λ (m : Member). is_some (next m.node.dispatcher)) ms ≡ true →
+    (first : ℕ) →
     first < length now.graph.nodes → (choose now.graph now.world now.cluster (circle (length now.graph.nodes) first)).took ≡ true
-takes_at g w ms now view p e = subst (λ (now : Playing). (first : ℕ) → first < length now.graph.nodes → (choose now.graph now.world now.cluster (circle (length now.graph.nodes) first)).took ≡ true) view (someone_takes g w ms p e)
+takes_at g w ms now view p e = subst (λ (now : Playing). (first : ℕ) → first < length now.graph.nodes → (choose now.graph now.world now.cluster (circle (length now.graph.nodes) first)).took ≡ true)
+    view (someone_takes g w ms p e)
 
-pub left_at : (g : Graph) (w : World) (ms : List Member) (now : Playing) → play_of g w ms ≡ now → IsPlaying (play_of g w ms) → list_any (λ (m : Member). is_some (next m.node.dispatcher)) ms ≡ true → AllDone now.graph now.cluster → ⊥
+pub left_at : (g : Graph) (w : World) (ms : List Member) (now : Playing) → play_of g w ms ≡ now → IsPlaying (play_of g w ms) → list_any (λ (m : Member). is_some (next m.node.dispatcher)) ms ≡ true →
+    AllDone now.graph now.cluster → ⊥
 left_at g w ms now view p e = subst (λ (now : Playing). AllDone now.graph now.cluster → ⊥) view (not_done g w ms p e)
 
-pub done_at : (g : Graph) (w : World) (ms : List Member) (now : Playing) → play_of g w ms ≡ now → IsPlaying (play_of g w ms) → list_any (λ (m : Member). is_some (next m.node.dispatcher)) ms ≡ false → AllDone now.graph now.cluster
+pub done_at : (g : Graph) (w : World) (ms : List Member) (now : Playing) → play_of g w ms ≡ now → IsPlaying (play_of g w ms) → list_any (λ (m : Member). is_some (next m.node.dispatcher)) ms ≡ false →
+    AllDone now.graph now.cluster
 done_at g w ms now view p e = subst (λ (now : Playing). AllDone now.graph now.cluster) view (all_done g w ms p e)
 
 -- the nodes come to so many instants at most
@@ -192,8 +235,10 @@ most_at g w ms now view p few =
     (most_remaining g (cluster_of ms) p.limits (omega (arith, few, nodes)) (λ i l. ap (λ (d : Dispatcher). d.table.own) (r.holds i (omega (arith, l, r.nodes))).is)
     (omega (arith, p.lawful.few, ap (λ (ts : List NodeTable). sum_by (λ (t : NodeTable). column_count (rows_of t)) ts) (tables_twice ms))))
 
-pub drive_step : (old now new : Playing) (x drawn waits drawn' first more : ℕ) → now ≡ record old { cluster = now.cluster } → IsDriving old.graph old.world x old.cluster now.cluster drawn waits → (AllDone now.graph now.cluster → ⊥) →
-    drawn' ≡ next_number drawn → first ≡ first_asked (length now.graph.nodes) drawn' → new ≡ record now { cluster = (choose now.graph now.world now.cluster (circle (length now.graph.nodes) first)).cluster } →
+pub drive_step : (old now new : Playing) (x drawn waits drawn' first more : ℕ) → now ≡ record old { cluster = now.cluster } → IsDriving old.graph old.world x old.cluster now.cluster drawn waits →
+    (AllDone now.graph now.cluster → ⊥) →
+    drawn' ≡ next_number drawn → first ≡ first_asked (length now.graph.nodes) drawn' → new ≡ record now
+    { cluster = (choose now.graph now.world now.cluster (circle (length now.graph.nodes) first)).cluster } →
     more ≡ (choose now.graph now.world now.cluster (circle (length now.graph.nodes) first)).waits →
     (new ≡ record old { cluster = new.cluster }) × IsDriving old.graph old.world x old.cluster new.cluster drawn' (waits + more)
 drive_step old now new x drawn waits drawn' first more same h left d f e m =
@@ -202,7 +247,14 @@ drive_step old now new x drawn waits drawn' first more same h left d f e m =
     let te : now.tables ≡ old.tables = ap (λ (p : Playing). p.tables) same in
     let one : choose now.graph now.world now.cluster (circle (length now.graph.nodes) first) ≡ choice old.graph old.world now.cluster drawn' =
     ap (λ n. choose now.graph now.world now.cluster (circle (length now.graph.nodes) n)) f ∙ (λ i. choice (ge i) (we i) now.cluster drawn') in
-    let kept : new ≡ record old { cluster = new.cluster } = (λ i. record { graph = (ap (λ (p : Playing). p.graph) e ∙ ge) i; tables = (ap (λ (p : Playing). p.tables) e ∙ te) i; world = (ap (λ (p : Playing). p.world) e ∙ we) i; cluster = new.cluster }) in (
+    let kept : new ≡ record old { cluster = new.cluster } =
+    (λ i. record {
+      graph = (ap (λ (p : Playing). p.graph) e ∙ ge) i;
+      tables = (ap (λ (p : Playing). p.tables) e ∙ te) i;
+      world = (ap (λ (p : Playing). p.world) e ∙ we) i;
+      cluster =
+          new.cluster;
+    }) in (
       kept,
       driving_more old.graph old.world x old.cluster now.cluster new.cluster drawn waits more drawn' h (subst (λ (g : Graph). AllDone g now.cluster → ⊥) ge left) d
           (ap (λ (p : Playing). p.cluster) e ∙ ap (λ (r : Choice). r.cluster) one) (m ∙ ap (λ (r : Choice). r.waits) one),

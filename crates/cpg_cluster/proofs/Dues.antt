@@ -1,5 +1,6 @@
 -- A play that came to its end did what is due: the due lists exist, and all that was done is orderly as they are.
-use Rattle.std.proofs.Common.{ℕ, suc, ◌≡◌, ◌<◌, ◌∙◌, Bool, true, false, not, cond, ◌==◌, List, [], ◌∷◌, ◌++◌, All, AllPairs, Contains, IsPermutation, filter, get_or, length, refl, sym, ap, subst, arith}
+use Rattle.std.proofs.Common.{ℕ, suc, ◌≡◌, ◌<◌, ◌∙◌, Bool, true, false, not, cond, ◌==◌, List, [], ◌∷◌, ◌++◌, All, AllPairs, Contains, IsPermutation, filter, get_or, length, refl, sym, ap, subst}
+use Rattle.std.proofs.Common.{arith}
 use Rattle.std.specs.List.{flat_map}
 use Rattle.std.specs.Prelude.{IsTrue}
 use Rattle.std.proofs.lemmas.List.Concat.{flat_map-cons}
@@ -97,13 +98,21 @@ module _ (p : Playing) (playing : IsPlaying p) (done : AllDone p.graph p.cluster
   acts_due node = sorted (precedes (due_key p.graph)) (asked_of p.tables p.world.scenario node)
 
   due : (node : ℕ) → IsDue p.graph p.tables p.world.scenario node (acts_due node)
-  due node = record { all = permutation_sorted (precedes (due_key p.graph)) (asked_of p.tables p.world.scenario node); in_order = in_order_sorted (due_key p.graph) (asked_of p.tables p.world.scenario node) }
+  due node = record {
+    all = permutation_sorted (precedes (due_key p.graph)) (asked_of p.tables p.world.scenario node);
+    in_order =
+        in_order_sorted (due_key p.graph) (asked_of p.tables p.world.scenario node);
+  }
 
   abbrev ends_due : ℕ → List (ℕ × Ended)
   ends_due node = sorted (precedes end_key) (ends_asked p.graph p.tables p.world.scenario node)
 
   planned : (node : ℕ) → AreDueEnds p.graph p.tables p.world.scenario node (ends_due node)
-  planned node = record { all = permutation_sorted (precedes end_key) (ends_asked p.graph p.tables p.world.scenario node); in_order = in_order_sorted end_key (ends_asked p.graph p.tables p.world.scenario node) }
+  planned node = record {
+    all = permutation_sorted (precedes end_key) (ends_asked p.graph p.tables p.world.scenario node);
+    in_order =
+        in_order_sorted end_key (ends_asked p.graph p.tables p.world.scenario node);
+  }
 
   correct : IsCorrect p.graph p.tables
   correct = valid_tables_are_correct p.graph p.tables playing.formed playing.shape playing.valid

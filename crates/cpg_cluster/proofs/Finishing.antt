@@ -1,5 +1,6 @@
 -- What a node's turn asks for holds in every state that a play reaches.
-use Rattle.std.proofs.Common.{◌≡◌, ◌≢◌, ℕ, ◌+◌, ◌<◌, ◌≤◌, Bool, true, false, cond, ◌&&◌, ◌==◌, List, [], ◌∷◌, ◌++◌, length, map, fold, get_or, Contains, Option, Some, None, refl, sym, ap, ◌∙◌, subst, arith, inl, inr, eq-eqb, ne_eqb, leb, leb-true, true≢false}
+use Rattle.std.proofs.Common.{◌≡◌, ◌≢◌, ℕ, ◌+◌, ◌<◌, ◌≤◌, Bool, true, false, cond, ◌&&◌, ◌==◌, List, [], ◌∷◌, ◌++◌, length, map, fold, get_or, Contains, Option, Some, None, refl, sym, ap, ◌∙◌, subst}
+use Rattle.std.proofs.Common.{arith, inl, inr, eq-eqb, ne_eqb, leb, leb-true, true≢false}
 use Rattle.std.specs.Prelude.{All, IfSome, is_none, is_some}
 use Rattle.std.specs.List.{flat_map}
 use Rattle.std.proofs.lemmas.Bool.{cond-true, cond-false, and_parts}
@@ -39,11 +40,13 @@ table_finished d [] = refl
 table_finished d (e ∷ es) = table_finished (finished d e) es
 
 -- the execution of a process, where the processes of a node differ
-running_found : (g : Graph) (h : Own → Option Running) (ps : List ℕ) → Rises (λ x y. x < y) ps → (p : ℕ) → Contains ps p → running_in (map (own_process g) ps) (map h (map (own_process g) ps)) p ≡ h (own_process g p)
+running_found : (g : Graph) (h : Own → Option Running) (ps : List ℕ) → Rises (λ x y. x < y) ps → (p : ℕ) → Contains ps p →
+    running_in (map (own_process g) ps) (map h (map (own_process g) ps)) p ≡ h (own_process g p)
 running_found g h [] r p c = absurd (Contains-nil p c)
 running_found g h (q ∷ qs) r p c = elim (Contains-cases q qs p c) [
   | inl e ↦ cond-true (q == p) (h (own_process g q)) (running_in (map (own_process g) qs) (map h (map (own_process g) qs)) p) (eq-eqb q p e) ∙ ap (λ n. h (own_process g n)) e
-  | inr m ↦ cond-false (q == p) (h (own_process g q)) (running_in (map (own_process g) qs) (map h (map (own_process g) qs)) p) (ne_eqb q p (λ e. let l = r.0 p m in absurd (omega (arith, l, e)))) ∙ running_found g h qs r.1 p m
+  | inr m ↦ cond-false (q == p) (h (own_process g q)) (running_in (map (own_process g) qs) (map h (map (own_process g) qs)) p) (ne_eqb q p (λ e. let l = r.0 p m in absurd (omega (arith, l, e)))) ∙
+      running_found g h qs r.1 p m
 ]
 
 module _ {g : Graph} {tables : List NodeTable} {w : World} (k : Played g tables w) (node : ℕ) (l : node < length g.nodes) (heard : List Range) (last : Option ℕ) (time : ℕ)
@@ -59,7 +62,8 @@ module _ {g : Graph} {tables : List NodeTable} {w : World} (k : Played g tables 
   state h = record { table = table; heard = heard; running = map h (own_of_node g node); last = last }
 
   -- a report of an execution that is over by the time
-  may : (h : Own → Option Running) → next (state h) ≡ Some time → (p : ℕ) → Contains (processes_on g node) p → (run : Running) → h (own_process g p) ≡ Some run → planned g tables w last (own_process g p) ≡ Some run →
+  may : (h : Own → Option Running) → next (state h) ≡ Some time → (p : ℕ) → Contains (processes_on g node) p → (run : Running) → h (own_process g p) ≡ Some run →
+      planned g tables w last (own_process g p) ≡ Some run →
       run.report ≡ None → run.start + get_or w.lengths p 0 ≤ time → MayFinish (state h) (run.start + get_or w.lengths p 0) (ended_of g w (own_process g p))
   may h n p on run is plan none over =
       let m = (on_node k node l heard last time (next_is (node_state g tables w node heard last) time comes) p on).0 in
@@ -104,7 +108,8 @@ module _ {g : Graph} {tables : List NodeTable} {w : World} (k : Played g tables 
   no_report (Some r) t = absurd (true≢false (sym t))
 
   -- the report of one more process
-  one_more : (h : Own → Option Running) → next (state h) ≡ Some time → (p : ℕ) → Contains (processes_on g node) p → h (own_process g p) ≡ planned g tables w last (own_process g p) → (rest : List (ℕ × Ended)) →
+  one_more : (h : Own → Option Running) → next (state h) ≡ Some time → (p : ℕ) → Contains (processes_on g node) p → h (own_process g p) ≡ planned g tables w last (own_process g p) →
+      (rest : List (ℕ × Ended)) →
       AllFinish (state h) rest → AllFinish (state (after h p)) rest → AllFinish (state h) (report_of g w time (own_process g p) (planned g tables w last (own_process g p)) ++ rest)
   one_more h n p on same rest before then = go (planned g tables w last (own_process g p)) refl
     where
@@ -121,19 +126,24 @@ module _ {g : Graph} {tables : List NodeTable} {w : World} (k : Played g tables 
 
   -- what is left of the processes, each as it runs
   all_from : (h : Own → Option Running) → next (state h) ≡ Some time → (ps : List ℕ) → Rises (λ x y. x < y) ps → ((p : ℕ) → Contains ps p → Contains (processes_on g node) p) →
-      ((p : ℕ) → Contains ps p → h (own_process g p) ≡ planned g tables w last (own_process g p)) → AllFinish (state h) (flat_map (λ o. report_of g w time o (planned g tables w last o)) (map (own_process g) ps))
+      ((p : ℕ) → Contains ps p → h (own_process g p) ≡ planned g tables w last (own_process g p)) →
+      AllFinish (state h) (flat_map (λ o. report_of g w time o (planned g tables w last o)) (map (own_process g) ps))
   all_from h n [] r on same = tt
-  all_from h n (p ∷ ps) r on same = one_more h n p (on p (Contains-first p ps)) (same p (Contains-first p ps)) (flat_map (λ o. report_of g w time o (planned g tables w last o)) (map (own_process g) ps))
+  all_from h n (p ∷ ps) r on same = one_more h n p (on p (Contains-first p ps)) (same p (Contains-first p ps))
+      (flat_map (λ o. report_of g w time o (planned g tables w last o)) (map (own_process g) ps))
       (all_from h n ps r.1 (λ q c. on q (Contains-rest p ps q c)) (λ q c. same q (Contains-rest p ps q c)))
-      (all_from (after h p) (next_after h p n) ps r.1 (λ q c. on q (Contains-rest p ps q c)) (λ q c. kept h p q (λ e. let m = r.0 q c in absurd (omega (arith, m, e))) ∙ same q (Contains-rest p ps q c)))
+      (all_from (after h p) (next_after h p n) ps r.1 (λ q c. on q (Contains-rest p ps q c))
+      (λ q c. kept h p q (λ e. let m = r.0 q c in absurd (omega (arith, m, e))) ∙ same q (Contains-rest p ps q c)))
 
   pub all_finish : AllFinish (node_state g tables w node heard last) (reports_now g w (node_state g tables w node heard last) time)
   all_finish = subst (AllFinish (node_state g tables w node heard last))
-      (sym (ap (flat_map (λ rs. rs)) (zip_with-map (report_of g w time) (planned g tables w last) (own_of_node g node)) ∙ flat_id (λ o. report_of g w time o (planned g tables w last o)) (own_of_node g node)))
+      (sym (ap (flat_map (λ rs. rs)) (zip_with-map (report_of g w time) (planned g tables w last) (own_of_node g node)) ∙
+      flat_id (λ o. report_of g w time o (planned g tables w last o)) (own_of_node g node)))
       (all_from (planned g tables w last) comes (processes_on g node) processes_rise (λ p c. c) (λ p c. refl))
 
 -- the same in a state that a play reaches
-module _ {g : Graph} {tables : List NodeTable} {w : World} (k : Played g tables w) (c : Cluster) (r : Reached g tables w c) (a : ℕ) (l : a < length g.nodes) (time : ℕ) (e : next (dispatcher_at c a) ≡ Some time) where
+module _ {g : Graph} {tables : List NodeTable} {w : World} (k : Played g tables w) (c : Cluster) (r : Reached g tables w c) (a : ℕ) (l : a < length g.nodes) (time : ℕ)
+    (e : next (dispatcher_at c a) ≡ Some time) where
   pub may_finish : AllFinish (dispatcher_at c a) (reports_now g w (dispatcher_at c a) time)
   may_finish = let n = r.holds a l in subst (λ d. AllFinish d (reports_now g w d time)) (sym n.is) (all_finish k a l n.heard n.last time (ap next (sym n.is) ∙ e))
 

@@ -1,5 +1,6 @@
 -- What nodes have noted of items is what they have done of them.
-use Rattle.std.proofs.Common.{◌≡◌, ◌≢◌, ℕ, ◌+◌, ◌<◌, Bool, true, false, cond, ◌&&◌, ◌==◌, List, [], ◌∷◌, length, map, filter, fold, get_or, replicate, Contains, Option, Some, None, refl, sym, ap, ◌∙◌, subst, arith, inl, inr, eq-eqb, ne_eqb}
+use Rattle.std.proofs.Common.{◌≡◌, ◌≢◌, ℕ, ◌+◌, ◌<◌, Bool, true, false, cond, ◌&&◌, ◌==◌, List, [], ◌∷◌, length, map, filter, fold, get_or, replicate, Contains, Option, Some, None, refl, sym, ap, ◌∙◌}
+use Rattle.std.proofs.Common.{subst, arith, inl, inr, eq-eqb, ne_eqb}
 use Rattle.std.specs.Prelude.{All, option_to_list}
 use Rattle.std.specs.Option.{option_map_or}
 use Rattle.std.proofs.lemmas.Bool.{cases_eq, cond-true, cond-false}
@@ -25,7 +26,8 @@ use Rattle.cpg_cluster.proofs.Opening.{hears_items}
 -- acts of other items leave what is noted of an item
 others_noted : (x : ℕ) (acts : List Act) (noted : List (Option Act)) → ((a : Act) → Contains acts a → a.item ≢ x) → get_or (fold note noted acts) x None ≡ get_or noted x None
 others_noted x [] noted h = refl
-others_noted x (a ∷ acts) noted h = others_noted x acts (note noted a) (λ b m. h b (Contains-rest a acts b m)) ∙ get_or-set_other noted a.item x (Some a) None (λ e. h a (Contains-first a acts) (sym e))
+others_noted x (a ∷ acts) noted h = others_noted x acts (note noted a) (λ b m. h b (Contains-rest a acts b m)) ∙
+    get_or-set_other noted a.item x (Some a) None (λ e. h a (Contains-first a acts) (sym e))
 
 -- the act of an item is noted, if all acts are of different items
 noted_once : (x : ℕ) (acts : List Act) (noted : List (Option Act)) → Rises (λ (a b : Act). a.item ≢ b.item) acts → x < length noted → get_or noted x None ≡ None →
@@ -57,7 +59,8 @@ frames_noted : (value : Bool) (x slot time : ℕ) (acts : List Act) (noted : Opt
 frames_noted value x slot time acts noted h = ap (frames_from value x slot time) (sym h)
     ∙ ap (λ (l : List Act). map (λ (act : Act). record { item = act.item; column = act.column; value = value }) l) (both_pass (λ (a : Act). a.item == x) (λ (a : Act). a.time + slot == time) acts)
 
-pub sender_frames : (ms : List Member) (sender : ℕ) (m : Member) (value : Bool) (x time : ℕ) (noted : List (Option Act)) → sender < length ms → m ≡ get_or ms sender m → HasNoted m x → noted ≡ m.noted.items →
+pub sender_frames : (ms : List Member) (sender : ℕ) (m : Member) (value : Bool) (x time : ℕ) (noted : List (Option Act)) → sender < length ms → m ≡ get_or ms sender m → HasNoted m x →
+    noted ≡ m.noted.items →
     frames_from value x m.slot time (option_to_list (get_or noted x None)) ≡ frames_of_member ms value x time sender
 sender_frames ms sender m value x time noted l at has is = ap (λ (ns : List (Option Act)). frames_from value x m.slot time (option_to_list (get_or ns x None))) is
     ∙ frames_noted value x m.slot time m.acts.items (get_or m.noted.items x None) has
@@ -79,5 +82,7 @@ module _ (g : Graph) (w : World) (ms : List Member) (p : IsPlaying (play_of g w 
   -- what a node hears is of items that there are
   pub hears_there : (a : ℕ) (m : Member) → m ≡ get_or ms a m → a < length ms → All (λ (row : Row). row.item < item_count g) m.node.dispatcher.table.hears
   hears_there a m at l =
-      let table : table_at (tables_of ms) a ≡ m.node.dispatcher.table = get_or-map (λ (m : Member). m.node.dispatcher.table) ms a m empty_table l ∙ ap (λ (m : Member). m.node.dispatcher.table) (sym at) in
-      subst (λ (t : NodeTable). All (λ (row : Row). row.item < item_count g) t.hears) table (hears_items g (tables_of ms) p.valid a (omega (arith, l, length-map ms (λ (m : Member). m.node.dispatcher.table))))
+      let table : table_at (tables_of ms) a ≡ m.node.dispatcher.table = get_or-map (λ (m : Member). m.node.dispatcher.table) ms a m empty_table l ∙
+      ap (λ (m : Member). m.node.dispatcher.table) (sym at) in
+      subst (λ (t : NodeTable). All (λ (row : Row). row.item < item_count g) t.hears) table
+      (hears_items g (tables_of ms) p.valid a (omega (arith, l, length-map ms (λ (m : Member). m.node.dispatcher.table))))

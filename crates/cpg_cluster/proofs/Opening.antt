@@ -48,7 +48,8 @@ open_more g tables n ms m a o = record {
 }
 
 -- the first of the tables that are left is the next node's
-pub open_next : (g : Graph) (tables : List NodeTable) (n number after : ℕ) (t : NodeTable) (rest : List NodeTable) (ms : List Member) (m : Member) → AreOpen g tables n ms → drop n tables ≡ t ∷ rest → number ≡ n → after ≡ n + 1
+pub open_next : (g : Graph) (tables : List NodeTable) (n number after : ℕ) (t : NodeTable) (rest : List NodeTable) (ms : List Member) (m : Member) → AreOpen g tables n ms → drop n tables ≡ t ∷ rest →
+    number ≡ n → after ≡ n + 1
     → IsOpen g number t m → AreOpen g tables after (ms ++ m ∷ []) × (drop after tables ≡ rest)
 open_next g tables n number after t rest ms m a left is next o =
     let at : table_at tables n ≡ t = ap (λ i. get_or tables i empty_table) (omega arith) ∙ (sym (get_or-drop n tables 0 empty_table) ∙ ap (λ ts. get_or ts 0 empty_table) left) in
@@ -77,7 +78,8 @@ module _ (g : Graph) (tables : List NodeTable) (w : World) (within : IsWithinLim
   nodes_are = same_lists (cluster_of ms).nodes (dispatchers_from g 0 tables) (length-map ms (λ (m : Member). m.node.dispatcher) ∙ open'.count ∙ sym (dispatchers_count g 0 tables)) (λ i d l.
       let k : i < length ms = omega (arith, l, length-map ms (λ (m : Member). m.node.dispatcher)) in
       let t : i < length tables = omega (arith, k, open'.count) in
-      get_or-map (λ (m : Member). m.node.dispatcher) ms i (get_member ms i k) d k ∙ table_here i (get_member ms i k) t ∙ ap opening (sym (own_is g tables within of i t)) ∙ sym (dispatchers_at g 0 tables i i d empty_table t (omega arith)))
+      get_or-map (λ (m : Member). m.node.dispatcher) ms i (get_member ms i k) d k ∙ table_here i (get_member ms i k) t ∙ ap opening (sym (own_is g tables within of i t)) ∙
+      sym (dispatchers_at g 0 tables i i d empty_table t (omega arith)))
 
   -- nothing has been done
   none_are : {X : Type 0} (f : Member → List X) → ((i : ℕ) (d : Member) → i < length tables → f (get_or ms i d) ≡ []) → map f ms ≡ replicate (length tables) []

@@ -1,5 +1,6 @@
 -- What a node has reported in a play: each process once at most, at its actual end.
-use Rattle.std.proofs.Common.{◌≡◌, ◌≢◌, ℕ, ◌+◌, ◌<◌, ◌≤◌, Bool, true, false, cond, ◌&&◌, ◌==◌, List, [], ◌∷◌, ◌++◌, length, map, get_or, Contains, Option, Some, None, refl, sym, ap, ◌∙◌, subst, arith, inl, inr, true≢false, leb, leb-true, le-leb}
+use Rattle.std.proofs.Common.{◌≡◌, ◌≢◌, ℕ, ◌+◌, ◌<◌, ◌≤◌, Bool, true, false, cond, ◌&&◌, ◌==◌, List, [], ◌∷◌, ◌++◌, length, map, get_or, Contains, Option, Some, None, refl, sym, ap, ◌∙◌, subst, arith}
+use Rattle.std.proofs.Common.{inl, inr, true≢false, leb, leb-true, le-leb}
 use Rattle.std.specs.Prelude.{is_none}
 use Rattle.std.specs.List.{flat_map}
 use Rattle.std.proofs.lemmas.Bool.{cases_eq, and_parts}
@@ -16,7 +17,8 @@ use Rattle.cpg_table.proofs.Settings.{Match, match_once}
 use Rattle.cpg_node.specs.Dispatcher.{Dispatcher, Own, Range, Running, Ended, next}
 use Rattle.cpg_node.proofs.Next.{by, not_by, still_by, zip_with-map, NextIs, next_is}
 use Rattle.cpg_table.specs.Items.{own_process}
-use Rattle.cpg_cluster.specs.Cluster.{World, Cluster, Answer, Took, Waits, Done as IsDone, ended_of, report_of, reports_now, open_cluster, dispatcher_at, take_turn, step_by, step, play, answer, IsPlayed}
+use Rattle.cpg_cluster.specs.Cluster.{World, Cluster, Answer, Took, Waits, Done as IsDone, ended_of, report_of, reports_now, open_cluster, dispatcher_at, take_turn, step_by, step, play, answer}
+use Rattle.cpg_cluster.specs.Cluster.{IsPlayed}
 use Rattle.cpg_cluster.proofs.Nodes.{Played, node_state, planned, own_of_node}
 use Rattle.cpg_cluster.proofs.Lawful.{runs_since, unreported}
 use Rattle.cpg_cluster.proofs.Reached.{Reached, reached_open, reached_step, free_from, turn_is}
@@ -66,7 +68,14 @@ told g w time o (Some run) q h = go (is_none run.report && leb (run.start + get_
     go false _ h = absurd (Contains-nil q h)
     go true b h =
         let p = and_parts (is_none run.report) (leb (run.start + get_or w.lengths o.process 0) time) b in
-        record { it = run; runs = refl; none = no_report run.report p.0; over = leb-true _ _ p.1; is = elim (Contains-cases (run.start + get_or w.lengths o.process 0, ended_of g w o) [] q h) [ inl s ↦ sym s | inr n ↦ absurd (Contains-nil q n) ] }
+        record {
+          it = run;
+          runs = refl;
+          none = no_report run.report p.0;
+          over = leb-true _ _ p.1;
+          is =
+              elim (Contains-cases (run.start + get_or w.lengths o.process 0, ended_of g w o) [] q h) [ inl s ↦ sym s | inr n ↦ absurd (Contains-nil q n) ];
+        }
 
 module _ {g : Graph} {tables : List NodeTable} {w : World} (k : Played g tables w) (node : ℕ) (last : Option ℕ) (time : ℕ) where
   -- the reports by the time
@@ -89,7 +98,8 @@ module _ {g : Graph} {tables : List NodeTable} {w : World} (k : Played g tables 
   of_own o q h = ap (λ (q : ℕ × Ended). q.1.process) (told g w time o (planned g tables w last o) q h).is
 
   own_apart : (ps : List ℕ) → Rises (λ x y. x < y) ps →
-      Rises (λ (x y : Own). (a b : ℕ × Ended) → Contains (report_of g w time x (planned g tables w last x)) a → Contains (report_of g w time y (planned g tables w last y)) b → a.1.process ≢ b.1.process) (map (own_process g) ps)
+      Rises (λ (x y : Own). (a b : ℕ × Ended) → Contains (report_of g w time x (planned g tables w last x)) a → Contains (report_of g w time y (planned g tables w last y)) b →
+      a.1.process ≢ b.1.process) (map (own_process g) ps)
   own_apart [] h = tt
   own_apart (p ∷ ps) h = (
     λ o m a b u v e.

@@ -1,5 +1,6 @@
 -- How much a node does, reaches, is told and hears at most.
-use Rattle.std.proofs.Common.{◌≡◌, ◌≢◌, ℕ, ◌+◌, ◌<◌, ◌≤◌, Bool, ◌&&◌, ◌==◌, List, [], ◌∷◌, ◌++◌, length, map, filter, get_or, Contains, AllPairs, Option, sym, ap, ◌∙◌, subst, arith, inl, inr, eqb-true, ne_eqb}
+use Rattle.std.proofs.Common.{◌≡◌, ◌≢◌, ℕ, ◌+◌, ◌<◌, ◌≤◌, Bool, ◌&&◌, ◌==◌, List, [], ◌∷◌, ◌++◌, length, map, filter, get_or, Contains, AllPairs, Option, sym, ap, ◌∙◌, subst, arith, inl, inr}
+use Rattle.std.proofs.Common.{eqb-true, ne_eqb}
 use Rattle.std.specs.List.{flat_map}
 use Rattle.std.proofs.lemmas.Bool.{cases_lt, cases_Bool, cond-true, cond-false, and_left, and_parts}
 use Rattle.std.proofs.lemmas.List.{length-map, length-append, get_or_past}
@@ -56,7 +57,8 @@ module _ {g : Graph} {tables : List NodeTable} {w : World} (k : Played g tables 
         length-append (table_at tables node).starts (table_at tables node).sends,
         length-map rows (λ (row : Row). row.item),
         no_more_keys (λ (a : Act). a.item) acts (map (λ (row : Row). row.item) rows) (acts_apart acts d)
-            (λ a m. let r = row_of k.setting.formed k.setting.shape node a.item l (d.only a m).0.row in subst (Contains (map (λ (row : Row). row.item) rows)) r.2 (Contains-map (λ (row : Row). row.item) rows r.0 r.1)),
+            (λ a m. let r = row_of k.setting.formed k.setting.shape node a.item l (d.only a m).0.row in
+            subst (Contains (map (λ (row : Row). row.item) rows)) r.2 (Contains-map (λ (row : Row). row.item) rows r.0 r.1)),
       )
 
   -- ends are of different processes of the node
@@ -84,16 +86,22 @@ one_item test x (a ∷ acts) r = elim (cases_Bool ((a.item == x) && test a)) [
   | inl t ↦ omega (
     arith,
     ap (λ (l : List Act). length l) (cond-true _ (a ∷ filter (λ (a : Act). (a.item == x) && test a) acts) (filter (λ (a : Act). (a.item == x) && test a) acts) t),
-    ap (λ (l : List Act). length l) (filter_none (λ (a : Act). (a.item == x) && test a) acts (λ b m. and_left (b.item == x) (test b) (ne_eqb b.item x (λ e. r.0 b m (eqb-true a.item x (and_parts (a.item == x) (test a) t).0 ∙ sym e))))),
+    ap (λ (l : List Act). length l) (filter_none (λ (a : Act). (a.item == x) && test a) acts
+        (λ b m. and_left (b.item == x) (test b) (ne_eqb b.item x (λ e. r.0 b m (eqb-true a.item x (and_parts (a.item == x) (test a) t).0 ∙ sym e))))),
   )
-  | inr f ↦ omega (arith, ap (λ (l : List Act). length l) (cond-false _ (a ∷ filter (λ (a : Act). (a.item == x) && test a) acts) (filter (λ (a : Act). (a.item == x) && test a) acts) f), one_item test x acts r.1)
+  | inr f ↦ omega (
+    arith,
+    ap (λ (l : List Act). length l) (cond-false _ (a ∷ filter (λ (a : Act). (a.item == x) && test a) acts) (filter (λ (a : Act). (a.item == x) && test a) acts) f),
+    one_item test x acts r.1,
+  )
 ]
 
 few_in_all : {X Y : Type 0} (f : X → List Y) (xs : List X) → ((x : X) → length (f x) ≤ 1) → length (flat_map f xs) ≤ length xs
 few_in_all f [] h = omega arith
 few_in_all f (x ∷ xs) h = omega (arith, length-append (f x) (flat_map f xs), h x, few_in_all f xs h)
 
-pub frames_few : {g : Graph} {tables : List NodeTable} {w : World} (k : Played g tables w) (c : Cluster) (r : Reached g tables w c) (d : Dispatcher) (time : ℕ) → length (frames_now g w c d time) ≤ length d.table.hears
+pub frames_few : {g : Graph} {tables : List NodeTable} {w : World} (k : Played g tables w) (c : Cluster) (r : Reached g tables w c) (d : Dispatcher) (time : ℕ) →
+    length (frames_now g w c d time) ≤ length d.table.hears
 frames_few {g = g} {tables = tables} {w = w} k c r d time = few_in_all (frames_of_row g w c time) d.table.hears (λ row. row_few row (get_or c.acts (home g row.item) []) (apart (home g row.item)))
   where
     apart : (node : ℕ) → Rises (λ (a b : Act). a.item ≢ b.item) (get_or c.acts node [])

@@ -98,7 +98,8 @@ module _ (g : Graph) (w : World) (ms : List Member) (p : IsPlaying (play_of g w 
     ready_next = subst (λ (d : Dispatcher). next (reported g w d time) ≡ Some time) at_is (next_ready k (cluster_of ms) r a on time next_at)
 
     -- the frames, as code gathers them
-    gathered : (fs : List Frame) → fs ≡ frames_by g w.scenario.values ms time m.node.dispatcher.table.hears m.senders.items → fs ≡ frames_now g w (cluster_of ms) (reported g w (dispatcher_at (cluster_of ms) a) time) time
+    gathered : (fs : List Frame) → fs ≡ frames_by g w.scenario.values ms time m.node.dispatcher.table.hears m.senders.items →
+        fs ≡ frames_now g w (cluster_of ms) (reported g w (dispatcher_at (cluster_of ms) a) time) time
     gathered fs e = e ∙ frames_are g ms fits a m here l w time (reported g w (dispatcher_at (cluster_of ms) a) time)
         (table_finished (dispatcher_at (cluster_of ms) a) (map (λ (q : ℕ × Ended). q.1) (reports_now g w (dispatcher_at (cluster_of ms) a) time)) ∙ ap (λ (d : Dispatcher). d.table) at_is)
 
@@ -107,13 +108,15 @@ module _ (g : Graph) (w : World) (ms : List Member) (p : IsPlaying (play_of g w 
       arith,
       ap (λ (l : List Frame). length l) (gathered (frames_by g w.scenario.values ms time m.node.dispatcher.table.hears m.senders.items) refl),
       frames_few k (cluster_of ms) r (reported g w (dispatcher_at (cluster_of ms) a) time) time,
-      ap (λ (t : OwnTable). length t.hears) (table_finished (dispatcher_at (cluster_of ms) a) (map (λ (q : ℕ × Ended). q.1) (reports_now g w (dispatcher_at (cluster_of ms) a) time)) ∙ ap (λ (d : Dispatcher). d.table) at_is),
+      ap (λ (t : OwnTable). length t.hears) (table_finished (dispatcher_at (cluster_of ms) a) (map (λ (q : ℕ × Ended). q.1) (reports_now g w (dispatcher_at (cluster_of ms) a) time)) ∙
+          ap (λ (d : Dispatcher). d.table) at_is),
     )
 
     module _ (fs : List Frame) (arrive : fs ≡ frames_by g w.scenario.values ms time m.node.dispatcher.table.hears m.senders.items) where
       pub turn_may : MayTurn (ready g w.scenario w.lengths time m.node.dispatcher) [] fs
       turn_may = subst (MayTurn (ready g w.scenario w.lengths time m.node.dispatcher) []) (sym (gathered fs arrive))
-          (subst (λ (d : Dispatcher). MayTurn (reported g w d time) [] (frames_now g w (cluster_of ms) (reported g w (dispatcher_at (cluster_of ms) a) time) time)) at_is (may_turn k (cluster_of ms) r a on time next_at))
+          (subst (λ (d : Dispatcher). MayTurn (reported g w d time) [] (frames_now g w (cluster_of ms) (reported g w (dispatcher_at (cluster_of ms) a) time) time)) at_is
+          (may_turn k (cluster_of ms) r a on time next_at))
 
       module _ (took : Took ≡ answer g (cluster_of ms) a) where
         step_is : step g w (cluster_of ms) a ≡ take_turn g w (cluster_of ms) a time
@@ -142,18 +145,24 @@ module _ (g : Graph) (w : World) (ms : List Member) (p : IsPlaying (play_of g w 
         fit = subst (Fits g a) (here m) (fits a m l)
 
         -- what the node has then
-        node_then : turn (reported g w (dispatcher_at (cluster_of ms) a) time) time [] (frames_now g w (cluster_of ms) (reported g w (dispatcher_at (cluster_of ms) a) time) time) ≡ turn (ready g w.scenario w.lengths time m.node.dispatcher) time [] fs
+        node_then : turn (reported g w (dispatcher_at (cluster_of ms) a) time) time [] (frames_now g w (cluster_of ms) (reported g w (dispatcher_at (cluster_of ms) a) time) time) ≡ turn
+            (ready g w.scenario w.lengths time m.node.dispatcher) time [] fs
         node_then = ap₂ (λ (d : Dispatcher) (fs : List Frame). turn d time [] fs) d_is fs_is
 
-        acts_then : get_or (cluster_of ms).acts a [] ++ acts_of_turn (reported g w (dispatcher_at (cluster_of ms) a) time) time [] (frames_now g w (cluster_of ms) (reported g w (dispatcher_at (cluster_of ms) a) time) time)
+        acts_then : get_or (cluster_of ms).acts a [] ++ acts_of_turn (reported g w (dispatcher_at (cluster_of ms) a) time) time []
+            (frames_now g w (cluster_of ms) (reported g w (dispatcher_at (cluster_of ms) a) time) time)
             ≡ m.acts.items ++ acts_of_turn (ready g w.scenario w.lengths time m.node.dispatcher) time [] fs
-        acts_then = ap₂ (λ (xs ys : List Act). xs ++ ys) (get_or-map (λ (m : Member). m.acts.items) ms a m [] l ∙ ap (λ (m : Member). m.acts.items) (here m)) (ap₂ (λ (d : Dispatcher) (fs : List Frame). acts_of_turn d time [] fs) d_is fs_is)
+        acts_then = ap₂ (λ (xs ys : List Act). xs ++ ys) (get_or-map (λ (m : Member). m.acts.items) ms a m [] l ∙ ap (λ (m : Member). m.acts.items) (here m))
+            (ap₂ (λ (d : Dispatcher) (fs : List Frame). acts_of_turn d time [] fs) d_is fs_is)
 
-        ends_then : get_or (cluster_of ms).ends a [] ++ map {A = Ended} {B = ℕ × Ended} (λ e. (time, e)) (due_reports (reported g w (dispatcher_at (cluster_of ms) a) time) time) ≡ m.ends.items ++ ends_of time (ready g w.scenario w.lengths time m.node.dispatcher)
-        ends_then = ap₂ (λ (xs ys : List (ℕ × Ended)). xs ++ ys) (get_or-map (λ (m : Member). m.ends.items) ms a m [] l ∙ ap (λ (m : Member). m.ends.items) (here m)) (ap (λ (d : Dispatcher). ends_of time d) d_is)
+        ends_then : get_or (cluster_of ms).ends a [] ++ map {A = Ended} {B = ℕ × Ended} (λ e. (time, e))
+            (due_reports (reported g w (dispatcher_at (cluster_of ms) a) time) time) ≡ m.ends.items ++ ends_of time (ready g w.scenario w.lengths time m.node.dispatcher)
+        ends_then = ap₂ (λ (xs ys : List (ℕ × Ended)). xs ++ ys) (get_or-map (λ (m : Member). m.ends.items) ms a m [] l ∙ ap (λ (m : Member). m.ends.items) (here m))
+            (ap (λ (d : Dispatcher). ends_of time d) d_is)
 
         reports_then : get_or (cluster_of ms).reports a [] ++ reports_now g w (dispatcher_at (cluster_of ms) a) time ≡ m.reports.items ++ reports_of g w.scenario w.lengths time m.node.dispatcher
-        reports_then = ap₂ (λ (xs ys : List (ℕ × Ended)). xs ++ ys) (get_or-map (λ (m : Member). m.reports.items) ms a m [] l ∙ ap (λ (m : Member). m.reports.items) (here m)) (ap (λ (d : Dispatcher). reports_now g w d time) at_is)
+        reports_then = ap₂ (λ (xs ys : List (ℕ × Ended)). xs ++ ys) (get_or-map (λ (m : Member). m.reports.items) ms a m [] l ∙ ap (λ (m : Member). m.reports.items) (here m))
+            (ap (λ (d : Dispatcher). reports_now g w d time) at_is)
 
         pub acts_fit : length (m.acts.items ++ acts_of_turn (ready g w.scenario w.lengths time m.node.dispatcher) time [] fs) ≤ vec_capacity m.acts
         acts_fit = omega (
@@ -172,7 +181,8 @@ module _ (g : Graph) (w : World) (ms : List Member) (p : IsPlaying (play_of g w 
           arith,
           fit.ends,
           own_length,
-          ends_few k a on (dispatcher_at (take_turn g w (cluster_of ms) a time) a).last (get_or (take_turn g w (cluster_of ms) a time).ends a []) (ended_by k (take_turn g w (cluster_of ms) a time) played' a on),
+          ends_few k a on (dispatcher_at (take_turn g w (cluster_of ms) a time) a).last (get_or (take_turn g w (cluster_of ms) a time).ends a [])
+              (ended_by k (take_turn g w (cluster_of ms) a time) played' a on),
           ap (λ (l : List (ℕ × Ended)). length l) (get_or-set_same (cluster_of ms).ends a _ [] (omega (arith, l, length-map ms (λ (m : Member). m.ends.items))) ∙ ends_then),
         )
 
@@ -181,7 +191,8 @@ module _ (g : Graph) (w : World) (ms : List Member) (p : IsPlaying (play_of g w 
           arith,
           fit.reports,
           own_length,
-          reports_few k a on (dispatcher_at (take_turn g w (cluster_of ms) a time) a).last (get_or (take_turn g w (cluster_of ms) a time).reports a []) ((reports_hold k (take_turn g w (cluster_of ms) a time) played').each a on),
+          reports_few k a on (dispatcher_at (take_turn g w (cluster_of ms) a time) a).last (get_or (take_turn g w (cluster_of ms) a time).reports a [])
+              ((reports_hold k (take_turn g w (cluster_of ms) a time) played').each a on),
           ap (λ (l : List (ℕ × Ended)). length l) (get_or-set_same (cluster_of ms).reports a _ [] (omega (arith, l, length-map ms (λ (m : Member). m.reports.items))) ∙ reports_then),
         )
 
@@ -191,7 +202,8 @@ module _ (g : Graph) (w : World) (ms : List Member) (p : IsPlaying (play_of g w 
             (noted : n.noted.items ≡ fold note m.noted.items (acts_of_turn (ready g w.scenario w.lengths time m.node.dispatcher) time [] fs))
             (ends : n.ends.items ≡ m.ends.items ++ ends_of time (ready g w.scenario w.lengths time m.node.dispatcher))
             (reports : n.reports.items ≡ m.reports.items ++ reports_of g w.scenario w.lengths time m.node.dispatcher)
-            (kept : (n.senders ≡ m.senders) × (n.slot ≡ m.slot) × (n.arrivals ≡ m.arrivals)) (room : (vec_capacity n.acts ≡ vec_capacity m.acts) × (vec_capacity n.ends ≡ vec_capacity m.ends) × (vec_capacity n.reports ≡ vec_capacity m.reports)) where
+            (kept : (n.senders ≡ m.senders) × (n.slot ≡ m.slot) × (n.arrivals ≡ m.arrivals))
+            (room : (vec_capacity n.acts ≡ vec_capacity m.acts) × (vec_capacity n.ends ≡ vec_capacity m.ends) × (vec_capacity n.reports ≡ vec_capacity m.reports)) where
           cluster_then : cluster_of (set ms a n) ≡ take_turn g w (cluster_of ms) a time
           cluster_then = λ i. record {
             nodes = (map-set (λ (m : Member). m.node.dispatcher) ms a n ∙ ap (set (cluster_of ms).nodes a) (node ∙ sym node_then)) i;
@@ -210,7 +222,17 @@ module _ (g : Graph) (w : World) (ms : List Member) (p : IsPlaying (play_of g w 
           play_then = λ i. record { graph = g; tables = tables_then i; world = w; cluster = (cluster_then ∙ sym step_is) i }
 
           pub playing_then : IsPlaying (play_of g w (set ms a n))
-          playing_then = subst IsPlaying (sym play_then) (record { limits = p.limits; formed = p.formed; lawful = p.lawful; shape = p.shape; valid = p.valid; world = p.world; played = played_step g (tables_of ms) w (cluster_of ms) a p.played })
+          playing_then = subst IsPlaying (sym play_then)
+              (record {
+                limits = p.limits;
+                formed = p.formed;
+                lawful = p.lawful;
+                shape = p.shape;
+                valid = p.valid;
+                world = p.world;
+                played =
+                    played_step g (tables_of ms) w (cluster_of ms) a p.played;
+              })
 
           fit_then : Fits g a n
           fit_then = record {
@@ -220,7 +242,8 @@ module _ (g : Graph) (w : World) (ms : List Member) (p : IsPlaying (play_of g w 
                 (subst (λ ss. AreIndexed m.node.dispatcher.table.hears ss (length g.nodes) n.arrivals.items) (sym (ap (λ v. v.items) kept.0))
                 (subst (λ is'. AreIndexed m.node.dispatcher.table.hears m.senders.items (length g.nodes) is') (sym (ap (λ v. v.items) kept.2)) fit.arrivals));
             noted = noted ∙ ap (λ (s : List (Option Act)). fold note s (acts_of_turn (ready g w.scenario w.lengths time m.node.dispatcher) time [] fs)) fit.noted
-                ∙ sym (fold-append note (replicate (item_count g) None) m.acts.items (acts_of_turn (ready g w.scenario w.lengths time m.node.dispatcher) time [] fs)) ∙ ap (noted_of (item_count g)) (sym acts);
+                ∙ sym (fold-append note (replicate (item_count g) None) m.acts.items (acts_of_turn (ready g w.scenario w.lengths time m.node.dispatcher) time [] fs)) ∙
+                ap (noted_of (item_count g)) (sym acts);
             acts = omega (arith, fit.acts, room.0, ap (λ (t : NodeTable). length t.sends + length t.starts) table_then);
             ends = omega (arith, fit.ends, room.1, ap (λ (t : NodeTable). length t.own) table_then);
             reports = omega (arith, fit.reports, room.2, ap (λ (t : NodeTable). length t.own) table_then);
@@ -239,6 +262,8 @@ module _ (g : Graph) (w : World) (ms : List Member) (p : IsPlaying (play_of g w 
           -- which leaves the nodes fewer instants
           pub nearer_then : remaining (cluster_of (set ms a n)) < remaining (cluster_of ms)
           nearer_then = subst (λ (d : Cluster). remaining d < remaining (cluster_of ms)) (sym cluster_then)
-              (nearer_set (cluster_of ms).nodes a (turn (reported g w (dispatcher_at (cluster_of ms) a) time) time [] (frames_now g w (cluster_of ms) (reported g w (dispatcher_at (cluster_of ms) a) time) time))
+              (nearer_set (cluster_of ms).nodes a (turn (reported g w (dispatcher_at (cluster_of ms) a) time) time []
+              (frames_now g w (cluster_of ms) (reported g w (dispatcher_at (cluster_of ms) a) time) time))
               (opening (record { faults = 0; first_broadcast = 0; own = []; starts = []; sends = []; hears = [] })) (omega (arith, l, length-map ms (λ (m : Member). m.node.dispatcher)))
-              (less_turn g w a (dispatcher_at (cluster_of ms) a) time (frames_now g w (cluster_of ms) (reported g w (dispatcher_at (cluster_of ms) a) time) time) p.limits (ap (λ (d : Dispatcher). d.table.own) (r.holds a on).is) next_at))
+              (less_turn g w a (dispatcher_at (cluster_of ms) a) time (frames_now g w (cluster_of ms) (reported g w (dispatcher_at (cluster_of ms) a) time) time) p.limits
+              (ap (λ (d : Dispatcher). d.table.own) (r.holds a on).is) next_at))

@@ -11,8 +11,8 @@ use Rattle.cpg_table.specs.Valid.{IsValid}
 use Rattle.cpg_node.specs.Dispatcher.{Act, next}
 use Rattle.cpg_cluster.specs.Cluster.{World, Cluster, Answer, Took, Waits, Done, open_cluster, dispatcher_at, step, IsPlayed}
 use Rattle.cpg_cluster.specs.Correct.{IsWorld, IsDue}
-use Rattle.cpg_cluster.specs.declared.answered.Step.{Step}
-use Rattle.cpg_cluster.specs.declared.answered.Step.TheVariants.{Took as StepTook, Waits as StepWaits, Done as StepDone}
+use Rattle.cpg_cluster.specs.declared.answered.AskStep.{AskStep}
+use Rattle.cpg_cluster.specs.declared.answered.AskStep.TheVariants.{Took as StepTook, Waits as StepWaits, Done as StepDone}
 
 -- the graph, its tables, what happens, and what the nodes have done
 pub record Playing : Type 0 where
@@ -51,7 +51,7 @@ abbrev pub HasDoneAll : Playing → ℕ → Type 0
 HasDoneAll p node = (acts : List Act) → IsDue p.graph p.tables p.world.scenario node acts → get_or p.cluster.acts node [] ≡ acts
 
 -- the answer of a node that is asked
-abbrev pub answer_of : Step → Answer
+abbrev pub answer_of : AskStep → Answer
 answer_of StepTook = Took
 answer_of (StepWaits on) = Waits on
 answer_of StepDone = Done

@@ -2,7 +2,7 @@
 
 /// What an ask did.
 #[derive(Clone, Copy, Debug, PartialEq, Eq)]
-pub enum Step {
+pub enum AskStep {
     /// The node took the turn of its next instant.
     Took,
     /// It would go past the arrival of a frame that another node may still send; nothing changed.

@@ -17,7 +17,7 @@ ghost use Rattle.cpg_cluster.specs.Keeping.{HasNoted, frames_of_member, frames_b
 ghost use Rattle.cpg_cluster.specs.Whole.{IsWholePlay};
 ghost use Rattle.cpg_cluster.specs.Playing.{IsPlaying, HasLeastInstant, HasDoneAll, opened, stepped, answer_of};
 
-use crate::Step;
+use crate::AskStep;
 use crate::member::{Member, most_heard, open_members, take_turn};
 use crate::senders::value_of_item;
 use crate::told::add_noted_frame;
@@ -194,7 +194,7 @@ impl Cluster {
 
     /// Asks a node. It takes the turn of its next instant, unless that would go past the arrival of a frame that another
     /// node may still send, or it has none; then nothing changes.
-    pub fn step(&mut self, node: u32) -> Step
+    pub fn step(&mut self, node: u32) -> AskStep
         requires { node < length self.old.graph.nodes }
         ensures answer { answer_of result ≡ answer self.old.graph self.old.cluster node }
         ensures step { self.new ≡ stepped self.old node }
@@ -204,10 +204,10 @@ impl Cluster {
     {
         let member = &self.members[node as usize];
         let Some(time) = member.node.next() else {
-            return Step::Done;
+            return AskStep::Done;
         };
         if let Some(on) = waited_on(self.members.as_slice(), member, time) {
-            return Step::Waits { on };
+            return AskStep::Waits { on };
         }
         gather_frames(
             &self.problem,
@@ -227,7 +227,7 @@ impl Cluster {
             self.frames.as_slice(),
             member,
         );
-        Step::Took
+        AskStep::Took
     }
 
     /// Asks the nodes from one on, round the circle, until one takes its turn; answers how many of them waited.
@@ -247,9 +247,9 @@ impl Cluster {
         while asked < nodes {
             let node = (first + asked) % nodes;
             match self.step(node) {
-                Step::Took => return waits,
-                Step::Waits { .. } => waits += 1,
-                Step::Done => {}
+                AskStep::Took => return waits,
+                AskStep::Waits { .. } => waits += 1,
+                AskStep::Done => {}
             }
             asked += 1;
         }

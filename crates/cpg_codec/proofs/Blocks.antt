@@ -12,7 +12,8 @@ pub elements : {X : Type 0} (xs : List X) (n : ℕ) (d : X) → length xs ≡ n 
 elements xs n d e = fill_by_all (λ k. get_or xs k d) xs n d e (λ k l. refl)
 
 -- a block moved from what is left to what is there
-pub block_moved : {X A : Type 0} (f : X → List A) (all old new : List A) (left rest : List X) (n : ℕ) → all ≡ old ++ flat_map f left → new ≡ old ++ flat_map f (take n left) → rest ≡ drop n left → all ≡ new ++ flat_map f rest
+pub block_moved : {X A : Type 0} (f : X → List A) (all old new : List A) (left rest : List X) (n : ℕ) → all ≡ old ++ flat_map f left → new ≡ old ++ flat_map f (take n left) → rest ≡ drop n left →
+    all ≡ new ++ flat_map f rest
 block_moved f all old new left rest n e is r =
     e ∙ ap (λ ls. old ++ flat_map f ls) (sym (take-append-drop n left)) ∙ ap (λ bs. old ++ bs) (flat_map-append f (take n left) (drop n left))
     ∙ sym (append_assoc old (flat_map f (take n left)) (flat_map f (drop n left)))

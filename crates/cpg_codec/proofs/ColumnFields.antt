@@ -1,5 +1,6 @@
 -- The fields of the rows.
-use Rattle.std.proofs.Common.{◌≡◌, ℕ, zero, suc, ◌+◌, ◌-◌, ◌^◌, ◌<◌, ◌≤◌, max, Bool, true, false, cond, eqb, ltb, leb, ◌&&◌, List, [], ◌∷◌, ◌++◌, length, Ok, refl, sym, ap, ap₂, subst, ◌∙◌, append_assoc, arith, inl, inr, ◌⊎◌}
+use Rattle.std.proofs.Common.{◌≡◌, ℕ, zero, suc, ◌+◌, ◌-◌, ◌^◌, ◌<◌, ◌≤◌, max, Bool, true, false, cond, eqb, ltb, leb, ◌&&◌, List, [], ◌∷◌, ◌++◌, length, Ok, refl, sym, ap, ap₂, subst, ◌∙◌}
+use Rattle.std.proofs.Common.{append_assoc, arith, inl, inr, ◌⊎◌}
 use Rattle.std.specs.List.{flat_map, AllByRecursion}
 use Rattle.std.specs.Int.{w64, to_be_bytes}
 use Rattle.std.proofs.lemmas.Bool.{ne_eqb, ltb-true, leb-true, lt-ltb, le-leb, le-ltb, cases_lt, or_cases, or_left, or_right, and_parts, and_from}
@@ -11,7 +12,7 @@ use Rattle.cpg_cube.specs.Rising.{rises_from}
 use Rattle.cpg_cube.proofs.Rising.{rising_from, rises_by}
 use Rattle.cpg_cube.specs.Column.{Column}
 use Rattle.cpg_table.specs.Lawful.{IsLawfulLiteral, IsLawfulColumn}
-use Rattle.cpg_table.specs.declared.space.Space.{Space}
+use Rattle.cpg_table.specs.declared.space.VariableSpace.{VariableSpace}
 use Rattle.cpg_codec.specs.Reading.{down}
 use Rattle.cpg_codec.specs.Spelling.{byte, literal_bytes, column_bytes}
 use Rattle.cpg_codec.specs.Grammar.{IsSpace, limit, fault_end, is_variable, room, variable_may, low_end, high_end, literal_at, literals_at, front_at, column_at}
@@ -22,35 +23,36 @@ use Rattle.cpg_codec.proofs.WrittenHeads.{limit_some, limit_most}
 use Rattle.cpg_codec.proofs.HeadFields.{time_reads}
 
 -- a range of fault numbers that isn't whole, or one value
-abbrev pub IsRange : Bool → Space → ℕ → ℕ → Type 0
+abbrev pub IsRange : Bool → VariableSpace → ℕ → ℕ → Type 0
 IsRange true s low high = (low ≤ high) × (high ≤ s.faults) × (high ≡ s.faults → 0 < low)
 IsRange false s low high = (low ≡ high) × (high ≤ 1)
 
-pub record IsLiteral (s : Space) (l : Literal) : Type 0 where
+pub record IsLiteral (s : VariableSpace) (l : Literal) : Type 0 where
   pub allowed : is_variable s l.variable ≡ true
   pub range : IsRange (ltb l.variable 128) s l.low l.high
 
 -- literals whose variables rise strictly, the first from `least` on
-abbrev pub AreLiterals : Space → ℕ → List Literal → Type 0
+abbrev pub AreLiterals : VariableSpace → ℕ → List Literal → Type 0
 AreLiterals s least [] = Unit {0}
 AreLiterals s least (l ∷ ls) = (least ≤ l.variable) × IsLiteral s l × AreLiterals s (suc l.variable) ls
 
-pub few_fault : (s : Space) → IsSpace s → fault_end s ≤ 128
+pub few_fault : (s : VariableSpace) → IsSpace s → fault_end s ≤ 128
 few_fault s i = let a = limit_most s.faults s.processes in omega (arith, a, i.processes)
 
 -- ---- variables
 
-is_variable_cases : (s : Space) (v : ℕ) → is_variable s v ≡ true → (v < fault_end s) ⊎ ((128 ≤ v) × (v < 128 + s.conditions))
+is_variable_cases : (s : VariableSpace) (v : ℕ) → is_variable s v ≡ true → (v < fault_end s) ⊎ ((128 ≤ v) × (v < 128 + s.conditions))
 is_variable_cases s v h = elim (or_cases (ltb v (fault_end s)) (leb 128 v && ltb v (128 + s.conditions)) h) [
   | inl a ↦ inl (ltb-true v (fault_end s) a)
   | inr a ↦ let p = and_parts (leb 128 v) (ltb v (128 + s.conditions)) a in inr (leb-true 128 v p.0, ltb-true v (128 + s.conditions) p.1)
 ]
 
-is_fault_variable : (s : Space) (v : ℕ) → v < fault_end s → is_variable s v ≡ true
+is_fault_variable : (s : VariableSpace) (v : ℕ) → v < fault_end s → is_variable s v ≡ true
 is_fault_variable s v h = or_left (ltb v (fault_end s)) (leb 128 v && ltb v (128 + s.conditions)) (lt-ltb v (fault_end s) h)
 
-is_value_variable : (s : Space) (v : ℕ) → 128 ≤ v → v < 128 + s.conditions → is_variable s v ≡ true
-is_value_variable s v a b = or_right (ltb v (fault_end s)) (leb 128 v && ltb v (128 + s.conditions)) (and_from (leb 128 v) (ltb v (128 + s.conditions)) (le-leb 128 v a) (lt-ltb v (128 + s.conditions) b))
+is_value_variable : (s : VariableSpace) (v : ℕ) → 128 ≤ v → v < 128 + s.conditions → is_variable s v ≡ true
+is_value_variable s v a b = or_right (ltb v (fault_end s)) (leb 128 v && ltb v (128 + s.conditions))
+    (and_from (leb 128 v) (ltb v (128 + s.conditions)) (le-leb 128 v a) (lt-ltb v (128 + s.conditions) b))
 
 step_fault : (e c least v : ℕ) → e ≤ 128 → least ≤ v → v < e → suc ((e - suc v) + ((128 + c) - max 128 (suc v))) ≤ (e - least) + ((128 + c) - max 128 least)
 step_fault e c least v few le h = omega arith
@@ -59,7 +61,7 @@ step_value : (e c least v : ℕ) → e ≤ 128 → least ≤ v → 128 ≤ v →
 step_value e c least v few le a b = omega arith
 
 -- each allowed variable takes room
-pub room_step : (s : Space) (least v : ℕ) → fault_end s ≤ 128 → least ≤ v → is_variable s v ≡ true → suc (room s (suc v)) ≤ room s least
+pub room_step : (s : VariableSpace) (least v : ℕ) → fault_end s ≤ 128 → least ≤ v → is_variable s v ≡ true → suc (room s (suc v)) ≤ room s least
 room_step s least v few le h = elim (is_variable_cases s v h) [
   | inl a ↦ step_fault (fault_end s) s.conditions least v few le a
   | inr a ↦ step_value (fault_end s) s.conditions least v few le a.0 a.1
@@ -75,13 +77,13 @@ some_there : (e c least : ℕ) → e ≤ least → 0 < (e - least) + ((128 + c) 
 some_there e c least h some = omega arith
 
 -- if there is room, there is a variable that takes no more than its own
-room_some : (s : Space) (least : ℕ) → fault_end s ≤ 128 → 0 < room s least → (v : ℕ) × (least ≤ v) × (is_variable s v ≡ true) × (room s least ≤ suc (room s (suc v)))
+room_some : (s : VariableSpace) (least : ℕ) → fault_end s ≤ 128 → 0 < room s least → (v : ℕ) × (least ≤ v) × (is_variable s v ≡ true) × (room s least ≤ suc (room s (suc v)))
 room_some s least few some = elim (cases_lt least (fault_end s)) [
   | inl h ↦ (least, omega arith, is_fault_variable s least h, some_fault (fault_end s) s.conditions least few h)
   | inr h ↦ (max 128 least, omega arith, is_value_variable s (max 128 least) (omega arith) (some_there (fault_end s) s.conditions least h some), some_value (fault_end s) s.conditions least few h)
 ]
 
-pub literals_room : (s : Space) (least : ℕ) (ls : List Literal) → fault_end s ≤ 128 → AreLiterals s least ls → length ls ≤ room s least
+pub literals_room : (s : VariableSpace) (least : ℕ) (ls : List Literal) → fault_end s ≤ 128 → AreLiterals s least ls → length ls ≤ room s least
 literals_room s least [] few h = omega arith
 literals_room s least (l ∷ ls) few h =
     let a = literals_room s (suc l.variable) ls few h.2 in
@@ -90,7 +92,7 @@ literals_room s least (l ∷ ls) few h =
 
 -- ---- literals
 
-pub fault_some : (s : Space) (v : ℕ) → is_variable s v ≡ true → ltb v 128 ≡ true → 0 < s.faults
+pub fault_some : (s : VariableSpace) (v : ℕ) → is_variable s v ≡ true → ltb v 128 ≡ true → 0 < s.faults
 fault_some s v h lt = elim (is_variable_cases s v h) [
   | inl a ↦ limit_some s.faults s.processes (suc v) a (omega arith)
   | inr a ↦ absurd (let b : v < 128 = ltb-true v 128 lt in omega (arith, a.0))
@@ -119,12 +121,12 @@ high_small true k zero le h = omega arith
 high_small true k (suc low) le h = rw top_suc (omega arith)
 high_small false k low le h = omega arith
 
-pub range_to : (t : Bool) (s : Space) (low high : ℕ) → (t ≡ true → 0 < s.faults) → low ≤ low_top t s.faults → low ≤ high → high ≤ high_top t s.faults low → IsRange t s low high
+pub range_to : (t : Bool) (s : VariableSpace) (low high : ℕ) → (t ≡ true → 0 < s.faults) → low ≤ low_top t s.faults → low ≤ high → high ≤ high_top t s.faults low → IsRange t s low high
 range_to true s zero high some a b c = let k = some refl in (b, omega arith, λ e. omega arith)
 range_to true s (suc low) high some a b c = (b, subst (λ (x : ℕ). high ≤ x) (top_suc s.faults low) c, λ e. omega arith)
 range_to false s low high some a b c = (omega arith, omega arith)
 
-range_from : (t : Bool) (s : Space) (low high : ℕ) → IsRange t s low high → (low ≤ low_top t s.faults) × (low ≤ high) × (high ≤ high_top t s.faults low)
+range_from : (t : Bool) (s : VariableSpace) (low high : ℕ) → IsRange t s low high → (low ≤ low_top t s.faults) × (low ≤ high) × (high ≤ high_top t s.faults low)
 range_from true s zero high r = (omega arith, r.0, not_whole s.faults high r.1 r.2) where
   not_whole : (k h : ℕ) → h ≤ k → (h ≡ k → 0 < 0) → h ≤ k - 1
   not_whole k h le e = elim (cases_lt h k) [ inl lt ↦ omega arith | inr ge ↦ let q : 0 < 0 = e (omega arith) in absurd (omega (arith, q)) ]
@@ -132,21 +134,21 @@ range_from true s (suc low) high r = (omega (arith, r.0, r.1), r.0, rw top_suc r
 range_from false s low high r = (omega (arith, r.0, r.1), omega (arith, r.0), omega (arith, r.0))
 
 -- a literal with `left` more behind it
-pub record FitsLiteral (s : Space) (left least : ℕ) (l : Literal) : Type 0 where
+pub record FitsLiteral (s : VariableSpace) (left least : ℕ) (l : Literal) : Type 0 where
   pub rises : least ≤ l.variable
   pub lawful : IsLiteral s l
   pub leaves : left ≤ room s (suc l.variable)
 
-may_from : (s : Space) (least left v : ℕ) → least ≤ v → is_variable s v ≡ true → left ≤ room s (suc v) → variable_may s least left v ≡ true
+may_from : (s : VariableSpace) (least left v : ℕ) → least ≤ v → is_variable s v ≡ true → left ≤ room s (suc v) → variable_may s least left v ≡ true
 may_from s least left v a b c = and_from (leb least v && is_variable s v) (leb left (room s (suc v))) (and_from (leb least v) (is_variable s v) (le-leb least v a) b) (le-leb left (room s (suc v)) c)
 
-pub may_to : (s : Space) (least left v : ℕ) → variable_may s least left v ≡ true → (least ≤ v) × (is_variable s v ≡ true) × (left ≤ room s (suc v))
+pub may_to : (s : VariableSpace) (least left v : ℕ) → variable_may s least left v ≡ true → (least ≤ v) × (is_variable s v ≡ true) × (left ≤ room s (suc v))
 may_to s least left v h =
     let p = and_parts (leb least v && is_variable s v) (leb left (room s (suc v))) h in
     let q = and_parts (leb least v) (is_variable s v) p.0 in
     (leb-true least v q.0, q.1, leb-true left (room s (suc v)) p.1)
 
-pub literal_reads : (s : Space) (left least : ℕ) → IsSpace s → left < room s least → Reads (FitsLiteral s left least) literal_bytes (literal_at s left least)
+pub literal_reads : (s : VariableSpace) (left least : ℕ) → IsSpace s → left < room s least → Reads (FitsLiteral s left least) literal_bytes (literal_at s left least)
 unfolding literal_at
 literal_reads s left least i there =
     let v0 = room_some s least (few_fault s i) (omega arith) in
@@ -173,11 +175,11 @@ down_head l ls e = (cc, cc)
 down_self : (n : ℕ) → down n ≡ down (length (down n))
 down_self n = ap down (sym (down_is n))
 
-pub record LiteralsFor (s : Space) (count least : ℕ) (ls : List Literal) : Type 0 where
+pub record LiteralsFor (s : VariableSpace) (count least : ℕ) (ls : List Literal) : Type 0 where
   pub count_is : length ls ≡ count
   pub lawful : AreLiterals s least ls
 
-pub literals_reads : (s : Space) (count : ℕ) → IsSpace s → count ≤ room s 0 → Reads (LiteralsFor s count 0) (flat_map literal_bytes) (literals_at s count)
+pub literals_reads : (s : VariableSpace) (count : ℕ) → IsSpace s → count ≤ room s 0 → Reads (LiteralsFor s count 0) (flat_map literal_bytes) (literals_at s count)
 unfolding literals_at
 literals_reads s count i le =
     adapt
@@ -205,7 +207,7 @@ limit_up : (k p v : ℕ) → 0 < k → v < p → v < limit k p
 limit_up zero p v some lt = absurd (omega arith)
 limit_up (suc k) p v some lt = lt
 
-literal_to : (s : Space) (l : Literal) → IsSpace s → IsLiteral s l → IsLawfulLiteral s l
+literal_to : (s : VariableSpace) (l : Literal) → IsSpace s → IsLiteral s l → IsLawfulLiteral s l
 literal_to s l i h = elim (is_variable_cases s l.variable h.allowed) [
   | inl a ↦
       let few = few_fault s i in
@@ -221,7 +223,7 @@ some_faults : (k low high : ℕ) → low ≤ high → high ≤ k → (high ≡ k
 some_faults zero low high a b c = let h : 0 < low = c (omega arith) in absurd (omega arith)
 some_faults (suc k) low high a b c = omega arith
 
-literal_from : (s : Space) (l : Literal) → IsSpace s → IsLawfulLiteral s l → IsLiteral s l
+literal_from : (s : VariableSpace) (l : Literal) → IsSpace s → IsLawfulLiteral s l → IsLiteral s l
 literal_from s l i (inl h) = record {
   allowed = is_fault_variable s l.variable (limit_up s.faults s.processes l.variable (some_faults s.faults l.low l.high h.some h.within h.part) h.known);
   range = subst (λ (t : Bool). IsRange t s l.low l.high) (sym (lt-ltb l.variable 128 (omega (arith, h.known, i.processes)))) (h.some, h.within, h.part);
@@ -231,21 +233,21 @@ literal_from s l i (inr h) = record {
   range = subst (λ (t : Bool). IsRange t s l.low l.high) (sym (le-ltb l.variable 128 h.value)) (h.one, h.within);
 }
 
-literals_to : (s : Space) (least : ℕ) (ls : List Literal) → IsSpace s → AreLiterals s least ls → AllByRecursion (IsLawfulLiteral s) ls × (rises_from least ls ≡ true)
+literals_to : (s : VariableSpace) (least : ℕ) (ls : List Literal) → IsSpace s → AreLiterals s least ls → AllByRecursion (IsLawfulLiteral s) ls × (rises_from least ls ≡ true)
 literals_to s least [] i h = (tt, refl)
 literals_to s least (l ∷ ls) i h =
     let r = literals_to s (suc l.variable) ls i h.2 in
     let e : suc l.variable ≡ l.variable + 1 = omega arith in
     ((literal_to s l i h.1, r.0), and_from (leb least l.variable) (rises_from (l.variable + 1) ls) (le-leb least l.variable h.0) (subst (λ (n : ℕ). rises_from n ls ≡ true) e r.1))
 
-literals_from : (s : Space) (least : ℕ) (ls : List Literal) → IsSpace s → AllByRecursion (IsLawfulLiteral s) ls → rises_from least ls ≡ true → AreLiterals s least ls
+literals_from : (s : VariableSpace) (least : ℕ) (ls : List Literal) → IsSpace s → AllByRecursion (IsLawfulLiteral s) ls → rises_from least ls ≡ true → AreLiterals s least ls
 literals_from s least [] i h r = tt
 literals_from s least (l ∷ ls) i h r =
     let p = and_parts (leb least l.variable) (rises_from (l.variable + 1) ls) r in
     let e : l.variable + 1 ≡ suc l.variable = omega arith in
     (leb-true least l.variable p.0, literal_from s l i h.0, literals_from s (suc l.variable) ls i h.1 (subst (λ (n : ℕ). rises_from n ls ≡ true) e p.1))
 
-pub column_literals : (s : Space) (c : Column) → IsSpace s → IsLawfulColumn s c → AreLiterals s 0 c.cube
+pub column_literals : (s : VariableSpace) (c : Column) → IsSpace s → IsLawfulColumn s c → AreLiterals s 0 c.cube
 column_literals s c i h = literals_from s 0 c.cube i (recursion_from_All (IsLawfulLiteral s) c.cube h.literals) (rises_by 0 c.cube h.rising (λ l q. omega arith))
 
 regroup_3 : (a b c : List ℕ) → a ++ (b ++ (c ++ [])) ≡ a ++ b ++ c
@@ -254,7 +256,7 @@ regroup_3 a b c = simp (append_assoc, append-nil)
 room_small : (e c : ℕ) → e ≤ 128 → c ≤ 32 → (e - 0) + ((128 + c) - max 128 0) < 256
 room_small e c a b = omega arith
 
-pub front_reads : (s : Space) → IsSpace s → Reads (λ (f : ℕ × ℕ). (f.0 < 2 ^ 60) × (f.1 ≤ room s 0)) (λ (f : ℕ × ℕ). to_be_bytes w64 f.0 ++ byte f.1) (front_at s)
+pub front_reads : (s : VariableSpace) → IsSpace s → Reads (λ (f : ℕ × ℕ). (f.0 < 2 ^ 60) × (f.1 ≤ room s 0)) (λ (f : ℕ × ℕ). to_be_bytes w64 f.0 ++ byte f.1) (front_at s)
 unfolding front_at
 front_reads s i =
     adapt
@@ -267,7 +269,7 @@ front_reads s i =
     (λ f h. (h.0, ((omega arith, h.1), refl)))
     (λ f h. refl)
 
-pub column_reads : (s : Space) → IsSpace s → Reads (IsLawfulColumn s) column_bytes (column_at s)
+pub column_reads : (s : VariableSpace) → IsSpace s → Reads (IsLawfulColumn s) column_bytes (column_at s)
 unfolding column_at
 column_reads s i =
     adapt
@@ -281,7 +283,7 @@ column_reads s i =
     (λ c h. regroup_3 (to_be_bytes w64 c.time) (byte (length c.cube)) (flat_map literal_bytes c.cube))
 
 -- literals that were read rise
-pub literals_rise : (s : Space) (count : ℕ) (bytes : List ℕ) (ls : List Literal) (rest : List ℕ) → IsSpace s → count ≤ room s 0 → literals_at s count bytes ≡ Ok (ls, rest) → IsRising ls
+pub literals_rise : (s : VariableSpace) (count : ℕ) (bytes : List ℕ) (ls : List Literal) (rest : List ℕ) → IsSpace s → count ≤ room s 0 → literals_at s count bytes ≡ Ok (ls, rest) → IsRising ls
 literals_rise s count bytes ls rest i le e =
     let k = (literals_reads s count i le).takes bytes ls rest e in
     rising_from 0 ls (literals_to s 0 ls i k.0.lawful).1

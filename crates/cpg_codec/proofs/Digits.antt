@@ -12,7 +12,8 @@ use Rattle.cpg_codec.proofs.Numbers.{field_reads}
 
 -- ---- one digit
 
-digit_good : (low high w n b : ℕ) (rest : List ℕ) → b < 256 → low < (n * 256 + b + 1) * 256 ^ w → (n * 256 + b) * 256 ^ w ≤ high → digits_at (within low high) (suc w) n (b ∷ rest) ≡ digits_at (within low high) w (n * 256 + b) rest
+digit_good : (low high w n b : ℕ) (rest : List ℕ) → b < 256 → low < (n * 256 + b + 1) * 256 ^ w → (n * 256 + b) * 256 ^ w ≤ high →
+    digits_at (within low high) (suc w) n (b ∷ rest) ≡ digits_at (within low high) w (n * 256 + b) rest
 unfolding digits_at
 digit_good low high w n b rest lt lo le =
     let t : digit_may (within low high) w n b ≡ true = and_from (ltb b 256) (within low high ((n * 256 + b) * 256 ^ w) ((n * 256 + b + 1) * 256 ^ w)) (lt-ltb b 256 lt)
@@ -35,7 +36,8 @@ digit_bad low high w n b rest lt =
 
 -- ---- the same at a slice, if k digits are left
 
-pub digit_goes_on : (low high k w n : ℕ) (bytes : List ℕ) → k ≡ suc w → 1 ≤ length bytes → get_or bytes 0 0 < 256 → low < (n * 256 + get_or bytes 0 0 + 1) * 256 ^ w → (n * 256 + get_or bytes 0 0) * 256 ^ w ≤ high
+pub digit_goes_on : (low high k w n : ℕ) (bytes : List ℕ) → k ≡ suc w → 1 ≤ length bytes → get_or bytes 0 0 < 256 → low < (n * 256 + get_or bytes 0 0 + 1) * 256 ^ w →
+    (n * 256 + get_or bytes 0 0) * 256 ^ w ≤ high
     → digits_at (within low high) k n bytes ≡ digits_at (within low high) w (n * 256 + get_or bytes 0 0) (take (length bytes - 1) (drop 1 bytes))
 digit_goes_on low high k w n [] e some lt lo le = absurd (omega arith)
 digit_goes_on low high k w n (b ∷ rest) e some lt lo le =
@@ -47,7 +49,8 @@ pub digit_stops : (low high k w n : ℕ) (bytes : List ℕ) → k ≡ suc w → 
 digit_stops low high k w n [] e some lt = absurd (omega arith)
 digit_stops low high k w n (b ∷ rest) e some lt = rw e (digit_bad low high w n b rest lt)
 
-pub digit_falls_short : (low high k w n : ℕ) (bytes : List ℕ) → k ≡ suc w → 1 ≤ length bytes → (n * 256 + get_or bytes 0 0 + 1) * 256 ^ w ≤ low → digits_at (within low high) k n bytes ≡ Err (length bytes)
+pub digit_falls_short : (low high k w n : ℕ) (bytes : List ℕ) → k ≡ suc w → 1 ≤ length bytes → (n * 256 + get_or bytes 0 0 + 1) * 256 ^ w ≤ low →
+    digits_at (within low high) k n bytes ≡ Err (length bytes)
 digit_falls_short low high k w n [] e some le = absurd (omega arith)
 digit_falls_short low high k w n (b ∷ rest) e some le = rw e (digit_under low high w n b rest le)
 

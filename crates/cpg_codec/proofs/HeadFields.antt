@@ -1,5 +1,6 @@
 -- The fields of a head.
-use Rattle.std.proofs.Common.{◌≡◌, ℕ, zero, suc, ◌+◌, ◌-◌, ◌^◌, ◌<◌, ◌≤◌, Bool, true, false, cond, eqb, ltb, List, [], ◌∷◌, ◌++◌, length, Option, Some, None, refl, sym, ap, subst, ◌∙◌, append_assoc, arith, inl, inr, ◌⊎◌, ◌↔◌}
+use Rattle.std.proofs.Common.{◌≡◌, ℕ, zero, suc, ◌+◌, ◌-◌, ◌^◌, ◌<◌, ◌≤◌, Bool, true, false, cond, eqb, ltb, List, [], ◌∷◌, ◌++◌, length, Option, Some, None, refl, sym, ap, subst, ◌∙◌, append_assoc}
+use Rattle.std.proofs.Common.{arith, inl, inr, ◌⊎◌, ◌↔◌}
 use Rattle.std.specs.Prelude.{IfSome, IsTrue}
 use Rattle.std.specs.List.{flat_map, AllByRecursion}
 use Rattle.std.specs.Int.{w16, w32, w64, to_be_bytes}
@@ -16,7 +17,8 @@ use Rattle.cpg_codec.specs.Packs.{IsPackHead}
 use Rattle.cpg_codec.proofs.Laws.{Reads, pure_reads, seq, adapt, byte_reads}
 use Rattle.cpg_codec.proofs.Numbers.{IsChoice, within_chooses, number_reads, field_reads, small_reads}
 use Rattle.cpg_codec.proofs.Lists.{each_reads, times_reads, down_is}
-use Rattle.cpg_codec.proofs.WrittenHeads.{IsExtraOf, IsWritten, none_of, AreProcesses, version_made, written_made, made_lawful, written_length, head_again, head_processes, version_within, limit_some, limit_most, processes_limit, edges_limit}
+use Rattle.cpg_codec.proofs.WrittenHeads.{IsExtraOf, IsWritten, none_of, AreProcesses, version_made, written_made, made_lawful, written_length, head_again, head_processes, version_within, limit_some}
+use Rattle.cpg_codec.proofs.WrittenHeads.{limit_most, processes_limit, edges_limit}
 
 -- ---- names
 
@@ -56,7 +58,8 @@ own_chooses = record {
   ];
   all = λ from below n a b l. elim l [
     | inl h ↦ or_left (within 0 1000000000 from below) (within 18446744073709551615 18446744073709551615 from below) ((within_chooses 0 1000000000 (omega arith)).all from below n a b h)
-    | inr h ↦ or_right (within 0 1000000000 from below) (within 18446744073709551615 18446744073709551615 from below) ((within_chooses 18446744073709551615 18446744073709551615 (omega arith)).all from below n a b h)
+    | inr h ↦ or_right (within 0 1000000000 from below) (within 18446744073709551615 18446744073709551615 from below)
+        ((within_chooses 18446744073709551615 18446744073709551615 (omega arith)).all from below n a b h)
   ];
 }
 
@@ -186,7 +189,8 @@ abbrev make_process : List ℕ → ℕ → ℕ → List ℕ → Option Extra →
 make_process n a c ts e = record { process = record { name = n; node = a; condition = eqb c 1; times = ts }; extra = e }
 
 same_process : (w : Written) → w ≡ make_process w.process.name w.process.node (bit w.process.condition) w.process.times w.extra
-same_process w = ap (λ (c : Bool). record { process = record { name = w.process.name; node = w.process.node; condition = c; times = w.process.times }; extra = w.extra }) (sym (flag_is w.process.condition))
+same_process w = ap (λ (c : Bool). record { process = record { name = w.process.name; node = w.process.node; condition = c; times = w.process.times }; extra = w.extra })
+    (sym (flag_is w.process.condition))
 
 -- a process behind `ones` processes with a condition
 abbrev pub FitsBehind : ℕ → ℕ → ℕ → ℕ → Written → Type 0
@@ -205,7 +209,8 @@ place_reads nodes ones some few =
     (λ p h. ((omega arith, h.0), ((omega arith, h.1), refl)))
     (λ p h. refl)
 
-pub process_reads : (version faults nodes ones : ℕ) → 1 ≤ version → version ≤ 2 → 0 < nodes → nodes ≤ 16 → ones ≤ 32 → Reads (FitsBehind version faults nodes ones) process_bytes (process_at version faults nodes ones)
+pub process_reads : (version faults nodes ones : ℕ) → 1 ≤ version → version ≤ 2 → 0 < nodes → nodes ≤ 16 → ones ≤ 32 →
+    Reads (FitsBehind version faults nodes ones) process_bytes (process_at version faults nodes ones)
 unfolding process_at
 process_reads version faults nodes ones v1 v2 some few le =
     adapt
@@ -218,11 +223,26 @@ process_reads version faults nodes ones v1 v2 some few le =
     (λ ts w fts h. ap (λ (q : Written). q.process.times) h.1))
     (λ a w fa h. ap (λ (q : Written). (q.process.node, bit q.process.condition)) h.1.1 ∙ ap (λ (c : ℕ). (a.0, c)) (flag_back a.1 ones fa.1)))
     (λ n w fn h. ap (λ (q : Written). q.process.name) h.1.1.1))
-    (λ w h. (record { process = record { node = omega (arith, h.1.0.0); count = h.1.1.0.0; times = All-from_recursion (λ (t : ℕ). t < 2 ^ 60) w.process.times h.1.1.0.1 }; name = h.0; extra = h.1.1.1.0 }, (flag_limit ones w.process.condition le).0 h.1.0.1))
-    (λ w h. (h.0.name, ((omega (arith, h.0.process.node), (flag_limit ones w.process.condition le).1 h.1), ((h.0.process.count, recursion_from_All (λ (t : ℕ). t < 2 ^ 60) w.process.times h.0.process.times), (h.0.extra, same_process w)))))
+    (λ w h. (
+      record {
+        process = record { node = omega (arith, h.1.0.0); count = h.1.1.0.0; times = All-from_recursion (λ (t : ℕ). t < 2 ^ 60) w.process.times h.1.1.0.1 };
+        name = h.0;
+        extra =
+            h.1.1.1.0;
+      },
+      (flag_limit ones w.process.condition le).0 h.1.0.1,
+    ))
+    (λ w h. (
+      h.0.name,
+      (
+        (omega (arith, h.0.process.node), (flag_limit ones w.process.condition le).1 h.1),
+        ((h.0.process.count, recursion_from_All (λ (t : ℕ). t < 2 ^ 60) w.process.times h.0.process.times), (h.0.extra, same_process w)),
+      ),
+    ))
     (λ w h. regroup_5 (name_bytes w.process.name) (byte w.process.node) (byte (bit w.process.condition)) (flat_map (to_be_bytes w64) w.process.times) (extra_bytes w.extra))
 
-pub processes_reads : (version faults nodes count : ℕ) → 1 ≤ version → version ≤ 2 → nodes ≤ 16 → count ≤ limit nodes 128 → Reads (AreProcesses version faults nodes count 0) (flat_map process_bytes) (processes_at version faults nodes count)
+pub processes_reads : (version faults nodes count : ℕ) → 1 ≤ version → version ≤ 2 → nodes ≤ 16 → count ≤ limit nodes 128 →
+    Reads (AreProcesses version faults nodes count 0) (flat_map process_bytes) (processes_at version faults nodes count)
 unfolding processes_at
 processes_reads version faults nodes count v1 v2 few le =
     adapt
@@ -234,7 +254,8 @@ processes_reads version faults nodes count v1 v2 few le =
     (λ ones w ws g. absurd (let h : suc (length ws) ≡ 0 = g.count_is in omega arith))
     (λ l ls ones g. absurd (let h : 0 ≡ suc (length ls) = g.count_is in omega arith))
     (λ l ls ones w ws i f g. record { count_is = ap suc g.count_is; each = (f.0, g.each); conditions = omega (arith, g.conditions) })
-    (λ l ls ones w ws i g. let h : suc (length ws) ≡ suc (length ls) = g.count_is in ((g.each.0, omega (arith, g.conditions)), record { count_is = omega arith; each = g.each.1; conditions = omega (arith, g.conditions) }))
+    (λ l ls ones w ws i g. let h : suc (length ws) ≡ suc (length ls) = g.count_is in
+    ((g.each.0, omega (arith, g.conditions)), record { count_is = omega arith; each = g.each.1; conditions = omega (arith, g.conditions) }))
     (down count) 0 (omega arith, λ h. limit_some nodes 128 count le (omega (arith, down_is count))))
     (λ ws g. record { count_is = g.count_is ∙ down_is count; each = g.each; conditions = g.conditions })
     (λ ws g. record { count_is = g.count_is ∙ sym (down_is count); each = g.each; conditions = g.conditions })
@@ -257,8 +278,12 @@ edge_reads processes some few =
 
 -- ---- the head
 
-head_spell : (h : Head) → to_be_bytes w32 magic ++ (byte (version_of h) ++ (byte h.faults ++ (byte (length h.nodes) ++ (flat_map name_bytes h.nodes ++ (byte (length h.processes) ++ (flat_map process_bytes (written h) ++ (to_be_bytes w16 (length h.edges) ++ (flat_map edge_bytes h.edges ++ [])))))))) ≡ head_bytes h
-head_spell h = regroup_9 (to_be_bytes w32 magic) (byte (version_of h)) (byte h.faults) (byte (length h.nodes)) (flat_map name_bytes h.nodes) (byte (length h.processes)) (flat_map process_bytes (written h)) (to_be_bytes w16 (length h.edges)) (flat_map edge_bytes h.edges)
+head_spell : (h : Head) → to_be_bytes w32 magic ++
+    (byte (version_of h) ++ (byte h.faults ++
+    (byte (length h.nodes) ++ (flat_map name_bytes h.nodes ++
+    (byte (length h.processes) ++ (flat_map process_bytes (written h) ++ (to_be_bytes w16 (length h.edges) ++ (flat_map edge_bytes h.edges ++ [])))))))) ≡ head_bytes h
+head_spell h = regroup_9 (to_be_bytes w32 magic) (byte (version_of h)) (byte h.faults) (byte (length h.nodes)) (flat_map name_bytes h.nodes) (byte (length h.processes))
+    (flat_map process_bytes (written h)) (to_be_bytes w16 (length h.edges)) (flat_map edge_bytes h.edges)
 
 -- the fields in their order, as they stand in a head
 record Parts (h : Head) : Type 0 where

@@ -98,7 +98,8 @@ module _ {A X : Type 0} (F1 : A → Type 0) (s1 : A → List ℕ) (r1 : Reader A
         let u = (two o.0.0 t.0).takes o.0.1 x rest o.2 in
         (from_first o.0.0 x t.0 u.0, t.1 ∙ ap (λ (l : List ℕ). s1 o.0.0 ++ l) u.1 ∙ sym (append_assoc (s1 o.0.0) (s2 o.0.0 x) rest) ∙ ap (λ (l : List ℕ). l ++ rest) (sym (both_is o.0.0 x t.0 u.0)));
     again = λ x rest h.
-        ap (λ (t : List ℕ). onward r2 (r1 t)) (append_assoc (s1 (first x)) (s2 (first x) x) rest) ∙ ap (onward r2) (one.again (first x) (s2 (first x) x ++ rest) h.0) ∙ (two (first x) h.0).again x rest h.1;
+        ap (λ (t : List ℕ). onward r2 (r1 t)) (append_assoc (s1 (first x)) (s2 (first x) x) rest) ∙ ap (onward r2) (one.again (first x) (s2 (first x) x ++ rest) h.0) ∙
+        (two (first x) h.0).again x rest h.1;
     stops = λ bytes left e. elim (onward_err r2 (r1 bytes) left e) [
       | inl d ↦ stop_first bytes left (one.stops bytes left d)
       | inr o ↦ let t = one.takes bytes o.0.0 o.0.1 o.1 in stop_second bytes left o.0.0 o.0.1 t.0 t.1 ((two o.0.0 t.0).stops o.0.1 left o.2)
@@ -138,11 +139,13 @@ byte_step ok b bytes h = rw h refl
 byte_stop : (ok : ℕ → Bool) (b : ℕ) (bytes : List ℕ) → ok b ≡ false → byte_by ok (b ∷ bytes) ≡ Err (suc (length bytes))
 byte_stop ok b bytes h = rw h refl
 
-byte_took : (ok : ℕ → Bool) (b : ℕ) (bytes : List ℕ) (c : ℕ) (rest : List ℕ) (t : Bool) → t ≡ ok b → cond {A = Result (ℕ × List ℕ) ℕ} t (Ok (b, bytes)) (Err (suc (length bytes))) ≡ done (c, rest) → (ok c ≡ true) × (b ∷ bytes ≡ c ∷ rest)
+byte_took : (ok : ℕ → Bool) (b : ℕ) (bytes : List ℕ) (c : ℕ) (rest : List ℕ) (t : Bool) → t ≡ ok b → cond {A = Result (ℕ × List ℕ) ℕ} t (Ok (b, bytes)) (Err (suc (length bytes))) ≡ done (c, rest) →
+    (ok c ≡ true) × (b ∷ bytes ≡ c ∷ rest)
 byte_took ok b bytes c rest true h e = let k = ok_is (b, bytes) (c, rest) e in (subst (λ (x : ℕ). ok x ≡ true) (ap (λ (p : ℕ × List ℕ). p.0) k) (sym h), ap (λ (p : ℕ × List ℕ). p.0 ∷ p.1) k)
 byte_took ok b bytes c rest false h e = absurd cc
 
-byte_not : (ok : ℕ → Bool) (b : ℕ) (bytes : List ℕ) (left : ℕ) (t : Bool) → t ≡ ok b → cond {A = Result (ℕ × List ℕ) ℕ} t (Ok (b, bytes)) (Err (suc (length bytes))) ≡ Err left → (ok b ≡ false) × (left ≡ suc (length bytes))
+byte_not : (ok : ℕ → Bool) (b : ℕ) (bytes : List ℕ) (left : ℕ) (t : Bool) → t ≡ ok b → cond {A = Result (ℕ × List ℕ) ℕ} t (Ok (b, bytes)) (Err (suc (length bytes))) ≡ Err left → (ok b ≡ false) ×
+    (left ≡ suc (length bytes))
 byte_not ok b bytes left true h e = absurd cc
 byte_not ok b bytes left false h e = (sym h, cc)
 
@@ -154,7 +157,18 @@ byte_stops : (ok : ℕ → Bool) (some : ℕ) (fits : ok some ≡ true) (bytes :
 byte_stops ok some fits [] left e = record { good = []; bad = []; whole = refl; left_is = cc; value = some; fits = fits; more = some ∷ []; goes_on = refl; stays = λ b tail after h. absurd cc }
 byte_stops ok some fits (b ∷ bytes) left e =
     let n = byte_not ok b bytes left (ok b) refl e in
-    record { good = []; bad = b ∷ bytes; whole = refl; left_is = n.1; value = some; fits = fits; more = some ∷ []; goes_on = refl; stays = λ c tail after h. byte_stop ok c after (let q : b ≡ c = cc in subst (λ (x : ℕ). ok x ≡ false) q n.0) }
+    record {
+      good = [];
+      bad = b ∷ bytes;
+      whole = refl;
+      left_is = n.1;
+      value = some;
+      fits = fits;
+      more = some ∷ [];
+      goes_on = refl;
+      stays =
+          λ c tail after h. byte_stop ok c after (let q : b ≡ c = cc in subst (λ (x : ℕ). ok x ≡ false) q n.0);
+    }
 
 pub byte_reads : (ok : ℕ → Bool) (some : ℕ) → ok some ≡ true → Reads (λ b. ok b ≡ true) (λ b. b ∷ []) (byte_by ok)
 byte_reads ok some fits = record {

@@ -13,7 +13,7 @@ use Rattle.cpg_cube.specs.declared.literal.Literal.{Literal}
 use Rattle.cpg_head.specs.Head.{Head, IsHead, IsHeadProcess, version_of}
 use Rattle.cpg_head.specs.declared.head_parts.HeadProcess.{HeadProcess}
 use Rattle.cpg_head.specs.declared.head_parts.Extra.{Extra}
-use Rattle.cpg_table.specs.declared.space.Space.{Space}
+use Rattle.cpg_table.specs.declared.space.VariableSpace.{VariableSpace}
 use Rattle.cpg_table.specs.Items.{numbers_where, conditioned, starts_of, sends_of, hears_of, leaves, enters, first_message, first_broadcast}
 use Rattle.cpg_table.specs.Lawful.{IsLawfulColumn, IsLawfulRow, IsTableOf, column_count, rows_of, space_of}
 use Rattle.cpg_table.specs.Table.{Row, NodeTable, table_at}
@@ -21,7 +21,8 @@ use Rattle.cpg_cube.specs.Column.{Column}
 use Rattle.cpg_codec.specs.Grammar.{IsSpace, fault_end}
 use Rattle.cpg_codec.specs.Lengths.{AllShort}
 use Rattle.cpg_codec.specs.Packs.{IsPackHead}
-use Rattle.cpg_codec.specs.Spelling.{head_bytes, name_bytes, process_bytes, extra_bytes, edge_bytes, literal_bytes, column_bytes, row_bytes, table_bytes, byte, bit, own_number, magic, Written, written, written_by}
+use Rattle.cpg_codec.specs.Spelling.{head_bytes, name_bytes, process_bytes, extra_bytes, edge_bytes, literal_bytes, column_bytes, row_bytes, table_bytes, byte, bit, own_number, magic, Written}
+use Rattle.cpg_codec.specs.Spelling.{written, written_by}
 use Rattle.cpg_codec.proofs.TableFields.{head_space}
 use Rattle.cpg_codec.proofs.ColumnFields.{few_fault, literals_room, column_literals}
 
@@ -65,31 +66,32 @@ literals_long ls = pieces literal_bytes 3 ls (each ls) where
   each (l ∷ ls) = (literal_long l, each ls)
 
 -- a cube has a literal for each variable at most
-column_room : (s : Space) (c : Column) → IsSpace s → IsLawfulColumn s c → length c.cube ≤ 160
+column_room : (s : VariableSpace) (c : Column) → IsSpace s → IsLawfulColumn s c → length c.cube ≤ 160
 column_room s c i h = within (fault_end s) s.conditions (length c.cube) (few_fault s i) i.conditions (literals_room s 0 c.cube (few_fault s i) (column_literals s c i h))
   where
     within : (e k n : ℕ) → e ≤ 128 → k ≤ 32 → n ≤ (e - 0) + ((128 + k) - max 128 0) → n ≤ 160
     within e k n a b r = omega arith
 
-column_long : (s : Space) → IsSpace s → (c : Column) → IsLawfulColumn s c → length (column_bytes c) ≤ 489
+column_long : (s : VariableSpace) → IsSpace s → (c : Column) → IsLawfulColumn s c → length (column_bytes c) ≤ 489
 column_long s i c h =
     let parts = three (to_be_bytes w64 c.time) (byte (length c.cube)) (flat_map literal_bytes c.cube) in
     let literals = literals_long c.cube in
     let room = column_room s c i h in
     omega (arith, parts, literals, room)
 
-row_long : (s : Space) → IsSpace s → (r : Row) → IsLawfulRow s r → length (row_bytes r) ≤ length r.columns * 489 + 2
+row_long : (s : VariableSpace) → IsSpace s → (r : Row) → IsLawfulRow s r → length (row_bytes r) ≤ length r.columns * 489 + 2
 row_long s i r h =
     let parts = length-append (to_be_bytes w16 (length r.columns)) (flat_map column_bytes r.columns) in
     let columns = all_pieces (IsLawfulColumn s) column_bytes 489 r.columns (column_long s i) h.columns in
     omega (arith, parts, columns)
 
-rows_long : (s : Space) → IsSpace s → (rows : List Row) → AllByRecursion (IsLawfulRow s) rows → length (flat_map row_bytes rows) ≤ column_count rows * 489 + length rows * 2
+rows_long : (s : VariableSpace) → IsSpace s → (rows : List Row) → AllByRecursion (IsLawfulRow s) rows → length (flat_map row_bytes rows) ≤ column_count rows * 489 + length rows * 2
 rows_long s i [] h = omega arith
 rows_long s i (r ∷ rows) h =
     let one = row_long s i r h.0 in
     let rest = rows_long s i rows h.1 in
-    let parts : length (flat_map row_bytes (r ∷ rows)) ≡ length (row_bytes r) + length (flat_map row_bytes rows) = ap length (flat_map-cons row_bytes r rows) ∙ length-append (row_bytes r) (flat_map row_bytes rows) in
+    let parts : length (flat_map row_bytes (r ∷ rows)) ≡ length (row_bytes r) + length (flat_map row_bytes rows) = ap length (flat_map-cons row_bytes r rows) ∙
+    length-append (row_bytes r) (flat_map row_bytes rows) in
     let counts : column_count (r ∷ rows) ≡ length r.columns + column_count rows = sum_by-cons (λ row. length row.columns) r rows in
     omega (arith, one, rest, parts, counts)
 
@@ -150,7 +152,8 @@ tables_long : (ts : List NodeTable) → AllByRecursion IsLong ts → length (fla
 tables_long [] h = omega arith
 tables_long (t ∷ ts) h =
     let rest = tables_long ts h.1 in
-    let parts : length (flat_map table_bytes (t ∷ ts)) ≡ length (table_bytes t) + length (flat_map table_bytes ts) = ap length (flat_map-cons table_bytes t ts) ∙ length-append (table_bytes t) (flat_map table_bytes ts) in
+    let parts : length (flat_map table_bytes (t ∷ ts)) ≡ length (table_bytes t) + length (flat_map table_bytes ts) = ap length (flat_map-cons table_bytes t ts) ∙
+    length-append (table_bytes t) (flat_map table_bytes ts) in
     let counts : sum_by (λ u. column_count (rows_of u)) (t ∷ ts) ≡ column_count (rows_of t) + sum_by (λ u. column_count (rows_of u)) ts = sum_by-cons (λ u. column_count (rows_of u)) t ts in
     omega (arith, rest, parts, counts, h.0)
 
@@ -188,13 +191,15 @@ processes_long (p ∷ ps) [] h =
     let rest = processes_long ps [] h.1 in
     let w : Written = record { process = p; extra = None } in
     let one = process_long p None h.0 in
-    let parts : length (flat_map process_bytes (w ∷ written_by ps [])) ≡ length (process_bytes w) + length (flat_map process_bytes (written_by ps [])) = ap length (flat_map-cons process_bytes w (written_by ps [])) ∙ length-append (process_bytes w) (flat_map process_bytes (written_by ps [])) in
+    let parts : length (flat_map process_bytes (w ∷ written_by ps [])) ≡ length (process_bytes w) + length (flat_map process_bytes (written_by ps [])) =
+    ap length (flat_map-cons process_bytes w (written_by ps [])) ∙ length-append (process_bytes w) (flat_map process_bytes (written_by ps [])) in
     omega (arith, rest, one, parts)
 processes_long (p ∷ ps) (e ∷ es) h =
     let rest = processes_long ps es h.1 in
     let w : Written = record { process = p; extra = Some e } in
     let one = process_long p (Some e) h.0 in
-    let parts : length (flat_map process_bytes (w ∷ written_by ps es)) ≡ length (process_bytes w) + length (flat_map process_bytes (written_by ps es)) = ap length (flat_map-cons process_bytes w (written_by ps es)) ∙ length-append (process_bytes w) (flat_map process_bytes (written_by ps es)) in
+    let parts : length (flat_map process_bytes (w ∷ written_by ps es)) ≡ length (process_bytes w) + length (flat_map process_bytes (written_by ps es)) =
+    ap length (flat_map-cons process_bytes w (written_by ps es)) ∙ length-append (process_bytes w) (flat_map process_bytes (written_by ps es)) in
     omega (arith, rest, one, parts)
 
 edges_long : (es : List (ℕ × ℕ)) → length (flat_map edge_bytes es) ≤ length es * 2
@@ -209,9 +214,12 @@ named k n (p ∷ ps) few a b = (record { name = b.0; times = let count = a.0.cou
 
 head_long : (h : Head) → IsPackHead h → length (head_bytes h) ≤ 20000
 head_long h q =
-    let parts = nine (to_be_bytes w32 magic) (byte (version_of h)) (byte h.faults) (byte (length h.nodes)) (flat_map name_bytes h.nodes) (byte (length h.processes)) (flat_map process_bytes (written h)) (to_be_bytes w16 (length h.edges)) (flat_map edge_bytes h.edges) in
+    let parts = nine (to_be_bytes w32 magic) (byte (version_of h)) (byte h.faults) (byte (length h.nodes)) (flat_map name_bytes h.nodes) (byte (length h.processes))
+    (flat_map process_bytes (written h)) (to_be_bytes w16 (length h.edges)) (flat_map edge_bytes h.edges) in
     let nodes = all_pieces IsName name_bytes 33 h.nodes name_long q.nodes in
-    let processes = processes_long h.processes (unwrap_or h.extras []) (named h.faults (length h.nodes) h.processes q.within.faults (recursion_from_All (IsHeadProcess h.faults (length h.nodes)) h.processes q.within.processes) (recursion_from_All (λ p. IsName p.name) h.processes q.processes)) in
+    let processes = processes_long h.processes (unwrap_or h.extras [])
+    (named h.faults (length h.nodes) h.processes q.within.faults (recursion_from_All (IsHeadProcess h.faults (length h.nodes)) h.processes q.within.processes)
+    (recursion_from_All (λ p. IsName p.name) h.processes q.processes)) in
     let edges = edges_long h.edges in
     omega (arith, parts, nodes, processes, edges, q.within.few_nodes, q.within.few_processes, q.within.few_edges)
 
@@ -220,6 +228,7 @@ head_long h q =
 pub all_short : AllShort
 all_short t a =
     let head = head_long t.head a.head in
-    let tables = tables_long t.nodes (recursion_from_All IsLong t.nodes (All-from_get_or IsLong t.nodes _ (λ i l. table_long t.head a.head.within i (table_at t.nodes i) (a.nodes.each i (omega (arith, l, a.nodes.count)))))) in
+    let tables = tables_long t.nodes (recursion_from_All IsLong t.nodes
+    (All-from_get_or IsLong t.nodes _ (λ i l. table_long t.head a.head.within i (table_at t.nodes i) (a.nodes.each i (omega (arith, l, a.nodes.count)))))) in
     let parts = length-append (head_bytes t.head) (flat_map table_bytes t.nodes) in
     omega (arith, head, tables, parts, a.nodes.few, a.nodes.count, a.head.within.few_nodes)

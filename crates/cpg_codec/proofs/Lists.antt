@@ -79,7 +79,8 @@ pub times_reads : {A : Type 0} (Fits : A → Type 0) (spell : A → List ℕ) (r
 times_reads Fits spell r n one =
     adapt
     (each_reads (λ (s : ℕ) x. s) (λ (l : ℕ) s. r) (λ ls s. 0 < length ls → Reads Fits spell r) (λ l ls s x. Fits x) spell (λ ls s xs. AreAll Fits (length ls) xs)
-    (λ l ls s i. i (omega arith)) (λ l ls s x i f _. i (omega arith)) (λ s i. (refl, tt)) (λ s x xs g. absurd (let h : suc (length xs) ≡ 0 = g.0 in omega arith)) (λ l ls s g. absurd (let h : 0 ≡ suc (length ls) = g.0 in omega arith))
+    (λ l ls s i. i (omega arith)) (λ l ls s x i f _. i (omega arith)) (λ s i. (refl, tt)) (λ s x xs g. absurd (let h : suc (length xs) ≡ 0 = g.0 in omega arith))
+    (λ l ls s g. absurd (let h : 0 ≡ suc (length ls) = g.0 in omega arith))
     (λ l ls s x xs i f g. (ap suc g.0, (f, g.1))) (λ l ls s x xs i g. let h : suc (length xs) ≡ suc (length ls) = g.0 in (g.1.0, (omega arith, g.1.1)))
     (down n) 0 (λ some. one (omega (arith, down_is n))))
     (λ xs g. (g.0 ∙ down_is n, g.1)) (λ xs g. (g.0 ∙ sym (down_is n), g.1)) (λ xs g. refl)

@@ -19,18 +19,23 @@ module _ {L S A : Type 0} (step : S → A → S) (one : L → S → Reader A) wh
   regroup front x (Ok y) = ap (λ (xs : List A). Ok (xs, y.1)) (sym (append_assoc front (x ∷ []) y.0))
   regroup front x (Err n) = refl
 
-  pub goes_on : (front : List A) (labels : List L) (l : L) (ls : List L) (s : S) (bytes : List ℕ) (x : A) (after : List ℕ) (total : Result (List A × List ℕ) ℕ) → labels ≡ l ∷ ls → one l s bytes ≡ Ok (x, after)
+  pub goes_on : (front : List A) (labels : List L) (l : L) (ls : List L) (s : S) (bytes : List ℕ) (x : A) (after : List ℕ) (total : Result (List A × List ℕ) ℕ) → labels ≡ l ∷ ls →
+      one l s bytes ≡ Ok (x, after)
       → with_front front (each_at step one labels s bytes) ≡ total → with_front (front ++ x ∷ []) (each_at step one ls (step s x) after) ≡ total
   goes_on front labels l ls s bytes x after total e h so_far =
-      sym (regroup front x (each_at step one ls (step s x) after)) ∙ sym (ap (λ (ms : List L). with_front front (each_at step one ms s bytes)) e ∙ ap (λ (r : Result (A × List ℕ) ℕ). with_front front (onward (λ (y : A). each_at step one ls (step s y) >>= λ ys. pure (y ∷ ys)) r)) h) ∙ so_far
+      sym (regroup front x (each_at step one ls (step s x) after)) ∙
+      sym (ap (λ (ms : List L). with_front front (each_at step one ms s bytes)) e ∙
+      ap (λ (r : Result (A × List ℕ) ℕ). with_front front (onward (λ (y : A). each_at step one ls (step s y) >>= λ ys. pure (y ∷ ys)) r)) h) ∙ so_far
 
   pub ends : (error : ReadError) (front : List A) (labels : List L) (l : L) (ls : List L) (s : S) (bytes : List ℕ) (total : Result (List A × List ℕ) ℕ) → labels ≡ l ∷ ls → Fails error (one l s bytes)
       → with_front front (each_at step one labels s bytes) ≡ total → Fails error total
   ends errors.Memory front labels l ls s bytes total e h so_far = tt
   ends (errors.Left n) front labels l ls s bytes total e h so_far =
-      sym so_far ∙ ap (λ (ms : List L). with_front front (each_at step one ms s bytes)) e ∙ ap (λ (r : Result (A × List ℕ) ℕ). with_front front (onward (λ (y : A). each_at step one ls (step s y) >>= λ ys. pure (y ∷ ys)) r)) h
+      sym so_far ∙ ap (λ (ms : List L). with_front front (each_at step one ms s bytes)) e ∙
+      ap (λ (r : Result (A × List ℕ) ℕ). with_front front (onward (λ (y : A). each_at step one ls (step s y) >>= λ ys. pure (y ∷ ys)) r)) h
 
-  pub is_done : (front : List A) (labels : List L) (s : S) (bytes : List ℕ) (total : Result (List A × List ℕ) ℕ) → labels ≡ [] → with_front front (each_at step one labels s bytes) ≡ total → total ≡ Ok (front, bytes)
+  pub is_done : (front : List A) (labels : List L) (s : S) (bytes : List ℕ) (total : Result (List A × List ℕ) ℕ) → labels ≡ [] → with_front front (each_at step one labels s bytes) ≡ total →
+      total ≡ Ok (front, bytes)
   is_done front labels s bytes total e so_far =
       sym so_far ∙ ap (λ (ms : List L). with_front front (each_at step one ms s bytes)) e ∙ ap (λ (xs : List A). Ok (xs, bytes)) (append-nil front)
 

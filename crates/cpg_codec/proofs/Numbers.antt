@@ -79,8 +79,10 @@ module _ (Lawful : ℕ → Type 0) (may : ℕ → ℕ → Bool) (choice : IsChoi
   digit_fits w n m c =
       let d = digit_of (256 ^ suc w) (256 ^ w) m n (power w) (one-le-pow w 256 (omega arith)) c.low c.high in
       let e = digit_is w m n d.0 d.1 d.2 d.3 in
-      subst (λ (b : ℕ). (digit_may may w n b ≡ true) × Continues w (n * 256 + b) m) (sym e)
-      (and_from (ltb d.0 256) (may ((n * 256 + d.0) * 256 ^ w) ((n * 256 + d.0 + 1) * 256 ^ w)) (lt-ltb d.0 256 d.1) (choice.all _ _ m d.2 d.3 c.lawful), record { lawful = c.lawful; low = d.2; high = d.3 })
+      subst (λ (b : ℕ). (digit_may may w n b ≡ true) × Continues w (n * 256 + b) m) (sym e) (
+        and_from (ltb d.0 256) (may ((n * 256 + d.0) * 256 ^ w) ((n * 256 + d.0 + 1) * 256 ^ w)) (lt-ltb d.0 256 d.1) (choice.all _ _ m d.2 d.3 c.lawful),
+        record { lawful = c.lawful; low = d.2; high = d.3 },
+      )
 
   below_256 : (w n b : ℕ) → digit_may may w n b ≡ true → b < 256
   below_256 w n b h = ltb-true b 256 (and_parts (ltb b 256) (may ((n * 256 + b) * 256 ^ w) ((n * 256 + b + 1) * 256 ^ w)) h).0

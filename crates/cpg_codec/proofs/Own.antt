@@ -1,5 +1,6 @@
 -- An own deadline is eight bytes ff or a number up to 10^9, as the first byte tells.
-use Rattle.std.proofs.Common.{◌≡◌, ℕ, zero, suc, ◌+◌, ◌*◌, ◌^◌, ◌<◌, ◌≤◌, Bool, true, false, cond, ltb, leb, ◌&&◌, ◌||◌, List, [], ◌∷◌, length, get_or, Result, Ok, Err, refl, sym, ap, subst, ◌∙◌, arith, inl, inr}
+use Rattle.std.proofs.Common.{◌≡◌, ℕ, zero, suc, ◌+◌, ◌*◌, ◌^◌, ◌<◌, ◌≤◌, Bool, true, false, cond, ltb, leb, ◌&&◌, ◌||◌, List, [], ◌∷◌, length, get_or, Result, Ok, Err, refl, sym, ap, subst, ◌∙◌}
+use Rattle.std.proofs.Common.{arith, inl, inr}
 use Rattle.std.proofs.lemmas.Bool.{le-ltb, lt-leb, and_left, and_right, cases_lt}
 use Rattle.std.proofs.lemmas.Nat.{mul-le}
 use Rattle.std.proofs.Math.Nat.{pow-suc}
@@ -10,12 +11,14 @@ pub Same : (ℕ → ℕ → Bool) → (ℕ → ℕ → Bool) → ℕ → ℕ →
 Same may other w n = (from below : ℕ) → n * 256 ^ w ≤ from → below ≤ (n + 1) * 256 ^ w → may from below ≡ other from below
 
 go_same : (may other : ℕ → ℕ → Bool) (w n b : ℕ) (rest : List ℕ) (t : Bool) → digits_at may w (n * 256 + b) rest ≡ digits_at other w (n * 256 + b) rest
-    → onward (digits_at may w) (cond {A = Result (ℕ × List ℕ) ℕ} t (Ok (n * 256 + b, rest)) (Err (suc (length rest)))) ≡ onward (digits_at other w) (cond {A = Result (ℕ × List ℕ) ℕ} t (Ok (n * 256 + b, rest)) (Err (suc (length rest))))
+    → onward (digits_at may w) (cond {A = Result (ℕ × List ℕ) ℕ} t (Ok (n * 256 + b, rest)) (Err (suc (length rest)))) ≡ onward (digits_at other w)
+    (cond {A = Result (ℕ × List ℕ) ℕ} t (Ok (n * 256 + b, rest)) (Err (suc (length rest))))
 go_same may other w n b rest true h = h
 go_same may other w n b rest false h = refl
 
 fold_go : (may : ℕ → ℕ → Bool) (w n b : ℕ) (rest : List ℕ) (t : Bool)
-    → onward (λ (d : ℕ). digits_at may w (n * 256 + d)) (cond {A = Result (ℕ × List ℕ) ℕ} t (Ok (b, rest)) (Err (suc (length rest)))) ≡ onward (digits_at may w) (cond {A = Result (ℕ × List ℕ) ℕ} t (Ok (n * 256 + b, rest)) (Err (suc (length rest))))
+    → onward (λ (d : ℕ). digits_at may w (n * 256 + d)) (cond {A = Result (ℕ × List ℕ) ℕ} t (Ok (b, rest)) (Err (suc (length rest)))) ≡ onward (digits_at may w)
+    (cond {A = Result (ℕ × List ℕ) ℕ} t (Ok (n * 256 + b, rest)) (Err (suc (length rest))))
 fold_go may w n b rest true = refl
 fold_go may w n b rest false = refl
 
@@ -71,7 +74,8 @@ some_same b lt from below lo hi =
 pub own_none : (bytes : List ℕ) → get_or bytes 0 0 ≡ 255 → number_at 8 own_may bytes ≡ number_at 8 (within 18446744073709551615 18446744073709551615) bytes
 own_none [] e = absurd (omega arith)
 own_none (b ∷ rest) e = ap (λ (d : ℕ). number_at 8 own_may (d ∷ rest)) e
-    ∙ step_same own_may (within 18446744073709551615 18446744073709551615) 7 0 255 rest none_same (digits_same own_may (within 18446744073709551615 18446744073709551615) 7 (0 * 256 + 255) rest none_same)
+    ∙ step_same own_may (within 18446744073709551615 18446744073709551615) 7 0 255 rest none_same
+    (digits_same own_may (within 18446744073709551615 18446744073709551615) 7 (0 * 256 + 255) rest none_same)
     ∙ ap (λ (d : ℕ). number_at 8 (within 18446744073709551615 18446744073709551615) (d ∷ rest)) (sym e)
 
 own_end : number_at 8 own_may [] ≡ number_at 8 (within 0 1000000000) []

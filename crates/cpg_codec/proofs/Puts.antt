@@ -53,10 +53,12 @@ module _ {X : Type 0} (f : X → List ℕ) where
   rest_after xs i d lt =
       ap (λ (t : List ℕ). t ++ flat_map f (drop (i + 1) xs)) (sym (one_more xs i d lt)) ∙ sym (flat_map-append f (take (i + 1) xs) (drop (i + 1) xs)) ∙ ap (flat_map f) (take-append-drop (i + 1) xs)
 
-  pub puts_more : (a b c h l m : List ℕ) (xs : List X) (i : ℕ) (d : X) → i < length xs → IsPut a b h l (flat_map f (take i xs)) → IsPut b c l m (f (get_or xs i d)) → IsPut a c h m (flat_map f (take (i + 1) xs))
+  pub puts_more : (a b c h l m : List ℕ) (xs : List X) (i : ℕ) (d : X) → i < length xs → IsPut a b h l (flat_map f (take i xs)) → IsPut b c l m (f (get_or xs i d)) →
+      IsPut a c h m (flat_map f (take (i + 1) xs))
   puts_more a b c h l m xs i d lt p q = subst (IsPut a c h m) (sym (one_more xs i d lt)) (IsPut-then a b c h l m (flat_map f (take i xs)) (f (get_or xs i d)) p q)
 
-  pub puts_fail : (a b c h l : List ℕ) (xs : List X) (i : ℕ) (d : X) → i < length xs → IsPut a b h l (flat_map f (take i xs)) → TookPrefix b c (l ++ f (get_or xs i d)) → TookPrefix a c (h ++ flat_map f xs)
+  pub puts_fail : (a b c h l : List ℕ) (xs : List X) (i : ℕ) (d : X) → i < length xs → IsPut a b h l (flat_map f (take i xs)) → TookPrefix b c (l ++ f (get_or xs i d)) →
+      TookPrefix a c (h ++ flat_map f xs)
   puts_fail a b c h l xs i d lt p q =
       subst (λ (t : List ℕ). TookPrefix a c (h ++ t)) (rest_after xs i d lt)
       (fails_first a c h (flat_map f (take i xs) ++ f (get_or xs i d)) (flat_map f (drop (i + 1) xs)) (fails_second a b c h l (flat_map f (take i xs)) (f (get_or xs i d)) p q))
@@ -69,10 +71,12 @@ Puts-failed a b h m x r e is p = rw is p
 
 -- one element more is put, if the element has a name of its own
 module _ {X : Type 0} (f : X → List ℕ) where
-  pub item_more : (a b c h l m : List ℕ) (xs : List X) (i : ℕ) (x : X) → x ≡ get_or xs i x → i < length xs → IsPut a b h l (flat_map f (take i xs)) → IsPut b c l m (f x) → IsPut a c h m (flat_map f (take (i + 1) xs))
+  pub item_more : (a b c h l m : List ℕ) (xs : List X) (i : ℕ) (x : X) → x ≡ get_or xs i x → i < length xs → IsPut a b h l (flat_map f (take i xs)) → IsPut b c l m (f x) →
+      IsPut a c h m (flat_map f (take (i + 1) xs))
   item_more a b c h l m xs i x is lt p q = puts_more f a b c h l m xs i x lt p (subst (λ (y : X). IsPut b c l m (f y)) is q)
 
-  pub item_fails : (a b c h l : List ℕ) (xs : List X) (i : ℕ) (x : X) → x ≡ get_or xs i x → i < length xs → IsPut a b h l (flat_map f (take i xs)) → TookPrefix b c (l ++ f x) → TookPrefix a c (h ++ flat_map f xs)
+  pub item_fails : (a b c h l : List ℕ) (xs : List X) (i : ℕ) (x : X) → x ≡ get_or xs i x → i < length xs → IsPut a b h l (flat_map f (take i xs)) → TookPrefix b c (l ++ f x) →
+      TookPrefix a c (h ++ flat_map f xs)
   item_fails a b c h l xs i x is lt p q = puts_fail f a b c h l xs i x lt p (subst (λ (y : X). TookPrefix b c (l ++ f y)) is q)
 
 -- what is left in the buffer is written at the end

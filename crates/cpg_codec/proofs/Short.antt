@@ -8,21 +8,21 @@ use Rattle.cpg_head.specs.Head.{Head, IsHead, IsHeadEdge}
 use Rattle.cpg_table.specs.Table.{Row, NodeTable}
 use Rattle.cpg_cube.specs.Column.{Column}
 use Rattle.cpg_table.specs.Lawful.{IsLawfulColumn, IsLawfulRow, IsTable, rows_of, space_of}
-use Rattle.cpg_table.specs.declared.space.Space.{Space}
+use Rattle.cpg_table.specs.declared.space.VariableSpace.{VariableSpace}
 use Rattle.cpg_codec.specs.Grammar.{IsSpace, fault_end}
 use Rattle.cpg_codec.specs.Spelling.{row_bytes, table_bytes}
 use Rattle.cpg_codec.specs.Writing.{IsShortRow, IsShortEdge}
 use Rattle.cpg_codec.proofs.ColumnFields.{few_fault, literals_room, column_literals}
 use Rattle.cpg_codec.proofs.TableFields.{head_space}
 
-short_column : (s : Space) (c : Column) → IsSpace s → IsLawfulColumn s c → length c.cube ≤ 255
+short_column : (s : VariableSpace) (c : Column) → IsSpace s → IsLawfulColumn s c → length c.cube ≤ 255
 short_column s c i h =
     let r = literals_room s 0 c.cube (few_fault s i) (column_literals s c i h) in
     within (fault_end s) s.conditions (length c.cube) (few_fault s i) i.conditions r where
       within : (e c n : ℕ) → e ≤ 128 → c ≤ 32 → n ≤ (e - 0) + ((128 + c) - max 128 0) → n ≤ 255
       within e c n a b r = omega arith
 
-pub short_row : (s : Space) (r : Row) → IsSpace s → IsLawfulRow s r → IsShortRow r
+pub short_row : (s : VariableSpace) (r : Row) → IsSpace s → IsLawfulRow s r → IsShortRow r
 short_row s r i h = record { few = h.few; short = All-weaker (IsLawfulColumn s) (λ (c : Column). length c.cube ≤ 255) (λ c q. short_column s c i q) r.columns h.columns }
 
 split : {X : Type 0} (P : X → Type 0) (xs ys : List X) → AllByRecursion P (xs ++ ys) → AllByRecursion P xs × AllByRecursion P ys

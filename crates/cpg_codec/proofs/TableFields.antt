@@ -14,7 +14,7 @@ use Rattle.cpg_table.specs.declared.own.Own.{Own}
 use Rattle.cpg_table.specs.Shape.{items_of}
 use Rattle.cpg_table.specs.Items.{starts_of, sends_of, hears_of}
 use Rattle.cpg_table.specs.Lawful.{Tables, space_of, IsLawfulColumn, IsLawfulRow, IsTableOf, AreRowsOf, AreTablesOf, rows_of, column_count}
-use Rattle.cpg_table.specs.declared.space.Space.{Space}
+use Rattle.cpg_table.specs.declared.space.VariableSpace.{VariableSpace}
 use Rattle.cpg_codec.specs.Spelling.{column_bytes, row_bytes, table_bytes, head_bytes, spelling}
 use Rattle.cpg_codec.specs.Grammar.{IsSpace, column_at, most, row_at, rows_at, items_of_node, table_from, node_table_at, numbers_from, nodes_at, tables_at}
 use Rattle.cpg_codec.specs.Packs.{AreLawful}
@@ -29,12 +29,12 @@ regroup_2 a b = simp append-nil
 
 -- ---- rows
 
-pub record FitsRow (s : Space) (item before : ℕ) (r : Row) : Type 0 where
+pub record FitsRow (s : VariableSpace) (item before : ℕ) (r : Row) : Type 0 where
   pub item_is : r.item ≡ item
   pub lawful : IsLawfulRow s r
   pub room : before + length r.columns ≤ most
 
-pub row_reads : (s : Space) (item before : ℕ) → IsSpace s → before ≤ most → Reads (FitsRow s item before) row_bytes (row_at s item before)
+pub row_reads : (s : VariableSpace) (item before : ℕ) → IsSpace s → before ≤ most → Reads (FitsRow s item before) row_bytes (row_at s item before)
 unfolding row_at
 row_reads s item before i le =
     adapt
@@ -43,11 +43,16 @@ row_reads s item before i le =
     (λ cs fcs. pure_reads (record { item = item; columns = cs }))
     (λ cs r fcs h. ap (λ (q : Row). q.columns) h))
     (λ n r fn h. h.0.0))
-    (λ r h. record { item_is = ap (λ (q : Row). q.item) h.1.1; lawful = record { few = omega (arith, h.0.1); columns = All-from_recursion (IsLawfulColumn s) r.columns h.1.0.1 }; room = omega (arith, h.0.1) })
+    (λ r h. record {
+      item_is = ap (λ (q : Row). q.item) h.1.1;
+      lawful = record { few = omega (arith, h.0.1); columns = All-from_recursion (IsLawfulColumn s) r.columns h.1.0.1 };
+      room =
+          omega (arith, h.0.1);
+    })
     (λ r h. ((omega arith, omega (arith, h.lawful.few, h.room)), ((refl, recursion_from_All (IsLawfulColumn s) r.columns h.lawful.columns), ap (λ (n : ℕ). record r { item = n }) h.item_is)))
     (λ r h. regroup_2 (to_be_bytes w16 (length r.columns)) (flat_map column_bytes r.columns))
 
-pub record FitRows (s : Space) (items : List ℕ) (before : ℕ) (rs : List Row) : Type 0 where
+pub record FitRows (s : VariableSpace) (items : List ℕ) (before : ℕ) (rs : List Row) : Type 0 where
   pub items_are : items_of rs ≡ items
   pub lawful : AllByRecursion (IsLawfulRow s) rs
   pub room : before + column_count rs ≤ most
@@ -64,7 +69,7 @@ none_first a xs e = cc
 none_last : (a : ℕ) (xs : List ℕ) → [] ≡ a ∷ xs → ⊥
 none_last a xs e = cc
 
-pub rows_reads : (s : Space) (items : List ℕ) (before : ℕ) → IsSpace s → before ≤ most → Reads (FitRows s items before) (flat_map row_bytes) (rows_at s items before)
+pub rows_reads : (s : VariableSpace) (items : List ℕ) (before : ℕ) → IsSpace s → before ≤ most → Reads (FitRows s items before) (flat_map row_bytes) (rows_at s items before)
 unfolding rows_at
 rows_reads s items before i le =
     each_reads (λ (c : ℕ) (r : Row). c + length r.columns) (row_at s)
@@ -192,7 +197,10 @@ nodes_reads h i =
     (λ c t ts g. g.lawful)
     (λ l ls c g. g.lawful)
     (λ l ls c t ts inv f g. record { lawful = (f.lawful, g.lawful); room = omega (arith, sum_by-cons columns_of t ts, g.room) })
-    (λ l ls c t ts inv g. (record { lawful = g.lawful.0; room = omega (arith, sum_by-cons columns_of t ts, g.room) }, record { lawful = g.lawful.1; room = omega (arith, sum_by-cons columns_of t ts, g.room) }))
+    (λ l ls c t ts inv g. (
+      record { lawful = g.lawful.0; room = omega (arith, sum_by-cons columns_of t ts, g.room) },
+      record { lawful = g.lawful.1; room = omega (arith, sum_by-cons columns_of t ts, g.room) },
+    ))
     (numbers_from 0 (length h.nodes)) 0 (omega arith)
 
 module _ {A : Type 0} (P : ℕ → A → Type 0) (d : A) where
@@ -216,8 +224,11 @@ module _ {A : Type 0} (P : ℕ → A → Type 0) (d : A) where
   for_from i zero (x ∷ xs) e h = absurd (omega (arith, e))
   for_from i (suc n) [] e h = absurd (omega (arith, e))
   for_from i (suc n) (x ∷ xs) e h =
-      let z : i + 0 ≡ i = omega arith in
-      (subst (λ (k : ℕ). P k x) z (h 0 (omega arith)), for_from (suc i) n xs (omega (arith, e)) (λ j lt. let s : i + suc j ≡ suc i + j = omega arith in subst (λ (k : ℕ). P k (get_or xs j d)) s (h (suc j) (omega arith))))
+      let z : i + 0 ≡ i = omega arith in (
+        subst (λ (k : ℕ). P k x) z (h 0 (omega arith)),
+        for_from (suc i) n xs (omega (arith, e))
+            (λ j lt. let s : i + suc j ≡ suc i + j = omega arith in subst (λ (k : ℕ). P k (get_or xs j d)) s (h (suc j) (omega arith))),
+      )
 
 -- ---- the whole
 
@@ -232,7 +243,11 @@ nodes_to h ts q = record {
 }
 
 nodes_from : (h : Head) (ts : List NodeTable) → AreTablesOf h ts → FitNodes h (numbers_from 0 (length h.nodes)) 0 ts
-nodes_from h ts q = record { lawful = for_from (IsTableOf h) empty_table 0 (length h.nodes) ts q.count (λ i lt. let e : i ≡ 0 + i = omega arith in subst (λ (j : ℕ). IsTableOf h j (get_or ts i empty_table)) e (q.each i lt)); room = omega (arith, q.few) }
+nodes_from h ts q = record {
+  lawful = for_from (IsTableOf h) empty_table 0 (length h.nodes) ts q.count
+      (λ i lt. let e : i ≡ 0 + i = omega arith in subst (λ (j : ℕ). IsTableOf h j (get_or ts i empty_table)) e (q.each i lt));
+  room = omega (arith, q.few);
+}
 
 pub tables_reads : Reads AreLawful spelling tables_at
 unfolding tables_at
@@ -248,16 +263,17 @@ tables_reads =
     (λ t q. regroup_2 (head_bytes t.head) (flat_map table_bytes t.nodes))
 
 -- rows that were read are those of their node
-pub rows_are_of : (h : Head) (a : ℕ) (s : Space) (items : List ℕ) (before : ℕ) (bytes : List ℕ) (rs : List Row) (rest : List ℕ) → IsSpace s → before ≤ most → s ≡ space_of h → items ≡ items_of_node h a → rows_at s items before bytes ≡ Ok (rs, rest) → AreRowsOf h a rs
+pub rows_are_of : (h : Head) (a : ℕ) (s : VariableSpace) (items : List ℕ) (before : ℕ) (bytes : List ℕ) (rs : List Row) (rest : List ℕ) → IsSpace s → before ≤ most → s ≡ space_of h →
+    items ≡ items_of_node h a → rows_at s items before bytes ≡ Ok (rs, rest) → AreRowsOf h a rs
 rows_are_of h a s items before bytes rs rest i le f g e =
     let k = (rows_reads s items before i le).takes bytes rs rest e in
-    record { items = k.0.items_are ∙ g; lawful = subst (λ (t : Space). All (IsLawfulRow t) rs) f (All-from_recursion (IsLawfulRow s) rs k.0.lawful) }
+    record { items = k.0.items_are ∙ g; lawful = subst (λ (t : VariableSpace). All (IsLawfulRow t) rs) f (All-from_recursion (IsLawfulRow s) rs k.0.lawful) }
 
 pub table_is : (h : Head) (a : ℕ) (t : NodeTable) (rs : List Row) → IsTableOf h a t → rows_of t ≡ rs → table_from h a rs ≡ t
 table_is h a t rs q e = ap (table_from h a) (sym e) ∙ sym (table_again h a t q)
 
 -- tables that were read are those of their head
-pub tables_are_of : (h : Head) (s : Space) (bytes : List ℕ) (ts : List NodeTable) (rest : List ℕ) → IsSpace s → s ≡ space_of h → nodes_at h bytes ≡ Ok (ts, rest) → AreTablesOf h ts
+pub tables_are_of : (h : Head) (s : VariableSpace) (bytes : List ℕ) (ts : List NodeTable) (rest : List ℕ) → IsSpace s → s ≡ space_of h → nodes_at h bytes ≡ Ok (ts, rest) → AreTablesOf h ts
 tables_are_of h s bytes ts rest i e r = nodes_to h ts ((nodes_reads h (subst IsSpace e i)).takes bytes ts rest r).0
 
 pub numbers_more : (i n : ℕ) → i < n → numbers_from i (n - i) ≡ i ∷ numbers_from (i + 1) (n - (i + 1))

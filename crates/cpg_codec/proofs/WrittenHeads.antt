@@ -90,7 +90,8 @@ extras_are : (k n : ℕ) (ws : List Written) → AllByRecursion (IsWritten 2 k n
 extras_are k n [] h = (refl, tt)
 extras_are k n (w ∷ ws) h = let r = extras_are k n ws h.1 in one_extra w.extra (flat_map listed_of ws) (length ws) h.0.extra r.0 r.1
 
-extras_made : (v k n : ℕ) (ns : List (List ℕ)) (ws : List Written) (es : List (ℕ × ℕ)) → v ≤ 2 → AllByRecursion (IsWritten v k n) ws → IfSome (head_from v k ns ws es).extras (AreExtras (length (map process_of ws)))
+extras_made : (v k n : ℕ) (ns : List (List ℕ)) (ws : List Written) (es : List (ℕ × ℕ)) → v ≤ 2 → AllByRecursion (IsWritten v k n) ws →
+    IfSome (head_from v k ns ws es).extras (AreExtras (length (map process_of ws)))
 extras_made zero k n ns ws es b h = tt
 extras_made (suc zero) k n ns ws es b h = tt
 extras_made (suc (suc zero)) k n ns ws es b h =
@@ -98,7 +99,8 @@ extras_made (suc (suc zero)) k n ns ws es b h =
     record { count = r.0 ∙ sym (length-map ws process_of); each = All-from_recursion IsExtra (flat_map listed_of ws) r.1 }
 extras_made (suc (suc (suc v))) k n ns ws es b h = absurd (omega arith)
 
-processes_made : (v k n : ℕ) (ws : List Written) → AllByRecursion (IsWritten v k n) ws → AllByRecursion (IsHeadProcess k n) (map process_of ws) × AllByRecursion (λ (p : HeadProcess). IsName p.name) (map process_of ws)
+processes_made : (v k n : ℕ) (ws : List Written) → AllByRecursion (IsWritten v k n) ws → AllByRecursion (IsHeadProcess k n) (map process_of ws) ×
+    AllByRecursion (λ (p : HeadProcess). IsName p.name) (map process_of ws)
 processes_made v k n [] h = (tt, tt)
 processes_made v k n (w ∷ ws) h = let r = processes_made v k n ws h.1 in ((h.0.process, r.0), (h.0.name, r.1))
 
@@ -108,7 +110,8 @@ pub record AreProcesses (version faults nodes count ones : ℕ) (ws : List Writt
   pub each : AllByRecursion (IsWritten version faults nodes) ws
   pub conditions : ones + conditions_of ws ≤ 32
 
-pub made_lawful : (v k : ℕ) (ns : List (List ℕ)) (ws : List Written) (es : List (ℕ × ℕ)) → v ≤ 2 → k ≤ 8 → length ns ≤ 16 → AllByRecursion IsName ns → length ws ≤ 128 → AreProcesses v k (length ns) (length ws) 0 ws → length es ≤ 256
+pub made_lawful : (v k : ℕ) (ns : List (List ℕ)) (ws : List Written) (es : List (ℕ × ℕ)) → v ≤ 2 → k ≤ 8 → length ns ≤ 16 → AllByRecursion IsName ns → length ws ≤ 128 →
+    AreProcesses v k (length ns) (length ws) 0 ws → length es ≤ 256
     → AllByRecursion (IsHeadEdge (length ws)) es → IsPackHead (head_from v k ns ws es)
 made_lawful v k ns ws es newest few nodes names processes each edges ends =
     let m = length-map ws process_of in
@@ -149,13 +152,15 @@ each_none : (k n : ℕ) (ps : List HeadProcess) → AllByRecursion (IsHeadProces
 each_none k n [] h names = tt
 each_none k n (p ∷ ps) h names = (record { process = h.0; name = names.0; extra = refl }, each_none k n ps h.1 names.1)
 
-each_some : (k n : ℕ) (ps : List HeadProcess) (es : List Extra) → length es ≡ length ps → AllByRecursion (IsHeadProcess k n) ps → AllByRecursion (λ (p : HeadProcess). IsName p.name) ps → AllByRecursion IsExtra es
+each_some : (k n : ℕ) (ps : List HeadProcess) (es : List Extra) → length es ≡ length ps → AllByRecursion (IsHeadProcess k n) ps → AllByRecursion (λ (p : HeadProcess). IsName p.name) ps →
+    AllByRecursion IsExtra es
     → AllByRecursion (IsWritten 2 k n) (written_by ps es)
 each_some k n [] es e h names all = tt
 each_some k n (p ∷ ps) [] e h names all = absurd (omega (arith, e))
 each_some k n (p ∷ ps) (x ∷ es) e h names all = (record { process = h.0; name = names.0; extra = (refl, all.0) }, each_some k n ps es (omega (arith, e)) h.1 names.1 all.1)
 
-each_of : (k n : ℕ) (ps : List HeadProcess) (o : Option (List Extra)) → IfSome o (AreExtras (length ps)) → AllByRecursion (IsHeadProcess k n) ps → AllByRecursion (λ (p : HeadProcess). IsName p.name) ps
+each_of : (k n : ℕ) (ps : List HeadProcess) (o : Option (List Extra)) → IfSome o (AreExtras (length ps)) → AllByRecursion (IsHeadProcess k n) ps →
+    AllByRecursion (λ (p : HeadProcess). IsName p.name) ps
     → AllByRecursion (IsWritten (cond (is_some o) 2 1) k n) (written_by ps (unwrap_or o []))
 each_of k n ps None q h names = each_none k n ps h names
 each_of k n ps (Some es) q h names = each_some k n ps es q.count h names (recursion_from_All IsExtra es q.each)
@@ -167,7 +172,8 @@ head_processes h q = record {
       (recursion_from_All (λ (p : HeadProcess). IsName p.name) h.processes q.processes);
   conditions =
       let c = conditions_is (written h) in
-      let b : count_by (λ (p : HeadProcess). p.condition) (map process_of (written h)) ≡ count_by (λ (p : HeadProcess). p.condition) h.processes = ap (count_by (λ (p : HeadProcess). p.condition)) (written_back h.processes (unwrap_or h.extras [])) in
+      let b : count_by (λ (p : HeadProcess). p.condition) (map process_of (written h)) ≡ count_by (λ (p : HeadProcess). p.condition) h.processes =
+      ap (count_by (λ (p : HeadProcess). p.condition)) (written_back h.processes (unwrap_or h.extras [])) in
       omega (arith, c, b, q.within.few_conditions);
 }
 
@@ -198,7 +204,8 @@ some_node k n [] h lt = absurd (omega arith)
 some_node k n (p ∷ ps) h lt = omega (arith, h.0.node)
 
 pub processes_limit : (h : Head) → IsHead h → length h.processes ≤ limit (length h.nodes) 128
-processes_limit h q = limit_from (length h.nodes) 128 (length h.processes) q.few_processes (some_node h.faults (length h.nodes) h.processes (recursion_from_All (IsHeadProcess h.faults (length h.nodes)) h.processes q.processes))
+processes_limit h q = limit_from (length h.nodes) 128 (length h.processes) q.few_processes
+    (some_node h.faults (length h.nodes) h.processes (recursion_from_All (IsHeadProcess h.faults (length h.nodes)) h.processes q.processes))
 
 some_process : (n : ℕ) (es : List (ℕ × ℕ)) → AllByRecursion (IsHeadEdge n) es → 0 < length es → 0 < n
 some_process n [] h lt = absurd (omega arith)
@@ -221,12 +228,14 @@ at_some (q ∷ ps) [] i p o d n lt e f = absurd (omega (arith, n))
 at_some (q ∷ ps) (x ∷ es) zero p o d n lt e f = ap₂ (λ (r : HeadProcess) (s : Option Extra). record { process = r; extra = s }) e f
 at_some (q ∷ ps) (x ∷ es) (suc i) p o d n lt e f = at_some ps es i p o d (omega (arith, n)) (omega arith) e f
 
-at_either : (ps : List HeadProcess) (xs : Option (List Extra)) (i : ℕ) (p : HeadProcess) (o : Option Extra) (d : Written) → IfSome xs (AreExtras (length ps)) → i < length ps → p ≡ get_or ps i p → o ≡ option_and_then (λ es. slice_get es i) xs
+at_either : (ps : List HeadProcess) (xs : Option (List Extra)) (i : ℕ) (p : HeadProcess) (o : Option Extra) (d : Written) → IfSome xs (AreExtras (length ps)) → i < length ps → p ≡ get_or ps i p →
+    o ≡ option_and_then (λ es. slice_get es i) xs
     → record { process = p; extra = o } ≡ get_or (written_by ps (unwrap_or xs [])) i d
 at_either ps None i p o d q lt e f = ap (λ (s : Option Extra). record { process = p; extra = s }) f ∙ at_none ps i p d lt e
 at_either ps (Some es) i p o d q lt e f = at_some ps es i p o d q.count lt e f
 
-pub written_at : (h : Head) (i : ℕ) (p : HeadProcess) (o : Option Extra) → IsHead h → i < length h.processes → p ≡ get_or h.processes i p → o ≡ extra_at h i → record { process = p; extra = o } ≡ get_or (written h) i (record { process = p; extra = o })
+pub written_at : (h : Head) (i : ℕ) (p : HeadProcess) (o : Option Extra) → IsHead h → i < length h.processes → p ≡ get_or h.processes i p → o ≡ extra_at h i →
+    record { process = p; extra = o } ≡ get_or (written h) i (record { process = p; extra = o })
 written_at h i p o q lt e f = at_either h.processes h.extras i p o (record { process = p; extra = o }) q.extras lt e f
 
 pub written_length : (h : Head) → length (written h) ≡ length h.processes
@@ -238,20 +247,23 @@ push_none : (ps : List HeadProcess) (p : HeadProcess) → written_by (ps ++ p �
 push_none [] p = refl
 push_none (q ∷ ps) p = ap (λ (ws : List Written). written_with q None ∷ ws) (push_none ps p)
 
-push_some : (ps : List HeadProcess) (es : List Extra) (p : HeadProcess) (e : Extra) → length es ≡ length ps → written_by (ps ++ p ∷ []) (es ++ e ∷ []) ≡ written_by ps es ++ written_with p (Some e) ∷ []
+push_some : (ps : List HeadProcess) (es : List Extra) (p : HeadProcess) (e : Extra) → length es ≡ length ps →
+    written_by (ps ++ p ∷ []) (es ++ e ∷ []) ≡ written_by ps es ++ written_with p (Some e) ∷ []
 push_some [] [] p e n = refl
 push_some [] (x ∷ es) p e n = absurd (omega (arith, n))
 push_some (q ∷ ps) [] p e n = absurd (omega (arith, n))
 push_some (q ∷ ps) (x ∷ es) p e n = ap (λ (ws : List Written). written_with q (Some x) ∷ ws) (push_some ps es p e (omega (arith, n)))
 
-pub written_push : (b : Bool) (ps : List HeadProcess) (es : List Extra) (p : HeadProcess) (o : Option Extra) → is_some o ≡ b → length es ≡ cond b (length ps) 0 → written_by (ps ++ p ∷ []) (es ++ listed o) ≡ written_by ps es ++ written_with p o ∷ []
+pub written_push : (b : Bool) (ps : List HeadProcess) (es : List Extra) (p : HeadProcess) (o : Option Extra) → is_some o ≡ b → length es ≡ cond b (length ps) 0 →
+    written_by (ps ++ p ∷ []) (es ++ listed o) ≡ written_by ps es ++ written_with p o ∷ []
 written_push true ps es p (Some e) k n = push_some ps es p e n
 written_push true ps es p None k n = absurd cc
 written_push false ps es p (Some e) k n = absurd cc
 written_push false ps [] p None k n = push_none ps p
 written_push false ps (x ∷ es) p None k n = absurd (omega (arith, n))
 
-pub kept_push : (b : Bool) (ps : List HeadProcess) (es : List Extra) (p : HeadProcess) (o : Option Extra) → is_some o ≡ b → length es ≡ cond b (length ps) 0 → length (es ++ listed o) ≡ cond b (length (ps ++ p ∷ [])) 0
+pub kept_push : (b : Bool) (ps : List HeadProcess) (es : List Extra) (p : HeadProcess) (o : Option Extra) → is_some o ≡ b → length es ≡ cond b (length ps) 0 →
+    length (es ++ listed o) ≡ cond b (length (ps ++ p ∷ [])) 0
 kept_push true ps es p (Some e) k n = let a = length-append es (e ∷ []) in let b = length-append ps (p ∷ []) in omega (arith, a, b, n)
 kept_push true ps es p None k n = absurd cc
 kept_push false ps es p (Some e) k n = absurd cc
@@ -259,7 +271,8 @@ kept_push false ps es p None k n = let a = length-append es (listed None) in ome
 
 -- ---- a head from its parts
 
-pub plain_head : (v k : ℕ) (ns : List (List ℕ)) (ps : List HeadProcess) (xs : List Extra) (es : List (ℕ × ℕ)) → IsPackHead (head_from v k ns (written_by ps xs) es) → IsHead (record { faults = k; nodes = ns; processes = ps; edges = es; extras = None })
+pub plain_head : (v k : ℕ) (ns : List (List ℕ)) (ps : List HeadProcess) (xs : List Extra) (es : List (ℕ × ℕ)) → IsPackHead (head_from v k ns (written_by ps xs) es) →
+    IsHead (record { faults = k; nodes = ns; processes = ps; edges = es; extras = None })
 plain_head v k ns ps xs es q =
     subst (λ (qs : List HeadProcess). IsHead (record { faults = k; nodes = ns; processes = qs; edges = es; extras = None })) (written_back ps xs)
     (record {
@@ -273,21 +286,27 @@ plain_head v k ns ps xs es q =
       extras = tt;
     })
 
-two_extras : (k : ℕ) (ns : List (List ℕ)) (ps : List HeadProcess) (xs : List Extra) (es : List (ℕ × ℕ)) → length xs ≡ length ps → IsPackHead (head_from 2 k ns (written_by ps xs) es) → AreExtras (length ps) xs
+two_extras : (k : ℕ) (ns : List (List ℕ)) (ps : List HeadProcess) (xs : List Extra) (es : List (ℕ × ℕ)) → length xs ≡ length ps → IsPackHead (head_from 2 k ns (written_by ps xs) es) →
+    AreExtras (length ps) xs
 two_extras k ns ps xs es n q =
     let e : AreExtras (length (map process_of (written_by ps xs))) (flat_map listed_of (written_by ps xs)) = q.within.extras in
-    subst (λ (ys : List Extra). AreExtras (length ps) ys) (extras_back ps xs n) (subst (λ (qs : List HeadProcess). AreExtras (length qs) (flat_map listed_of (written_by ps xs))) (written_back ps xs) e)
+    subst (λ (ys : List Extra). AreExtras (length ps) ys) (extras_back ps xs n)
+    (subst (λ (qs : List HeadProcess). AreExtras (length qs) (flat_map listed_of (written_by ps xs))) (written_back ps xs) e)
 
-pub made_extras : (v k : ℕ) (ns : List (List ℕ)) (ps : List HeadProcess) (xs : List Extra) (es : List (ℕ × ℕ)) → v ≡ 2 → length xs ≡ cond (eqb v 2) (length ps) 0 → IsPackHead (head_from v k ns (written_by ps xs) es) → AreExtras (length ps) xs
+pub made_extras : (v k : ℕ) (ns : List (List ℕ)) (ps : List HeadProcess) (xs : List Extra) (es : List (ℕ × ℕ)) → v ≡ 2 → length xs ≡ cond (eqb v 2) (length ps) 0 →
+    IsPackHead (head_from v k ns (written_by ps xs) es) → AreExtras (length ps) xs
 made_extras v k ns ps xs es e n q =
     two_extras k ns ps xs es (subst (λ (u : ℕ). length xs ≡ cond (eqb u 2) (length ps) 0) e n) (subst (λ (u : ℕ). IsPackHead (head_from u k ns (written_by ps xs) es)) e q)
 
-pub joined_one : (v k : ℕ) (ns : List (List ℕ)) (ps : List HeadProcess) (xs : List Extra) (es : List (ℕ × ℕ)) → (v ≡ 2 → ⊥) → record { faults = k; nodes = ns; processes = ps; edges = es; extras = None } ≡ head_from v k ns (written_by ps xs) es
+pub joined_one : (v k : ℕ) (ns : List (List ℕ)) (ps : List HeadProcess) (xs : List Extra) (es : List (ℕ × ℕ)) → (v ≡ 2 → ⊥) →
+    record { faults = k; nodes = ns; processes = ps; edges = es; extras = None } ≡ head_from v k ns (written_by ps xs) es
 joined_one v k ns ps xs es e =
     let f : eqb v 2 ≡ false = ne_eqb v 2 e in
-    ap₂ (λ (qs : List HeadProcess) (b : Bool). record { faults = k; nodes = ns; processes = qs; edges = es; extras = cond b (Some (flat_map listed_of (written_by ps xs))) None }) (sym (written_back ps xs)) (sym f)
+    ap₂ (λ (qs : List HeadProcess) (b : Bool). record { faults = k; nodes = ns; processes = qs; edges = es; extras = cond b (Some (flat_map listed_of (written_by ps xs))) None })
+    (sym (written_back ps xs)) (sym f)
 
-joined_some : (k : ℕ) (ns : List (List ℕ)) (ps : List HeadProcess) (xs : List Extra) (es : List (ℕ × ℕ)) → length xs ≡ length ps → record { faults = k; nodes = ns; processes = ps; edges = es; extras = Some xs } ≡ head_from 2 k ns (written_by ps xs) es
+joined_some : (k : ℕ) (ns : List (List ℕ)) (ps : List HeadProcess) (xs : List Extra) (es : List (ℕ × ℕ)) → length xs ≡ length ps →
+    record { faults = k; nodes = ns; processes = ps; edges = es; extras = Some xs } ≡ head_from 2 k ns (written_by ps xs) es
 joined_some k ns ps xs es n =
     ap₂ (λ (qs : List HeadProcess) (ys : List Extra). record { faults = k; nodes = ns; processes = qs; edges = es; extras = Some ys }) (sym (written_back ps xs)) (sym (extras_back ps xs n))
 

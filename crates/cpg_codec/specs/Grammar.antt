@@ -11,7 +11,7 @@ use Rattle.cpg_table.specs.Table.{Row, NodeTable}
 use Rattle.cpg_cube.specs.Column.{Column}
 use Rattle.cpg_table.specs.Items.{first_broadcast, own_of, starts_of, sends_of, hears_of}
 use Rattle.cpg_table.specs.Lawful.{Tables, space_of, column_count, rows_of}
-use Rattle.cpg_table.specs.declared.space.Space.{Space}
+use Rattle.cpg_table.specs.declared.space.VariableSpace.{VariableSpace}
 use Rattle.cpg_codec.specs.Reading.{Reader, pure, ◌>>=◌, byte_by, number_at, within, each_at, down, times_at}
 use Rattle.cpg_codec.specs.Spelling.{Written, magic, bit}
 
@@ -104,35 +104,35 @@ head_at = do
   pure (head_from version faults names processes edges)
 
 -- a space as heads have it
-pub record IsSpace (s : Space) : Type 0 where
+pub record IsSpace (s : VariableSpace) : Type 0 where
   pub faults : s.faults ≤ MOST_FAULTS
   pub processes : s.processes ≤ MOST_PROCESSES
   pub conditions : s.conditions ≤ MOST_CONDITIONS
 
 -- the fault variables are 0 up to here
-abbrev pub fault_end : Space → ℕ
+abbrev pub fault_end : VariableSpace → ℕ
 fault_end s = limit s.faults s.processes
 
-abbrev pub is_variable : Space → ℕ → Bool
+abbrev pub is_variable : VariableSpace → ℕ → Bool
 is_variable s v = nat_lt v (fault_end s) || (nat_le 128 v && nat_lt v (128 + s.conditions))
 
 -- how many allowed variables there are from v on
-abbrev pub room : Space → ℕ → ℕ
+abbrev pub room : VariableSpace → ℕ → ℕ
 room s v = (fault_end s - v) + ((128 + s.conditions) - max 128 v)
 
 -- an allowed variable from `least` on, with room for `left` more above it
-abbrev pub variable_may : Space → ℕ → ℕ → ℕ → Bool
+abbrev pub variable_may : VariableSpace → ℕ → ℕ → ℕ → Bool
 variable_may s least left v = (nat_le least v && is_variable s v) && nat_le left (room s (suc v))
 
 -- the greatest low
-abbrev pub low_end : Space → ℕ → ℕ
+abbrev pub low_end : VariableSpace → ℕ → ℕ
 low_end s v = top s.faults v
 
 -- the greatest high above this low
-abbrev pub high_end : Space → ℕ → ℕ → ℕ
+abbrev pub high_end : VariableSpace → ℕ → ℕ → ℕ
 high_end s v low = if nat_lt v 128 then (if low == 0 then s.faults - 1 else s.faults) else low
 
-unfoldable pub literal_at : Space → ℕ → ℕ → Reader Literal
+unfoldable pub literal_at : VariableSpace → ℕ → ℕ → Reader Literal
 literal_at s left least = do
   variable ← byte_by (variable_may s least left)
   low ← small_at 0 (low_end s variable)
@@ -140,17 +140,17 @@ literal_at s left least = do
   pure (record { variable = variable; low = low; high = high })
 
 -- this many literals, by rising variable
-unfoldable pub literals_at : Space → ℕ → Reader (List Literal)
+unfoldable pub literals_at : VariableSpace → ℕ → Reader (List Literal)
 literals_at s count = each_at (λ (least : ℕ) (l : Literal). suc l.variable) (literal_at s) (down count) 0
 
 -- the time of a column, and how many literals it has
-unfoldable pub front_at : Space → Reader (ℕ × ℕ)
+unfoldable pub front_at : VariableSpace → Reader (ℕ × ℕ)
 front_at s = do
   time ← time_at
   count ← small_at 0 (room s 0)
   pure (time, count)
 
-unfoldable pub column_at : Space → Reader Column
+unfoldable pub column_at : VariableSpace → Reader Column
 column_at s = do
   front ← front_at s
   literals ← literals_at s front.1
@@ -161,13 +161,13 @@ abbrev pub most : ℕ
 most = MOST_LOAD
 
 -- `before` columns have been read
-unfoldable pub row_at : Space → ℕ → ℕ → Reader Row
+unfoldable pub row_at : VariableSpace → ℕ → ℕ → Reader Row
 row_at s item before = do
   count ← number_at 2 (within 0 (min MOST_COLUMNS (most - before)))
   columns ← times_at (column_at s) count
   pure (record { item = item; columns = columns })
 
-unfoldable pub rows_at : Space → List ℕ → ℕ → Reader (List Row)
+unfoldable pub rows_at : VariableSpace → List ℕ → ℕ → Reader (List Row)
 rows_at s items before = each_at (λ (c : ℕ) (r : Row). c + length r.columns) (row_at s) items before
 
 -- the items of a node's rows

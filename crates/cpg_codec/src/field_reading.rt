@@ -189,7 +189,7 @@ fn own_number_of(bytes: &[u8]) -> Result<(u64, &[u8]), ReadError>
 
 /// An own deadline, or none.
 #[tactic(auto, unfolding(crate::specs::Grammar::own_at))]
-pub fn own_of(bytes: &[u8]) -> Result<(Option<u64>, &[u8]), ReadError>
+pub fn own_deadline_of(bytes: &[u8]) -> Result<(Option<u64>, &[u8]), ReadError>
     ensures { Gives (λ x. (x.0, x.1.now)) result (own_at bytes.now) }
 {
     let (number, rest) = own_number_of(bytes)?;
@@ -209,6 +209,6 @@ pub fn extra_of(bytes: &[u8], version: u8) -> Result<(Option<Extra>, &[u8]), Rea
         return Ok((None, bytes));
     }
     let (release, rest) = long_of(bytes, 0, LONGEST)?;
-    let (deadline, rest) = own_of(rest)?;
+    let (deadline, rest) = own_deadline_of(rest)?;
     Ok((Some(Extra { release, deadline }), rest))
 }

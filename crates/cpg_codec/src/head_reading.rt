@@ -50,7 +50,7 @@ fn are_within(node: u8, flag: u8, nodes: u8, ones: u32) -> bool
 }
 
 /// The node of a process, and its condition flag, if `ones` processes before have a condition.
-fn place_of(bytes: &[u8], nodes: u8, ones: u32) -> Result<(u8, u8, &[u8]), ReadError>
+fn node_and_flag(bytes: &[u8], nodes: u8, ones: u32) -> Result<(u8, u8, &[u8]), ReadError>
     requires { 0 < nodes }
     ensures { Gives (λ x. ((x.0, x.1), x.2.now)) result (place_at nodes ones bytes.now) }
 {
@@ -80,7 +80,7 @@ fn process_of(
     ensures kind { IfOk result (λ x. is_some x.1 ≡ (version == 2)) }
 {
     let (name, rest) = name_of(alloc, bytes)?;
-    let (node, flag, rest) = place_of(rest, nodes, ones)?;
+    let (node, flag, rest) = node_and_flag(rest, nodes, ones)?;
     let (times, rest) = times_of(alloc, rest, faults as u32 + 1)?;
     let (extra, rest) = extra_of(rest, version)?;
     Ok((

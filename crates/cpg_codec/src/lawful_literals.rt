@@ -7,10 +7,10 @@ ghost use Rattle.cpg_codec.specs.Grammar.{IsSpace};
 
 use crate::space::{is_range, is_variable};
 use cpg_cube::Literal;
-use cpg_table::Space;
+use cpg_table::VariableSpace;
 
 /// Whether a range is a part of the fault counts of a process, and not all of them.
-fn is_part(space: &Space, literal: Literal) -> bool
+fn is_part(space: &VariableSpace, literal: Literal) -> bool
     ensures { IsTrue result → literal.variable < space.now.processes → IsCountLiteral space.now literal }
 {
     let within = (literal.low <= literal.high) & (literal.high <= space.faults);
@@ -19,7 +19,7 @@ fn is_part(space: &Space, literal: Literal) -> bool
 }
 
 /// Whether each range is such a part: without a way out before the last, as the compiler makes fast loops of such.
-fn are_parts(space: &Space, literals: &[Literal]) -> bool
+fn are_parts(space: &VariableSpace, literals: &[Literal]) -> bool
     ensures { OnTrue result (All (λ l. l.variable < space.now.processes → IsCountLiteral space.now l) literals.now) }
 {
     let mut are = true;
@@ -41,7 +41,7 @@ fn are_below(literals: &[Literal], end: u32) -> bool
 }
 
 /// Whether all literals are on fault counts, and lawful.
-fn are_counts(space: &Space, literals: &[Literal]) -> bool
+fn are_counts(space: &VariableSpace, literals: &[Literal]) -> bool
     requires { IsRising literals.now }
     ensures { OnTrue result (All (IsCountLiteral space.now) literals.now) }
 {
@@ -52,7 +52,7 @@ fn are_counts(space: &Space, literals: &[Literal]) -> bool
 }
 
 /// Whether a literal is on a variable of the tables, and its range a lawful part of the numbers of that.
-fn is_lawful(space: &Space, literal: Literal) -> bool
+fn is_lawful(space: &VariableSpace, literal: Literal) -> bool
     requires { IsSpace space.now }
     ensures { IsTrue result → IsLawfulLiteral space.now literal }
 {
@@ -60,7 +60,7 @@ fn is_lawful(space: &Space, literal: Literal) -> bool
 }
 
 /// Whether each literal is lawful, one after another.
-fn is_each_lawful(space: &Space, literals: &[Literal]) -> bool
+fn is_each_lawful(space: &VariableSpace, literals: &[Literal]) -> bool
     requires { IsSpace space.now }
     ensures { OnTrue result (All (IsLawfulLiteral space.now) literals.now) }
 {
@@ -73,7 +73,7 @@ fn is_each_lawful(space: &Space, literals: &[Literal]) -> bool
 }
 
 /// Whether literals that rise are lawful.
-pub fn are_lawful(space: &Space, literals: &[Literal]) -> bool
+pub fn are_lawful(space: &VariableSpace, literals: &[Literal]) -> bool
     requires space { IsSpace space.now }
     requires rising { IsRising literals.now }
     ensures { OnTrue result (All (IsLawfulLiteral space.now) literals.now) }

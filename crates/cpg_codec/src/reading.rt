@@ -13,7 +13,7 @@ use crate::row_reading::table_of;
 use crate::space::space_of;
 use crate::unread::Unread;
 use cpg_head::Head;
-use cpg_table::{NodeItems, NodeTable, Space, Tables};
+use cpg_table::{NodeItems, NodeTable, Tables, VariableSpace};
 use std::alloc::Global;
 
 /// The tables of all nodes.
@@ -21,7 +21,7 @@ fn nodes_of(
     alloc: Global,
     unread: &mut Unread,
     head: &Head,
-    space: &Space,
+    space: &VariableSpace,
 ) -> Result<Vec<NodeTable>, ReadError>
     requires space { space.now ≡ space_of head.now }
     requires within { IsSpace space.now }

@@ -18,11 +18,11 @@ use crate::unread::Unread;
 use cpg_base::{MOST_COLUMNS, MOST_LOAD, OutOfMemory};
 use cpg_cube::{Cube, Entry, Literal};
 use cpg_head::{Head, TIME_END};
-use cpg_table::{NodeTable, Row, Space};
+use cpg_table::{NodeTable, Row, VariableSpace};
 use std::alloc::Global;
 
 /// Whether a literal may be on a variable, after those below `least` and with `left` more after it.
-fn variable_may(space: &Space, least: u32, left: u32, variable: u8) -> bool
+fn variable_may(space: &VariableSpace, least: u32, left: u32, variable: u8) -> bool
     requires { IsSpace space.now }
     ensures { result ≡ variable_may space.now least left variable }
 {
@@ -32,7 +32,7 @@ fn variable_may(space: &Space, least: u32, left: u32, variable: u8) -> bool
 
 fn variable_of<'a>(
     bytes: &'a [u8],
-    space: &Space,
+    space: &VariableSpace,
     least: u32,
     left: u32,
 ) -> Result<(u8, &'a [u8]), ReadError>
@@ -54,7 +54,7 @@ fn variable_of<'a>(
 #[tactic(auto, unfolding(crate::specs::Grammar::literal_at))]
 fn literal_by_fields<'a>(
     bytes: &'a [u8],
-    space: &Space,
+    space: &VariableSpace,
     left: u32,
     least: u32,
 ) -> Result<(Literal, &'a [u8]), ReadError>
@@ -75,7 +75,7 @@ fn literal_by_fields<'a>(
 }
 
 /// Whether a literal may stand here, with `left` more behind it.
-fn is_next(space: &Space, left: u32, least: u32, literal: Literal) -> bool
+fn is_next(space: &VariableSpace, left: u32, least: u32, literal: Literal) -> bool
     requires { IsSpace space.now }
     ensures { IsTrue result → (variable_may space.now least left literal.variable ≡ true) ×
         (literal.low ≤ low_end space.now literal.variable) × (literal.low ≤ literal.high) × (literal.high ≤ high_end space.now literal.variable literal.low) }
@@ -89,7 +89,7 @@ fn is_next(space: &Space, left: u32, least: u32, literal: Literal) -> bool
 /// A literal with `left` more behind it.
 fn literal_of<'a>(
     bytes: &'a [u8],
-    space: &Space,
+    space: &VariableSpace,
     left: u32,
     least: u32,
 ) -> Result<(Literal, &'a [u8]), ReadError>
@@ -114,7 +114,7 @@ fn literal_of<'a>(
 fn literals_of<'a>(
     alloc: Global,
     bytes: &'a [u8],
-    space: &Space,
+    space: &VariableSpace,
     count: u8,
 ) -> Result<(Vec<Literal>, &'a [u8]), ReadError>
     requires { IsSpace space.now }
@@ -146,7 +146,10 @@ fn cube_of(alloc: Global, literals: &[Literal]) -> Result<Cube, OutOfMemory>
 
 /// The time of a column, and how many literals it has; field by field.
 #[tactic(auto, unfolding(crate::specs::Grammar::front_at))]
-fn front_by_fields<'a>(bytes: &'a [u8], space: &Space) -> Result<(u64, u8, &'a [u8]), ReadError>
+fn front_by_fields<'a>(
+    bytes: &'a [u8],
+    space: &VariableSpace,
+) -> Result<(u64, u8, &'a [u8]), ReadError>
     requires { IsSpace space.now }
     ensures { Gives (λ x. ((x.0, x.1), x.2.now)) result (front_at space.now bytes.now) }
 {
@@ -155,7 +158,7 @@ fn front_by_fields<'a>(bytes: &'a [u8], space: &Space) -> Result<(u64, u8, &'a [
     Ok((time, count, rest))
 }
 
-fn is_front(space: &Space, time: u64, count: u8) -> bool
+fn is_front(space: &VariableSpace, time: u64, count: u8) -> bool
     requires { IsSpace space.now }
     ensures { IsTrue result → (time < 2 ^ 60) × (count ≤ room space.now 0) }
 {
@@ -163,7 +166,7 @@ fn is_front(space: &Space, time: u64, count: u8) -> bool
 }
 
 /// The time of a column, and how many literals it has.
-fn front_of<'a>(bytes: &'a [u8], space: &Space) -> Result<(u64, u8, &'a [u8]), ReadError>
+fn front_of<'a>(bytes: &'a [u8], space: &VariableSpace) -> Result<(u64, u8, &'a [u8]), ReadError>
     requires { IsSpace space.now }
     ensures { Gives (λ x. ((x.0, x.1), x.2.now)) result (front_at space.now bytes.now) }
 {
@@ -183,7 +186,7 @@ fn front_of<'a>(bytes: &'a [u8], space: &Space) -> Result<(u64, u8, &'a [u8]), R
 fn column_of<'a>(
     alloc: Global,
     bytes: &'a [u8],
-    space: &Space,
+    space: &VariableSpace,
 ) -> Result<(Entry, &'a [u8]), ReadError>
     requires { IsSpace space.now }
     ensures { Gives (λ x. (x.0, x.1.now)) result (column_at space.now bytes.now) }
@@ -198,7 +201,7 @@ fn column_of<'a>(
 fn columns_of<'a>(
     alloc: Global,
     bytes: &'a [u8],
-    space: &Space,
+    space: &VariableSpace,
     count: u16,
 ) -> Result<(Vec<Entry>, &'a [u8]), ReadError>
     requires { IsSpace space.now }
@@ -220,7 +223,7 @@ fn columns_of<'a>(
 fn row_by_fields<'a>(
     alloc: Global,
     bytes: &'a [u8],
-    space: &Space,
+    space: &VariableSpace,
     item: u32,
     before: u64,
 ) -> Result<(Row, u64, &'a [u8]), ReadError>
@@ -240,7 +243,7 @@ fn row_of<'a>(
     alloc: Global,
     held: &mut Vec<Literal>,
     bytes: &'a [u8],
-    space: &Space,
+    space: &VariableSpace,
     item: u32,
     before: u64,
 ) -> Result<(Row, u64, &'a [u8]), ReadError>
@@ -261,7 +264,7 @@ fn next_row(
     alloc: Global,
     held: &mut Vec<Literal>,
     unread: &mut Unread,
-    space: &Space,
+    space: &VariableSpace,
     item: u32,
     before: u64,
 ) -> Result<(Row, u64), ReadError>
@@ -280,7 +283,7 @@ fn next_row(
 fn rows_of(
     alloc: Global,
     unread: &mut Unread,
-    space: &Space,
+    space: &VariableSpace,
     items: &[u32],
     before: u64,
 ) -> Result<(Vec<Row>, u64), ReadError>
@@ -307,7 +310,7 @@ pub fn table_of(
     alloc: Global,
     unread: &mut Unread,
     head: &Head,
-    space: &Space,
+    space: &VariableSpace,
     node: u32,
     items: &[u32],
     before: u64,

@@ -12,7 +12,7 @@ use crate::lawful_literals::are_lawful;
 use cpg_base::{MOST_COLUMNS, MOST_LOAD};
 use cpg_cube::{Cube, Entry, Literal};
 use cpg_head::TIME_END;
-use cpg_table::{Row, Space};
+use cpg_table::{Row, VariableSpace};
 use std::alloc::Global;
 
 /// The time of a column, in time units of the graph file, and how many literals it has.
@@ -129,7 +129,7 @@ fn take_column<'a>(
     alloc: Global,
     held: &mut Vec<Literal>,
     bytes: &'a [u8],
-    space: &Space,
+    space: &VariableSpace,
 ) -> Result<(Entry, &'a [u8]), Untaken>
     requires { IsSpace space.now }
     ensures taken { IfOk result (λ x. bytes.now ≡ column_bytes x.0 ++ x.1.now) }
@@ -154,7 +154,7 @@ fn take_columns<'a>(
     alloc: Global,
     held: &mut Vec<Literal>,
     bytes: &'a [u8],
-    space: &Space,
+    space: &VariableSpace,
     count: u16,
 ) -> Result<(Vec<Entry>, &'a [u8]), Untaken>
     requires { IsSpace space.now }
@@ -177,7 +177,7 @@ fn take_row<'a>(
     alloc: Global,
     held: &mut Vec<Literal>,
     bytes: &'a [u8],
-    space: &Space,
+    space: &VariableSpace,
     item: u32,
     most: u64,
 ) -> Result<(Row, &'a [u8]), Untaken>
@@ -203,7 +203,7 @@ pub fn take_lawful<'a>(
     alloc: Global,
     held: &mut Vec<Literal>,
     bytes: &'a [u8],
-    space: &Space,
+    space: &VariableSpace,
     item: u32,
     before: u64,
 ) -> Result<(Row, u64, &'a [u8]), Untaken>

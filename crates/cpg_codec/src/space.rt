@@ -6,13 +6,13 @@ ghost use Rattle.cpg_codec.specs.Grammar.{fault_end, is_variable, room, IsSpace,
 use cpg_base::top;
 use cpg_cube::Literal;
 use cpg_head::Head;
-use cpg_table::Space;
+use cpg_table::VariableSpace;
 
 /// The variable of the first condition's value.
 const FIRST_VALUE: u32 = cpg_base::FIRST_VALUE as u32;
 
 /// The variables that there are under a head.
-pub fn space_of(head: &Head) -> Space
+pub fn space_of(head: &Head) -> VariableSpace
     ensures space { result ≡ space_of head.now }
     ensures within { IsSpace result }
 {
@@ -22,7 +22,7 @@ pub fn space_of(head: &Head) -> Space
 }
 
 /// The fault variables are below this.
-fn fault_end(space: &Space) -> u32
+fn fault_end(space: &VariableSpace) -> u32
     ensures { result ≡ fault_end space.now }
 {
     if space.faults == 0 {
@@ -33,7 +33,7 @@ fn fault_end(space: &Space) -> u32
 }
 
 /// Whether a literal may be on a variable.
-pub fn is_variable(space: &Space, variable: u32) -> bool
+pub fn is_variable(space: &VariableSpace, variable: u32) -> bool
     requires { IsSpace space.now }
     ensures { result ≡ is_variable space.now variable }
 {
@@ -42,7 +42,7 @@ pub fn is_variable(space: &Space, variable: u32) -> bool
 }
 
 /// How many variables there are from this one on.
-pub fn room(space: &Space, variable: u32) -> u32
+pub fn room(space: &VariableSpace, variable: u32) -> u32
     requires { IsSpace space.now }
     ensures { result ≡ room space.now variable }
 {
@@ -51,14 +51,14 @@ pub fn room(space: &Space, variable: u32) -> u32
 }
 
 /// The greatest low of a literal on this variable.
-pub fn low_end(space: &Space, variable: u8) -> u8
+pub fn low_end(space: &VariableSpace, variable: u8) -> u8
     ensures { result ≡ low_end space.now variable }
 {
     top(space.faults, variable)
 }
 
 /// The greatest high of a literal on this variable with this low.
-pub fn high_end(space: &Space, variable: u8, low: u8) -> u8
+pub fn high_end(space: &VariableSpace, variable: u8, low: u8) -> u8
     ensures { result ≡ high_end space.now variable low }
 {
     if u32::from(variable) < FIRST_VALUE {
@@ -73,7 +73,7 @@ pub fn high_end(space: &Space, variable: u8, low: u8) -> u8
 }
 
 /// Whether a literal has a range that one on its variable may have.
-pub fn is_range(space: &Space, literal: Literal) -> bool
+pub fn is_range(space: &VariableSpace, literal: Literal) -> bool
     ensures { IsTrue result → (literal.low ≤ low_end space.now literal.variable) × (literal.low ≤ literal.high)
         × (literal.high ≤ high_end space.now literal.variable literal.low) }
 {

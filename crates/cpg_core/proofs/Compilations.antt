@@ -1,5 +1,6 @@
 -- What builders answer under both orders is a compilation if nothing is late, and else shows what is.
-use Rattle.std.proofs.Common.{◌≡◌, ◌+◌, ◌-◌, ◌<◌, ◌≤◌, ◌∙◌, ℕ, zero, suc, List, [], ◌∷◌, Option, Some, None, Contains, unwrap_or, option_to_list, flat_map, length, get_or, refl, sym, ap, subst, inl, inr, arith}
+use Rattle.std.proofs.Common.{◌≡◌, ◌+◌, ◌-◌, ◌<◌, ◌≤◌, ◌∙◌, ℕ, zero, suc, List, [], ◌∷◌, Option, Some, None, Contains, unwrap_or, option_to_list, flat_map, length, get_or, refl, sym, ap, subst, inl}
+use Rattle.std.proofs.Common.{inr, arith}
 use Rattle.std.proofs.lemmas.Bool.{cases_lt}
 use Rattle.std.proofs.lemmas.List.{get_or_past}
 use Rattle.std.proofs.lemmas.List.Elements.{Contains-append_left, Contains-append_right}
@@ -39,7 +40,8 @@ built_valid g urgency order b is none = record {
     kept rule = is.rules rule (λ e. cc)
 
 -- nothing is late if no process is shown
-pub nothing_late : (g : Graph) (urgency order : List ℕ) (frozen : List (Option ℕ)) (peak : Peak) → IsExcess g urgency order frozen peak.time peak.scenario peak.process → peak.process ≡ None → peak.time ≡ 0
+pub nothing_late : (g : Graph) (urgency order : List ℕ) (frozen : List (Option ℕ)) (peak : Peak) → IsExcess g urgency order frozen peak.time peak.scenario peak.process → peak.process ≡ None →
+    peak.time ≡ 0
 nothing_late g urgency order frozen peak is none =
     let run = is.least.holds in
     subst (IsLeastExceeding g run.0 peak.time) none (is.by run.0 run.1)
@@ -126,7 +128,8 @@ pub some_shown : (g : Graph) (urgency order : List ℕ) (t : Grown) → IsGrownF
 some_shown g urgency order t is l e = omega (arith, nothing_late g urgency order t.trees.frozen t.excess is.excess e)
 
 -- nothing is late under the order that compiles the graph
-module _ (g : Graph) (w : WellFormed g) (urgency : List ℕ) (top : IsTopological g urgency) (first_top : IsTopological g (first_order g urgency)) (narrow : g.order ≡ None → IsNarrow g (first_order g urgency))
+module _ (g : Graph) (w : WellFormed g) (urgency : List ℕ) (top : IsTopological g urgency) (first_top : IsTopological g (first_order g urgency))
+    (narrow : g.order ≡ None → IsNarrow g (first_order g urgency))
     (joins : HasSingleJoins g) (by : IsUrgencyOrder g urgency) where
   compilation : (order : List ℕ) → IsCompileOrder g urgency order → (b : Built) → IsBuiltFor g urgency order b → DoTablesFit g b.tables.nodes → b.excess ≡ 0 →
       IsCompilation g urgency (record { built = b; order = order })
@@ -141,4 +144,5 @@ module _ (g : Graph) (w : WellFormed g) (urgency : List ℕ) (top : IsTopologica
 
   -- the tables of what is found under it
   pub made : (t : Grown) (c : Compiled) → IsMadeOf g urgency t c → t.excess.time ≡ 0 → IsCompileOrder g urgency t.order → IsCompilation g urgency c
-  made t c is_made e taken = compilation c.order (subst (IsCompileOrder g urgency) (sym is_made.order) taken) c.built (subst (λ o. IsBuiltFor g urgency o c.built) (sym is_made.order) is_made.built) is_made.fit (is_made.excess ∙ e)
+  made t c is_made e taken = compilation c.order (subst (IsCompileOrder g urgency) (sym is_made.order) taken) c.built
+      (subst (λ o. IsBuiltFor g urgency o c.built) (sym is_made.order) is_made.built) is_made.fit (is_made.excess ∙ e)

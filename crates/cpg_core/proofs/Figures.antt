@@ -11,7 +11,7 @@ use Rattle.cpg_expand.specs.declared.expanding.Grown.{Grown}
 use Rattle.cpg_latest.specs.Laws.{HasFigures}
 use Rattle.cpg_core.specs.Accepted.{IsAccepted, IsTaken, order_taken}
 use Rattle.cpg_core.specs.Compiled.{IsBetter, IsLateUnder, IsMeasured}
-use Rattle.cpg_core.specs.declared.choosing.Taken.{Taken}
+use Rattle.cpg_core.specs.declared.choosing.TakenOrder.{TakenOrder}
 use Rattle.cpg_core.proofs.Compilations.{found_measured}
 use Rattle.cpg_core.proofs.CompiledLaws.{not_preferred_given, not_preferred_many, not_preferred_wide, not_preferred_worse, one_measure, preferred}
 use Rattle.cpg_core.proofs.MeasuredFrom.{measured_from}
@@ -25,7 +25,7 @@ module _ (g : Graph) (w : WellFormed g) (urgency : List ℕ) (top : IsTopologica
     own = figures_measure g w urgency (first_order g urgency) first_top e v first
 
     -- the first order is taken
-    abbrev pub by_first : Taken
+    abbrev pub by_first : TakenOrder
     by_first = record { figures = record { excess = e; worst = v }; order = None }
 
     pub first_given : g.order ≢ None → IsTaken g urgency by_first
@@ -106,13 +106,15 @@ module _ (g : Graph) (w : WellFormed g) (urgency : List ℕ) (top : IsTopologica
   module _ (first : Grown) (is : IsGrownFor g urgency (first_order g urgency) first) where
     -- has the figures that it has
     pub grown_late : IsLateUnder g urgency (first_order g urgency) → 0 < first.excess.time
-    grown_late h = let same = one_measure g w urgency (first_order g urgency) first_top first.excess.time first.worst.time h.0 h.1 (found_measured g urgency (first_order g urgency) first is) h.2 in omega (arith, same.0, h.3)
+    grown_late h = let same = one_measure g w urgency (first_order g urgency) first_top first.excess.time first.worst.time h.0 h.1 (found_measured g urgency (first_order g urgency) first is) h.2 in
+        omega (arith, same.0, h.3)
 
     pub grown_in_time : (e v : ℕ) → IsMeasured g urgency (first_order g urgency) e v → e ≡ 0 → first.excess.time ≡ 0
     grown_in_time e v m z = (one_measure g w urgency (first_order g urgency) first_top first.excess.time first.worst.time e v (found_measured g urgency (first_order g urgency) first is) m).0 ∙ z
 
     -- without a track order
-    pub grown_many : (g.order ≡ None → IsNarrow g (first_order g urgency)) → HasManyTracks g → IsTaken g urgency (record { figures = record { excess = first.excess.time; worst = first.worst.time }; order = None })
+    pub grown_many : (g.order ≡ None → IsNarrow g (first_order g urgency)) → HasManyTracks g →
+        IsTaken g urgency (record { figures = record { excess = first.excess.time; worst = first.worst.time }; order = None })
     grown_many narrow many =
         let found = found_measured g urgency (first_order g urgency) first is in
         record {
@@ -128,7 +130,8 @@ module _ (g : Graph) (w : WellFormed g) (urgency : List ℕ) (top : IsTopologica
   tracked_in_time order order_top t is e v m z = (one_measure g w urgency order order_top t.excess.time t.worst.time e v (found_measured g urgency order t is) m).0 ∙ z
 
 -- a graph under whose compile's order nothing is late is accepted
-pub accepted : (g : Graph) (urgency : List ℕ) (t : Taken) → (g.order ≡ None → IsNarrow g (first_order g urgency)) → IsTaken g urgency t → t.figures.excess ≡ 0 → IsAccepted g urgency t.figures.worst
+pub accepted : (g : Graph) (urgency : List ℕ) (t : TakenOrder) → (g.order ≡ None → IsNarrow g (first_order g urgency)) → IsTaken g urgency t → t.figures.excess ≡ 0 →
+    IsAccepted g urgency t.figures.worst
 accepted g urgency t narrow a e =
     let order = order_taken (first_order g urgency) t.order in
     let is : IsMeasured g urgency order 0 t.figures.worst = subst (λ n. IsMeasured g urgency order n t.figures.worst) e a.measured in

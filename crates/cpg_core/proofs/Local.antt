@@ -23,7 +23,8 @@ first_of_option : (o : Option ℕ) → slice_get (option_to_list o) 0 ≡ o
 first_of_option None = refl
 first_of_option (Some x) = refl
 
-module _ (g : Graph) (order : List ℕ) (frozen : List (Option ℕ)) (tables : List NodeTable) (times : HasRunTimes g order frozen tables) (s : Scenario) (is : IsScenario g s) (t : Times) (run : IsRun g order frozen s t) where
+module _ (g : Graph) (order : List ℕ) (frozen : List (Option ℕ)) (tables : List NodeTable) (times : HasRunTimes g order frozen tables) (s : Scenario) (is : IsScenario g s) (t : Times)
+    (run : IsRun g order frozen s t) where
   time_is : (x : ℕ) → time_of tables x s ≡ get_or t.times x None
   time_is x = ap (λ ts. slice_get ts 0) (times s t x is run) ∙ first_of_option (get_or t.times x None)
 

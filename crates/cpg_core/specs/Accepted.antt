@@ -4,7 +4,7 @@ use Rattle.cpg_base.specs.Graph.{Graph}
 use Rattle.cpg_order.specs.Urgency.{IsTopological, first_order}
 use Rattle.cpg_reach.specs.Wide.{IsNarrow}
 use Rattle.cpg_core.specs.Compiled.{IsCompileOrder, IsCompiled, IsHelpless, IsLateUnder, IsMeasured}
-use Rattle.cpg_core.specs.declared.choosing.Taken.{Taken}
+use Rattle.cpg_core.specs.declared.choosing.TakenOrder.{TakenOrder}
 
 -- the track order where that is taken, and else the first order
 abbrev pub order_taken : List ℕ → Option (List ℕ) → List ℕ
@@ -13,7 +13,7 @@ order_taken first (Some order) = order
 
 -- the compile's order with its greatest excess and greatest finish; if something is late under it, something is under the first order,
 -- and nothing helps
-pub record IsTaken (g : Graph) (urgency : List ℕ) (t : Taken) : Type 0 where
+pub record IsTaken (g : Graph) (urgency : List ℕ) (t : TakenOrder) : Type 0 where
   pub taken : IsCompileOrder g urgency (order_taken (first_order g urgency) t.order)
   pub measured : IsMeasured g urgency (order_taken (first_order g urgency) t.order) t.figures.excess t.figures.worst
   pub topological : IfSome t.order (IsTopological g)

@@ -22,19 +22,19 @@ use std::alloc::Global;
 
 /// The compile's order with its figures.
 #[derive(Drop)]
-pub(crate) struct Taken {
+pub(crate) struct TakenOrder {
     /// The greatest excess and the greatest finish under it.
     pub(crate) figures: Figures,
     /// The track order, and `None` if the first order is taken.
     pub(crate) order: Option<Order>,
 }
 
-impl Taken {
+impl TakenOrder {
     /// The first order is taken.
-    fn first(figures: Figures) -> Taken
+    fn first(figures: Figures) -> TakenOrder
         ensures { result ≡ record { figures = figures; order = None } }
     {
-        Taken {
+        TakenOrder {
             figures,
             order: None,
         }
@@ -78,7 +78,7 @@ fn taken_of_tracks(
     tracks: &[Scenario],
     first: Figures,
     order: Order,
-) -> Result<Taken, OutOfMemory>
+) -> Result<TakenOrder, OutOfMemory>
     requires tracks { AreTracks admitted.now.graph (outcomes_of tracks.now) }
     requires narrow { admitted.now.graph.order ≡ None → IsNarrow admitted.now.graph (first_order admitted.now.graph admitted.now.order) }
     requires ungiven { admitted.now.graph.order ≡ None }
@@ -89,19 +89,19 @@ fn taken_of_tracks(
 {
     let first_order = admitted.first_order();
     if are_same(&order, first_order) {
-        return Ok(Taken::first(first));
+        return Ok(TakenOrder::first(first));
     }
     if let Some(_) = too_wide(alloc, admitted, &order)? {
-        return Ok(Taken::first(first));
+        return Ok(TakenOrder::first(first));
     }
     let figures = latest(alloc, admitted, &order, tracks)?;
     if is_better(&figures, &first) {
-        return Ok(Taken {
+        return Ok(TakenOrder {
             figures,
             order: Some(order),
         });
     }
-    Ok(Taken::first(first))
+    Ok(TakenOrder::first(first))
 }
 
 /// The compile's order with its figures, given the outcomes of a graph's tracks.
@@ -109,17 +109,17 @@ pub(crate) fn choose(
     alloc: Global,
     admitted: &Admitted,
     tracks: &[Scenario],
-) -> Result<Taken, OutOfMemory>
+) -> Result<TakenOrder, OutOfMemory>
     requires tracks { AreTracks admitted.now.graph (outcomes_of tracks.now) }
     requires narrow { admitted.now.graph.order ≡ None → IsNarrow admitted.now.graph (first_order admitted.now.graph admitted.now.order) }
     ensures { IfOk result (IsTaken admitted.now.graph admitted.now.order) }
 {
     let first = latest(alloc, admitted, admitted.first_order(), tracks)?;
     if admitted.given().is_some() {
-        return Ok(Taken::first(first));
+        return Ok(TakenOrder::first(first));
     }
     let Some(order) = merged_order(alloc, admitted)? else {
-        return Ok(Taken::first(first));
+        return Ok(TakenOrder::first(first));
     };
     let taken = taken_of_tracks(alloc, admitted, tracks, first, order)?;
     Ok(taken)

@@ -61,12 +61,14 @@ module _ (g : Graph) (order : List ℕ) (by : List (List Literal)) (cube : List 
   pub none_at_first : IsFirst g order (is_left_below 0) None
   none_at_first s i = and_right (is_left by cube s) (nat_lt (number_of s v) 0) (le-ltb (number_of s v) 0 (omega arith))
 
-  pub with_part : (m : ℕ) (found next : Option Scenario) → IsFirst g order (is_left_below m) found → IsFirst g order (is_left by (narrowed_by (only m) cube)) next → IsFirst g order (is_left_below (m + 1)) (earlier g order found next)
+  pub with_part : (m : ℕ) (found next : Option Scenario) → IsFirst g order (is_left_below m) found → IsFirst g order (is_left by (narrowed_by (only m) cube)) next →
+      IsFirst g order (is_left_below (m + 1)) (earlier g order found next)
   with_part m found next f h = first_same g order (λ s. is_left_below m s || is_left by (narrowed_by (only m) cube) s) (is_left_below (m + 1)) (earlier g order found next) (λ s i. sym (grown m s))
       (first_or g order (is_left_below m) (is_left by (narrowed_by (only m) cube)) found next f h)
 
   pub without_part : (m : ℕ) (found : Option Scenario) → with_literal (only m) cube ≡ None → IsFirst g order (is_left_below m) found → IsFirst g order (is_left_below (m + 1)) found
-  without_part m found e f = first_same g order (is_left_below m) (is_left_below (m + 1)) found (λ s i. sym (grown m s ∙ ap (λ b. is_left_below m s || b) (part_none g order by (only m) cube e s i) ∙ or-false (is_left_below m s))) f
+  without_part m found e f = first_same g order (is_left_below m) (is_left_below (m + 1)) found
+      (λ s i. sym (grown m s ∙ ap (λ b. is_left_below m s || b) (part_none g order by (only m) cube e s i) ∙ or-false (is_left_below m s))) f
 
   pub late_part : (m : ℕ) (found : Option Scenario) → IsLate g order (narrowed_by (only m) cube) found → IsFirst g order (is_left_below m) found → IsFirst g order (is_left_below (m + 1)) found
   late_part m None late f = absurd late

@@ -1,5 +1,6 @@
 -- The search for what a list of cubes leaves of a cube, step by step.
-use Rattle.std.proofs.Common.{ℕ, ◌+◌, ◌-◌, ◌<◌, ◌≤◌, ◌≡◌, Bool, true, false, cond, not, ◌&&◌, ◌||◌, List, [], ◌∷◌, length, get_or, map, IsPermutation, IsTrue, Option, None, Some, arith, refl, sym, ap, ◌∙◌, subst, ltb-true, ltb-false}
+use Rattle.std.proofs.Common.{ℕ, ◌+◌, ◌-◌, ◌<◌, ◌≤◌, ◌≡◌, Bool, true, false, cond, not, ◌&&◌, ◌||◌, List, [], ◌∷◌, length, get_or, map, IsPermutation, IsTrue, Option, None, Some, arith, refl, sym, ap}
+use Rattle.std.proofs.Common.{◌∙◌, subst, ltb-true, ltb-false}
 use Rattle.std.specs.Prelude.{remove, nat_lt, IfNone, IfSome}
 use Rattle.std.specs.List.{list_any}
 use Rattle.std.proofs.lemmas.Bool.{and_right, and_left}
@@ -69,18 +70,24 @@ module _ (g : Graph) (few : process_count g ≤ 128) (order : List ℕ) (by : Li
   first_below l cube o some none = by_case (nat_lt 0 l.low) refl some none
     where
       by_case : (b : Bool) → nat_lt 0 l.low ≡ b → IfSome (cond b (Some (record { variable = l.variable; low = 0; high = l.low - 1 })) None) (λ m. IsFirst g order (is_left by (narrowed_by m cube)) o)
-          → IfNone (cond b (Some (let m : Literal = record { variable = l.variable; low = 0; high = l.low - 1 } in m)) None) (o ≡ None) → IsFirst g order (λ s. is_below_range g few order by l s && is_left by cube s) o
+          → IfNone (cond b (Some (let m : Literal = record { variable = l.variable; low = 0; high = l.low - 1 } in m)) None) (o ≡ None) →
+          IsFirst g order (λ s. is_below_range g few order by l s && is_left by cube s) o
       by_case true t f n = left_below g few order by l cube o (ltb-true 0 l.low t) f
-      by_case false t f n = let h = ltb-false 0 l.low t in subst (IsFirst g order (λ s. is_below_range g few order by l s && is_left by cube s)) (sym n) (none_below g few order by l cube (omega arith))
+      by_case false t f n = let h = ltb-false 0 l.low t in subst (IsFirst g order (λ s. is_below_range g few order by l s && is_left by cube s)) (sym n)
+          (none_below g few order by l cube (omega arith))
 
-  pub first_above : (l : Literal) (cube : List Literal) (o : Option Scenario) → IsVariable g l.variable → IfSome (range_above g.faults l) (λ m. IsFirst g order (is_left by (narrowed_by m cube)) o) → IfNone (range_above g.faults l) (o ≡ None)
+  pub first_above : (l : Literal) (cube : List Literal) (o : Option Scenario) → IsVariable g l.variable → IfSome (range_above g.faults l) (λ m. IsFirst g order (is_left by (narrowed_by m cube)) o) →
+      IfNone (range_above g.faults l) (o ≡ None)
       → IsFirst g order (λ s. is_above_range g few order by l s && is_left by cube s) o
   first_above l cube o known some none = by_case (nat_lt l.high (top g.faults l.variable)) refl some none
     where
-      by_case : (b : Bool) → nat_lt l.high (top g.faults l.variable) ≡ b → IfSome (cond b (Some (record { variable = l.variable; low = l.high + 1; high = top g.faults l.variable })) None) (λ m. IsFirst g order (is_left by (narrowed_by m cube)) o)
-          → IfNone (cond b (Some (let m : Literal = record { variable = l.variable; low = l.high + 1; high = top g.faults l.variable } in m)) None) (o ≡ None) → IsFirst g order (λ s. is_above_range g few order by l s && is_left by cube s) o
+      by_case : (b : Bool) → nat_lt l.high (top g.faults l.variable) ≡ b → IfSome (cond b (Some (record { variable = l.variable; low = l.high + 1; high = top g.faults l.variable })) None)
+          (λ m. IsFirst g order (is_left by (narrowed_by m cube)) o)
+          → IfNone (cond b (Some (let m : Literal = record { variable = l.variable; low = l.high + 1; high = top g.faults l.variable } in m)) None) (o ≡ None) →
+          IsFirst g order (λ s. is_above_range g few order by l s && is_left by cube s) o
       by_case true t f n = left_above g few order by l cube o known f
-      by_case false t f n = subst (IsFirst g order (λ s. is_above_range g few order by l s && is_left by cube s)) (sym n) (none_above g few order by l cube known (ltb-false l.high (top g.faults l.variable) t))
+      by_case false t f n = subst (IsFirst g order (λ s. is_above_range g few order by l s && is_left by cube s)) (sym n)
+          (none_above g few order by l cube known (ltb-false l.high (top g.faults l.variable) t))
 
   -- ---- outside literals
 
@@ -96,9 +103,11 @@ module _ (g : Graph) (few : process_count g ≤ 128) (order : List ℕ) (by : Li
       (λ s. ((is_below_range g few order by l s && is_left by cube s) || (is_above_range g few order by l s && is_left by cube s)) || (is_left by (narrowed_by l cube) s && not (matches ls s)))
       (λ s. is_left by cube s && not (matches (l ∷ ls) s))
       (earlier g order (earlier g order below above) within)
-      (λ s i. ap (λ m. ((is_below_range g few order by l s && is_left by cube s) || (is_above_range g few order by l s && is_left by cube s)) || ((m && not (list_any (λ b. matches b s) by)) && not (matches ls s))) (matches-narrowed s l cube)
+      (λ s i. ap (λ m. ((is_below_range g few order by l s && is_left by cube s) || (is_above_range g few order by l s && is_left by cube s)) ||
+      ((m && not (list_any (λ b. matches b s) by)) && not (matches ls s))) (matches-narrowed s l cube)
       ∙ gathered (is_below_range g few order by l s) (is_above_range g few order by l s) (holds s l) (matches cube s) (not (list_any (λ b. matches b s) by)) (matches ls s) (in_range g few s i l))
-      (first_or g order (λ s. (is_below_range g few order by l s && is_left by cube s) || (is_above_range g few order by l s && is_left by cube s)) (λ s. is_left by (narrowed_by l cube) s && not (matches ls s)) (earlier g order below above) within
+      (first_or g order (λ s. (is_below_range g few order by l s && is_left by cube s) || (is_above_range g few order by l s && is_left by cube s))
+      (λ s. is_left by (narrowed_by l cube) s && not (matches ls s)) (earlier g order below above) within
       (first_or g order (λ s. is_below_range g few order by l s && is_left by cube s) (λ s. is_above_range g few order by l s && is_left by cube s) below above x y) z)
     where
       gathered : (a b h m u r : Bool) → not h ≡ (a || b) → (((a && (m && u)) || (b && (m && u))) || (((h && m) && u) && not r)) ≡ ((m && u) && not (h && r))
@@ -151,6 +160,7 @@ module _ (g : Graph) (order : List ℕ) (by : List (List Literal)) (l : Literal)
 
   module _ (c : List Literal) (some : with_literal l cube ≡ Some c) (kept : List (List Literal)) (same : (s : Scenario) → IsScenario g s → is_left kept c s ≡ is_left by c s) where
     -- the cubes that are kept leave the same
-    pub within_kept : (ls : List Literal) (o : Option Scenario) → IsFirst g order (λ s. is_left kept c s && not (matches ls s)) o → IsFirst g order (λ s. is_left by (narrowed_by l cube) s && not (matches ls s)) o
+    pub within_kept : (ls : List Literal) (o : Option Scenario) → IsFirst g order (λ s. is_left kept c s && not (matches ls s)) o →
+        IsFirst g order (λ s. is_left by (narrowed_by l cube) s && not (matches ls s)) o
     within_kept ls o f = first_same g order (λ s. is_left kept c s && not (matches ls s)) (λ s. is_left by (narrowed_by l cube) s && not (matches ls s)) o
         (λ s i. ap (λ b. b && not (matches ls s)) (same s i ∙ ap (λ d. is_left by d s) (sym (with-is l cube c some)))) f

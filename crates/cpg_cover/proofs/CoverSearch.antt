@@ -1,5 +1,6 @@
 -- Splitting a cube by the literals of others finds the least scenario that none of them matches.
-use Rattle.std.proofs.Common.{ℕ, ◌+◌, ◌-◌, ◌<◌, ◌≤◌, ◌≡◌, Bool, true, false, cond, not, ◌&&◌, ◌||◌, List, [], ◌∷◌, ◌++◌, Contains, Option, Some, None, arith, refl, sym, ap, ap₂, ◌∙◌, subst, ⊎_elim, lt-ltb, le-ltb}
+use Rattle.std.proofs.Common.{ℕ, ◌+◌, ◌-◌, ◌<◌, ◌≤◌, ◌≡◌, Bool, true, false, cond, not, ◌&&◌, ◌||◌, List, [], ◌∷◌, ◌++◌, Contains, Option, Some, None, arith, refl, sym, ap, ap₂, ◌∙◌, subst, ⊎_elim}
+use Rattle.std.proofs.Common.{lt-ltb, le-ltb}
 use Rattle.std.specs.Prelude.{nat_lt, All}
 use Rattle.std.specs.List.{list_any}
 use Rattle.std.proofs.Math.Bool.{or-false}
@@ -80,7 +81,8 @@ module _ (g : Graph) (few : process_count g ≤ 128) (s : Scenario) (lawful : Is
       (cases_lt l.high (number_of s l.variable)))
       (cases_lt (number_of s l.variable) l.low)
     where
-      outside : (holds s l ≡ true → ⊥) → (nat_lt (number_of s l.variable) l.low || nat_lt l.high (number_of s l.variable)) ≡ true → not (holds s l) ≡ (nat_lt (number_of s l.variable) l.low || nat_lt l.high (number_of s l.variable))
+      outside : (holds s l ≡ true → ⊥) → (nat_lt (number_of s l.variable) l.low || nat_lt l.high (number_of s l.variable)) ≡ true →
+          not (holds s l) ≡ (nat_lt (number_of s l.variable) l.low || nat_lt l.high (number_of s l.variable))
       outside n e = ap not (false_from_ne_true (holds s l) n) ∙ sym e
 
   -- some part matches exactly if the cube does and the other doesn't
@@ -115,14 +117,16 @@ module _ (g : Graph) (few : process_count g ≤ 128) where
   below_is l cube known is c k = one (nat_lt 0 l.low) k
     where
       one : (b : Bool) → Contains (cond b (narrowed_by (record { variable = l.variable; low = 0; high = l.low - 1 }) cube ∷ []) []) c → IsCube g c
-      one true h = only (IsCube g) (narrowed_by (record { variable = l.variable; low = 0; high = l.low - 1 }) cube) c h (cube-narrowed g (record { variable = l.variable; low = 0; high = l.low - 1 }) cube known is)
+      one true h = only (IsCube g) (narrowed_by (record { variable = l.variable; low = 0; high = l.low - 1 }) cube) c h
+          (cube-narrowed g (record { variable = l.variable; low = 0; high = l.low - 1 }) cube known is)
       one false h = absurd (Contains-nil c h)
 
   above_is : (l : Literal) (cube : List Literal) → IsVariable g l.variable → IsCube g cube → (c : List Literal) → Contains (part_above g.faults l cube) c → IsCube g c
   above_is l cube known is c k = one (nat_lt l.high (top g.faults l.variable)) k
     where
       one : (b : Bool) → Contains (cond b (narrowed_by (record { variable = l.variable; low = l.high + 1; high = top g.faults l.variable }) cube ∷ []) []) c → IsCube g c
-      one true h = only (IsCube g) (narrowed_by (record { variable = l.variable; low = l.high + 1; high = top g.faults l.variable }) cube) c h (cube-narrowed g (record { variable = l.variable; low = l.high + 1; high = top g.faults l.variable }) cube known is)
+      one true h = only (IsCube g) (narrowed_by (record { variable = l.variable; low = l.high + 1; high = top g.faults l.variable }) cube) c h
+          (cube-narrowed g (record { variable = l.variable; low = l.high + 1; high = top g.faults l.variable }) cube known is)
       one false h = absurd (Contains-nil c h)
 
   pub parts_are : (ls cube : List Literal) → All (λ l. IsVariable g l.variable) ls → IsCube g cube → (c : List Literal) → Contains (parts_outside g.faults ls cube) c → IsCube g c
@@ -130,12 +134,14 @@ module _ (g : Graph) (few : process_count g ≤ 128) where
   parts_are (l ∷ ls) cube known is c k =
       let h = All-head (λ m. IsVariable g m.variable) l ls known in
       ⊎_elim
-      (λ (a : Contains (part_below l cube ++ part_above g.faults l cube) c). ⊎_elim (below_is l cube h is c) (above_is l cube h is c) (Contains-append_cases (part_below l cube) (part_above g.faults l cube) c a))
+      (λ (a : Contains (part_below l cube ++ part_above g.faults l cube) c). ⊎_elim (below_is l cube h is c) (above_is l cube h is c)
+      (Contains-append_cases (part_below l cube) (part_above g.faults l cube) c a))
       (λ (a : Contains (parts_outside g.faults ls (narrowed_by l cube)) c). parts_are ls (narrowed_by l cube) (All-tail (λ m. IsVariable g m.variable) l ls known) (cube-narrowed g l cube h is) c a)
       (Contains-append_cases (part_below l cube ++ part_above g.faults l cube) (parts_outside g.faults ls (narrowed_by l cube)) c k)
 
   -- what is left by one more cube is left in some part of what is outside it
-  pub left_in_parts : (b : List Literal) (bs : List (List Literal)) (cube : List Literal) (s : Scenario) → IsScenario g s → All (λ l. IsVariable g l.variable) b → list_any (λ c. is_left bs c s) (parts_outside g.faults b cube) ≡ is_left (b ∷ bs) cube s
+  pub left_in_parts : (b : List Literal) (bs : List (List Literal)) (cube : List Literal) (s : Scenario) → IsScenario g s → All (λ l. IsVariable g l.variable) b →
+      list_any (λ c. is_left bs c s) (parts_outside g.faults b cube) ≡ is_left (b ∷ bs) cube s
   left_in_parts b bs cube s i known =
       both_any (not (list_any (λ d. matches d s) bs)) (parts_outside g.faults b cube)
       ∙ ap (λ x. x && not (list_any (λ d. matches d s) bs)) (matches_parts g few s i b cube known)
@@ -162,13 +168,15 @@ module _ (g : Graph) (few : process_count g ≤ 128) where
     pub left_by_parts : (b : List Literal) (bs : List (List Literal)) (cube : List Literal) (answer : List Literal → Option Scenario) → All (λ l. IsVariable g l.variable) b
         → ((c : List Literal) → Contains (parts_outside g.faults b cube) c → IsFirst g order (is_left bs c) (answer c))
         → IsFirst g order (is_left (b ∷ bs) cube) (first_of g order answer (parts_outside g.faults b cube))
-    left_by_parts b bs cube answer known h = first_same g order (λ s. list_any (λ c. is_left bs c s) (parts_outside g.faults b cube)) (is_left (b ∷ bs) cube) (first_of g order answer (parts_outside g.faults b cube))
+    left_by_parts b bs cube answer known h = first_same g order (λ s. list_any (λ c. is_left bs c s) (parts_outside g.faults b cube)) (is_left (b ∷ bs) cube)
+        (first_of g order answer (parts_outside g.faults b cube))
         (λ s i. left_in_parts b bs cube s i known)
         (first_of_all g order (is_left bs) answer (parts_outside g.faults b cube) h)
 
     -- ---- the whole search
 
-    when_met : (by : List (List Literal)) (cube : List Literal) (o : Option Scenario) → IsCube g cube → (is_met g.faults cube ≡ true → IsFirst g order (is_left by cube) o) → (m : Bool) → is_met g.faults cube ≡ m → IsFirst g order (is_left by cube) (cond m o None)
+    when_met : (by : List (List Literal)) (cube : List Literal) (o : Option Scenario) → IsCube g cube → (is_met g.faults cube ≡ true → IsFirst g order (is_left by cube) o) → (m : Bool) →
+        is_met g.faults cube ≡ m → IsFirst g order (is_left by cube) (cond m o None)
     when_met by cube o is f true e = f e
     when_met by cube o is f false e = left_of_none g order by cube (λ s i. false_from_ne_true (matches cube s) (λ t. both_ways (is_met g.faults cube) e (met_by g few cube is s i t)))
 

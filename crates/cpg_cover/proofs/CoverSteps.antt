@@ -40,7 +40,8 @@ module _ (g : Graph) (few : process_count g ≤ 128) (order : List ℕ) (by : Li
 
   -- ---- the parts below and above a literal
 
-  pub left_below : (l : Literal) (rest : List Literal) (o : Option Scenario) → 0 < l.low → IsFirst g order (is_left by (narrowed_by (record { variable = l.variable; low = 0; high = l.low - 1 }) rest)) o → IsFirst g order (λ s. is_below_range l s && is_left by rest s) o
+  pub left_below : (l : Literal) (rest : List Literal) (o : Option Scenario) → 0 < l.low → IsFirst g order
+      (is_left by (narrowed_by (record { variable = l.variable; low = 0; high = l.low - 1 }) rest)) o → IsFirst g order (λ s. is_below_range l s && is_left by rest s) o
   left_below l rest o some f =
       let m : Literal = record { variable = l.variable; low = 0; high = l.low - 1 } in
       first_same g order (is_left by (narrowed_by m rest)) (λ s. is_below_range l s && is_left by rest s) o
@@ -50,7 +51,9 @@ module _ (g : Graph) (few : process_count g ≤ 128) (order : List ℕ) (by : Li
       (λ t. let h = ltb-true (number_of s l.variable) l.low t in holds-from s m (omega arith) (omega arith)))
       f
 
-  pub left_above : (l : Literal) (rest : List Literal) (o : Option Scenario) → IsVariable g l.variable → IsFirst g order (is_left by (narrowed_by (record { variable = l.variable; low = l.high + 1; high = top g.faults l.variable }) rest)) o → IsFirst g order (λ s. is_above_range l s && is_left by rest s) o
+  pub left_above : (l : Literal) (rest : List Literal) (o : Option Scenario) → IsVariable g l.variable →
+      IsFirst g order (is_left by (narrowed_by (record { variable = l.variable; low = l.high + 1; high = top g.faults l.variable }) rest)) o →
+      IsFirst g order (λ s. is_above_range l s && is_left by rest s) o
   left_above l rest o known f =
       let m : Literal = record { variable = l.variable; low = l.high + 1; high = top g.faults l.variable } in
       first_same g order (is_left by (narrowed_by m rest)) (λ s. is_above_range l s && is_left by rest s) o

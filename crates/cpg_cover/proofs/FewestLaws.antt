@@ -1,5 +1,6 @@
 -- The fewest faults of numbers that no cube of a list matches: by one cube, by steps of a variable, and by parts without common variables.
-use Rattle.std.proofs.Common.{slice_set, ℕ, zero, suc, ◌+◌, ◌-◌, ◌<◌, ◌≤◌, ◌≡◌, ◌≢◌, min, max, Bool, true, false, cond, ◌&&◌, ◌||◌, ◌==◌, List, [], ◌∷◌, ◌++◌, length, get_or, take, sum_by, arith, refl, sym, ap, ap₂, ◌∙◌, ⊎_elim, le-leb, leb-true, eq-eqb, ne_eqb}
+use Rattle.std.proofs.Common.{slice_set, ℕ, zero, suc, ◌+◌, ◌-◌, ◌<◌, ◌≤◌, ◌≡◌, ◌≢◌, min, max, Bool, true, false, cond, ◌&&◌, ◌||◌, ◌==◌, List, [], ◌∷◌, ◌++◌, length, get_or, take, sum_by, arith}
+use Rattle.std.proofs.Common.{refl, sym, ap, ap₂, ◌∙◌, ⊎_elim, le-leb, leb-true, eq-eqb, ne_eqb}
 use Rattle.std.specs.Prelude.{nat_le}
 use Rattle.std.specs.List.{list_all, list_any, insert}
 use Rattle.std.proofs.Math.Bool.{or-false, and-true}
@@ -85,7 +86,8 @@ outside_more ls i d a r h f small g count e n t = ⊎_elim
         (λ (p : r ≤ 0). omega arith)
         (cases_lt 0 r)
 
-pub each_more : (cubes : List (List Literal)) (i : ℕ) (d : List Literal) (a r : ℕ) → i < length cubes → Needs (take i cubes) a → NeedsOutside (get_or cubes i d) r → Needs (take (i + 1) cubes) (max a r)
+pub each_more : (cubes : List (List Literal)) (i : ℕ) (d : List Literal) (a r : ℕ) → i < length cubes → Needs (take i cubes) a → NeedsOutside (get_or cubes i d) r →
+    Needs (take (i + 1) cubes) (max a r)
 each_more cubes i d a r h f g count e n values t =
     let x = f count e n values (false_from_ne_true _ (λ k. both_ways _ t (any_of_before (matches_at n) cubes i d h k))) in
     let y = g count e n (false_from_ne_true _ (λ k. both_ways _ t (any_of_last (matches_at n) cubes i d h k))) in
@@ -124,7 +126,8 @@ after_less v n count h some =
 abbrev pub Steps : List (List Literal) → ℕ → Bool → ℕ → List (List Literal) → Type 0
 Steps cubes v more room rest = (n : ℕ → ℕ) → IsStep v more room n → is_any_at (after v n) rest ≡ true → is_any_at n cubes ≡ true
 
-step_from : (v : ℕ) (more : Bool) (room count : ℕ) (n : ℕ → ℕ) → count ≡ 128 → AreValues n → (more ≡ false → n v ≡ 0) → (more ≡ true → 1 ≤ n v) → sum_by (after v n) (numbers_below count) ≤ room → IsStep v more room n
+step_from : (v : ℕ) (more : Bool) (room count : ℕ) (n : ℕ → ℕ) → count ≡ 128 → AreValues n → (more ≡ false → n v ≡ 0) → (more ≡ true → 1 ≤ n v) → sum_by (after v n) (numbers_below count) ≤ room →
+    IsStep v more room n
 step_from v more room count n e values off on few = record {
   values = values;
   zero = off;
@@ -132,7 +135,8 @@ step_from v more room count n e values off on few = record {
   few = λ u h. let a = counted (after v n) count u (omega arith) in omega arith;
 }
 
-by_step : (cubes rest : List (List Literal)) (v : ℕ) (more : Bool) (room r count : ℕ) (n : ℕ → ℕ) → Steps cubes v more room rest → Needs rest r → count ≡ 128 → AreValues n → IsStep v more room n → is_any_at n cubes ≡ false → r ≤ sum_by (after v n) (numbers_below count)
+by_step : (cubes rest : List (List Literal)) (v : ℕ) (more : Bool) (room r count : ℕ) (n : ℕ → ℕ) → Steps cubes v more room rest → Needs rest r → count ≡ 128 → AreValues n → IsStep v more room n →
+    is_any_at n cubes ≡ false → r ≤ sum_by (after v n) (numbers_below count)
 by_step cubes rest v more room r count n keeps needs e values is t = needs count e (after v n) (after_values v n values) (false_from_ne_true _ (λ k. both_ways _ t (keeps n is k)))
 
 pub without_from : (cubes rest : List (List Literal)) (v room r : ℕ) → Steps cubes v false room rest → Needs rest r → NeedsWithout cubes v room r
@@ -141,7 +145,8 @@ without_from cubes rest v room r keeps needs count e n values none few t =
     let x = by_step cubes rest v false room r count n keeps needs e values (step_from v false room count n e values (λ k. none) (λ k. cc) (omega arith)) t in
     omega arith
 
-pub value_from : (cubes off on : List (List Literal)) (v room a b r : ℕ) → 128 ≤ v → Steps cubes v false room off → Needs off a → Steps cubes v true room on → Needs on b → r ≤ a → r ≤ b → r ≤ room + 1 → Needs cubes r
+pub value_from : (cubes off on : List (List Literal)) (v room a b r : ℕ) → 128 ≤ v → Steps cubes v false room off → Needs off a → Steps cubes v true room on → Needs on b → r ≤ a → r ≤ b →
+    r ≤ room + 1 → Needs cubes r
 value_from cubes off on v room a b r large keeps needs keeps' needs' la lb lr count e n values t = ⊎_elim
     (λ (p : room < sum_by n (numbers_below count)). omega arith)
     (λ (p : sum_by n (numbers_below count) ≤ room).
@@ -162,7 +167,8 @@ count_without cubes v room w r small needs lw lr count e n values t = ⊎_elim
     omega arith)
     (cases_lt 0 (sum_by n (numbers_below count)))
 
-pub count_from : (cubes more : List (List Literal)) (v room w most b r : ℕ) → v < 128 → NeedsWithout cubes v room w → most ≤ room → most < w → 0 < most → Steps cubes v true (most - 1) more → Needs more b → r ≤ b + 1 → r ≤ most + 1 → Needs cubes r
+pub count_from : (cubes more : List (List Literal)) (v room w most b r : ℕ) → v < 128 → NeedsWithout cubes v room w → most ≤ room → most < w → 0 < most → Steps cubes v true (most - 1) more →
+    Needs more b → r ≤ b + 1 → r ≤ most + 1 → Needs cubes r
 count_from cubes more v room w most b r small needs lm lw some keeps needs' lb lr count e n values t = ⊎_elim
     (λ (p : most < sum_by n (numbers_below count)). omega arith)
     (λ (p : sum_by n (numbers_below count) ≤ most).
@@ -181,7 +187,8 @@ count_from cubes more v room w most b r small needs lm lw some keeps needs' lb l
 abbrev kept_at : List Bool → Bool → (ℕ → ℕ) → ℕ → ℕ
 kept_at marks wanted n v = cond (same_bool (get_or marks v false) wanted) (n v) 0
 
-same_all_at : (marks : List Bool) (wanted : Bool) (n : ℕ → ℕ) (ls : List Literal) → list_all (λ l. same_bool (get_or marks l.variable false) wanted) ls ≡ true → matches_at (kept_at marks wanted n) ls ≡ matches_at n ls
+same_all_at : (marks : List Bool) (wanted : Bool) (n : ℕ → ℕ) (ls : List Literal) → list_all (λ l. same_bool (get_or marks l.variable false) wanted) ls ≡ true →
+    matches_at (kept_at marks wanted n) ls ≡ matches_at n ls
 same_all_at marks wanted n [] t = refl
 same_all_at marks wanted n (l ∷ ls) t =
     let r = and_parts (same_bool (get_or marks l.variable false) wanted) (list_all (λ l. same_bool (get_or marks l.variable false) wanted) ls) t in
@@ -199,7 +206,8 @@ kept_values marks wanted n values v h = one (same_bool (get_or marks v false) wa
     one true = values v h
     one false = omega arith
 
-of_part : (cubes part : List (List Literal)) (marks : List Bool) (wanted : Bool) (r count : ℕ) (n : ℕ → ℕ) → AreMarked marks wanted part → ((m : ℕ → ℕ) → is_any_at m part ≡ true → is_any_at m cubes ≡ true) → Needs part r
+of_part : (cubes part : List (List Literal)) (marks : List Bool) (wanted : Bool) (r count : ℕ) (n : ℕ → ℕ) → AreMarked marks wanted part →
+    ((m : ℕ → ℕ) → is_any_at m part ≡ true → is_any_at m cubes ≡ true) → Needs part r
     → count ≡ 128 → AreValues n → is_any_at n cubes ≡ false → r ≤ sum_by (kept_at marks wanted n) (numbers_below count)
 of_part cubes part marks wanted r count n marked keeps needs e values t = needs count e (kept_at marks wanted n) (kept_values marks wanted n values)
     (same_any_at marks wanted n part marked ∙ false_from_ne_true _ (λ k. both_ways _ t (keeps n k)))
@@ -212,7 +220,8 @@ both_parts marks n count = sym (sum_by-add (kept_at marks true n) (kept_at marks
     one true x = omega arith
     one false x = omega arith
 
-pub parts_from : (cubes first others : List (List Literal)) (marks : List Bool) (a b r : ℕ) → AreMarked marks true first → AreMarked marks false others → ((m : ℕ → ℕ) → is_any_at m first ≡ true → is_any_at m cubes ≡ true)
+pub parts_from : (cubes first others : List (List Literal)) (marks : List Bool) (a b r : ℕ) → AreMarked marks true first → AreMarked marks false others →
+    ((m : ℕ → ℕ) → is_any_at m first ≡ true → is_any_at m cubes ≡ true)
     → ((m : ℕ → ℕ) → is_any_at m others ≡ true → is_any_at m cubes ≡ true) → Needs first a → Needs others b → r ≤ a + b → Needs cubes r
 parts_from cubes first others marks a b r m m' k k' f f' l count e n values t =
     let x = of_part cubes first marks true a count n m k f e values t in
@@ -236,12 +245,14 @@ NeedsOfMarked cubes marks r = (count : ℕ) → count ≡ 128 → (n : ℕ → �
 abbrev new_at : List Bool → List Bool → (ℕ → ℕ) → ℕ → ℕ
 new_at marks later n v = cond (same_bool (get_or later v false) true && same_bool (get_or marks v false) false) (n v) 0
 
-same_new_at : (marks later : List Bool) (n : ℕ → ℕ) (ls : List Literal) → list_all (λ l. same_bool (get_or marks l.variable false) false) ls ≡ true → list_all (λ l. same_bool (get_or later l.variable false) true) ls ≡ true → matches_at (new_at marks later n) ls ≡ matches_at n ls
+same_new_at : (marks later : List Bool) (n : ℕ → ℕ) (ls : List Literal) → list_all (λ l. same_bool (get_or marks l.variable false) false) ls ≡ true →
+    list_all (λ l. same_bool (get_or later l.variable false) true) ls ≡ true → matches_at (new_at marks later n) ls ≡ matches_at n ls
 same_new_at marks later n [] t u = refl
 same_new_at marks later n (l ∷ ls) t u =
     let r = and_parts (same_bool (get_or marks l.variable false) false) (list_all (λ m. same_bool (get_or marks m.variable false) false) ls) t in
     let q = and_parts (same_bool (get_or later l.variable false) true) (list_all (λ m. same_bool (get_or later m.variable false) true) ls) u in
-    ap₂ ◌&&◌ (ap (λ x. nat_le l.low x && nat_le x l.high) (cond-true (same_bool (get_or later l.variable false) true && same_bool (get_or marks l.variable false) false) (n l.variable) 0 (and_from _ _ q.0 r.0))) (same_new_at marks later n ls r.1 q.1)
+    ap₂ ◌&&◌ (ap (λ x. nat_le l.low x && nat_le x l.high)
+    (cond-true (same_bool (get_or later l.variable false) true && same_bool (get_or marks l.variable false) false) (n l.variable) 0 (and_from _ _ q.0 r.0))) (same_new_at marks later n ls r.1 q.1)
 
 both_marks : (m k : Bool) (x : ℕ) → (m ≡ true → k ≡ true) → cond (same_bool m true) x 0 + cond (same_bool k true && same_bool m false) x 0 ≤ cond (same_bool k true) x 0
 both_marks true true x h = omega arith
@@ -249,14 +260,17 @@ both_marks true false x h = cc (h refl)
 both_marks false true x h = omega arith
 both_marks false false x h = omega arith
 
-pub marked_more : (cubes : List (List Literal)) (c : List Literal) (marks later : List Bool) (a b r : ℕ) → NeedsOfMarked cubes marks a → ((n : ℕ → ℕ) → is_any_at n cubes ≡ false → matches_at n c ≡ false) → NeedsOutside c b
-    → list_all (λ l. same_bool (get_or marks l.variable false) false) c ≡ true → ((v : ℕ) → get_or marks v false ≡ true → get_or later v false ≡ true) → list_all (λ l. same_bool (get_or later l.variable false) true) c ≡ true → r ≤ a + b
+pub marked_more : (cubes : List (List Literal)) (c : List Literal) (marks later : List Bool) (a b r : ℕ) → NeedsOfMarked cubes marks a →
+    ((n : ℕ → ℕ) → is_any_at n cubes ≡ false → matches_at n c ≡ false) → NeedsOutside c b
+    → list_all (λ l. same_bool (get_or marks l.variable false) false) c ≡ true → ((v : ℕ) → get_or marks v false ≡ true → get_or later v false ≡ true) →
+    list_all (λ l. same_bool (get_or later l.variable false) true) c ≡ true → r ≤ a + b
     → NeedsOfMarked cubes later r
 marked_more cubes c marks later a b r f one g t h u l count e n values off =
     let x = f count e n values off in
     let y = g count e (new_at marks later n) (same_new_at marks later n c t u ∙ one n off) in
     let z = sum_by-add (kept_at marks true n) (new_at marks later n) (numbers_below count) in
-    let w = sum_by-le_each (λ v. kept_at marks true n v + new_at marks later n v) (kept_at later true n) (numbers_below count) (λ v k. both_marks (get_or marks v false) (get_or later v false) (n v) (h v)) in
+    let w = sum_by-le_each (λ v. kept_at marks true n v + new_at marks later n v) (kept_at later true n) (numbers_below count)
+    (λ v k. both_marks (get_or marks v false) (get_or later v false) (n v) (h v)) in
     omega arith
 
 pub marked_all : (cubes : List (List Literal)) (marks : List Bool) (r : ℕ) → NeedsOfMarked cubes marks r → Needs cubes r
@@ -284,7 +298,8 @@ now_marked [] i h = absurd (omega arith)
 now_marked (m ∷ ms) zero h = refl
 now_marked (m ∷ ms) (suc i) h = now_marked ms i (omega arith)
 
-pub all_still_marked : (marks later : List Bool) (ls : List Literal) → ((v : ℕ) → get_or marks v false ≡ true → get_or later v false ≡ true) → list_all (λ l. same_bool (get_or marks l.variable false) true) ls ≡ true → list_all (λ l. same_bool (get_or later l.variable false) true) ls ≡ true
+pub all_still_marked : (marks later : List Bool) (ls : List Literal) → ((v : ℕ) → get_or marks v false ≡ true → get_or later v false ≡ true) →
+    list_all (λ l. same_bool (get_or marks l.variable false) true) ls ≡ true → list_all (λ l. same_bool (get_or later l.variable false) true) ls ≡ true
 all_still_marked marks later [] h t = refl
 all_still_marked marks later (l ∷ ls) h t =
     let r = and_parts (same_bool (get_or marks l.variable false) true) (list_all (λ m. same_bool (get_or marks m.variable false) true) ls) t in

@@ -31,7 +31,8 @@ sum_short f a zero l h = let e : a ≡ 0 = omega arith in ap (λ m. sum_by f (nu
 sum_short f a (suc b) l h = ⊎_elim
     (λ (p : b < a). let e : suc b ≡ a = omega arith in ap (λ m. sum_by f (numbers_below m)) e)
     (λ (p : a ≤ b).
-    let x : sum_by f (numbers_below (suc b)) ≡ sum_by f (numbers_below b) + f b = ap (λ m. sum_by f (numbers_below m)) (sym (add-one b)) ∙ ap (sum_by f) (below_push b) ∙ sum_by_push f (numbers_below b) b in
+    let x : sum_by f (numbers_below (suc b)) ≡ sum_by f (numbers_below b) + f b = ap (λ m. sum_by f (numbers_below m)) (sym (add-one b)) ∙ ap (sum_by f) (below_push b) ∙
+    sum_by_push f (numbers_below b) b in
     let y = sum_short f a b p (λ v k m. h v k (omega arith)) in
     let z = h b p (omega arith) in
     let r : sum_by f (numbers_below (suc b)) ≡ sum_by f (numbers_below a) = omega arith in r)

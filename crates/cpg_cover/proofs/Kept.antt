@@ -14,7 +14,8 @@ use Rattle.cpg_cube.proofs.Mapped.{any_map}
 use Rattle.cpg_cover.specs.Cover.{is_left}
 
 -- what is left depends on the list only if the cube matches
-pub left_same : {X : Type 0} (f : X → List Literal) (xs ys : List X) (cube : List Literal) (s : Scenario) → (matches cube s ≡ true → list_any (λ b. matches (f b) s) xs ≡ list_any (λ b. matches (f b) s) ys)
+pub left_same : {X : Type 0} (f : X → List Literal) (xs ys : List X) (cube : List Literal) (s : Scenario) →
+    (matches cube s ≡ true → list_any (λ b. matches (f b) s) xs ≡ list_any (λ b. matches (f b) s) ys)
     → is_left (map f xs) cube s ≡ is_left (map f ys) cube s
 left_same f xs ys cube s h = ⊎_elim
     (λ (t : matches cube s ≡ true). ap (λ u. matches cube s && not u) (any_map (λ b. matches b s) f xs ∙ h t ∙ sym (any_map (λ b. matches b s) f ys)))
@@ -23,16 +24,20 @@ left_same f xs ys cube s h = ⊎_elim
 
 module _ {X : Type 0} (test : X → Bool) where
   pub kept_push : (kept by : List X) (i : ℕ) (d : X) → i < length by → list_any test kept ≡ list_any test (take i by) → list_any test (kept ++ get_or by i d ∷ []) ≡ list_any test (take (i + 1) by)
-  kept_push kept by i d h e = list_any-append test kept (get_or by i d ∷ []) ∙ ap (λ x. x || list_any test (get_or by i d ∷ [])) e ∙ sym (list_any-append test (take i by) (get_or by i d ∷ [])) ∙ sym (ap (list_any test) (take_more by i d h))
+  kept_push kept by i d h e = list_any-append test kept (get_or by i d ∷ []) ∙ ap (λ x. x || list_any test (get_or by i d ∷ [])) e ∙ sym (list_any-append test (take i by) (get_or by i d ∷ [])) ∙
+      sym (ap (list_any test) (take_more by i d h))
 
-  pub kept_skip : (kept by : List X) (i : ℕ) (d : X) → i < length by → test (get_or by i d) ≡ false → list_any test kept ≡ list_any test (take i by) → list_any test kept ≡ list_any test (take (i + 1) by)
+  pub kept_skip : (kept by : List X) (i : ℕ) (d : X) → i < length by → test (get_or by i d) ≡ false → list_any test kept ≡ list_any test (take i by) →
+      list_any test kept ≡ list_any test (take (i + 1) by)
   kept_skip kept by i d h n e = e ∙ sym (or-false (list_any test (take i by))) ∙ ap (λ x. list_any test (take i by) || x) (sym (or-false (test (get_or by i d)) ∙ n))
       ∙ sym (list_any-append test (take i by) (get_or by i d ∷ [])) ∙ sym (ap (list_any test) (take_more by i d h))
 
   pub all_push : (kept by : List X) (i : ℕ) (d : X) → i < length by → list_all test kept ≡ list_all test (take i by) → list_all test (kept ++ get_or by i d ∷ []) ≡ list_all test (take (i + 1) by)
-  all_push kept by i d h e = list_all-append test kept (get_or by i d ∷ []) ∙ ap (λ x. x && list_all test (get_or by i d ∷ [])) e ∙ sym (list_all-append test (take i by) (get_or by i d ∷ [])) ∙ sym (ap (list_all test) (take_more by i d h))
+  all_push kept by i d h e = list_all-append test kept (get_or by i d ∷ []) ∙ ap (λ x. x && list_all test (get_or by i d ∷ [])) e ∙ sym (list_all-append test (take i by) (get_or by i d ∷ [])) ∙
+      sym (ap (list_all test) (take_more by i d h))
 
-  pub all_skip : (kept by : List X) (i : ℕ) (d : X) → i < length by → test (get_or by i d) ≡ true → list_all test kept ≡ list_all test (take i by) → list_all test kept ≡ list_all test (take (i + 1) by)
+  pub all_skip : (kept by : List X) (i : ℕ) (d : X) → i < length by → test (get_or by i d) ≡ true → list_all test kept ≡ list_all test (take i by) →
+      list_all test kept ≡ list_all test (take (i + 1) by)
   all_skip kept by i d h n e = e ∙ sym (and-true (list_all test (take i by))) ∙ ap (λ x. list_all test (take i by) && x) (sym (and-true (test (get_or by i d)) ∙ n))
       ∙ sym (list_all-append test (take i by) (get_or by i d ∷ [])) ∙ sym (ap (list_all test) (take_more by i d h))
 

@@ -7,7 +7,7 @@ ghost use Rattle.cpg_cube.specs.Cube.{matches};
 ghost use Rattle.cpg_cube.specs.Fit.{IsKnown};
 ghost use Rattle.cpg_cover.specs.Fewest.{IsNarrow, IsOn, beyond, holds_at, is_any_at, matches_at};
 
-use crate::fewest::{Bound, DEPTH, fewest};
+use crate::fewest::{DEPTH, SearchBound, fewest};
 use crate::memory::Memory;
 use crate::stepping::{add, add_asked};
 use cpg_base::{FIRST_VALUE, OutOfMemory, Problem};
@@ -154,7 +154,7 @@ pub(crate) fn is_surely_covered(
     let ground = Ground { bounds, left };
     let mut cubes = ground.cubes(alloc, by)?;
     ground.add_over(alloc, cube.literals(), &mut cubes)?;
-    let bound = Bound {
+    let bound = SearchBound {
         room: left,
         depth: DEPTH,
     };

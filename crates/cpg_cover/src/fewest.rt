@@ -5,7 +5,7 @@ ghost use Rattle.cpg_cover.specs.Fewest.{Needs, NeedsOutside, NeedsWithout, hold
 use crate::frequency::count_in;
 use crate::memory::{Fact, Memory};
 use crate::parting::{are_all, has_apart, joined_variables, mark_all, parted};
-use crate::stepping::{Step, stepped};
+use crate::stepping::{SearchStep, stepped};
 use cpg_base::{FIRST_VALUE, OutOfMemory};
 use cpg_cube::{Cube, Literal};
 use std::alloc::Global;
@@ -15,7 +15,7 @@ pub(crate) const DEPTH: u32 = 256;
 
 /// What a search for the fewest faults is bounded by.
 #[derive(Clone, Copy)]
-pub(crate) struct Bound {
+pub(crate) struct SearchBound {
     /// No more faults than these are of interest.
     pub(crate) room: u8,
     /// How many calls more may stand in one another.
@@ -97,16 +97,16 @@ fn fewest_by_value(
     alloc: Global,
     cubes: &[Cube],
     variable: u8,
-    bound: Bound,
+    bound: SearchBound,
     memory: &mut Memory,
 ) -> Result<u8, OutOfMemory>
     requires { 128 ≤ variable }
     ensures { IfOk result (Needs cubes.now) }
 {
     let room = bound.room;
-    let zero = stepped(alloc, cubes, Step::none(variable), room)?;
+    let zero = stepped(alloc, cubes, SearchStep::none(variable), room)?;
     let without = fewest(alloc, zero.as_slice(), bound, memory)?;
-    let one = stepped(alloc, cubes, Step::more(variable), room)?;
+    let one = stepped(alloc, cubes, SearchStep::more(variable), room)?;
     let with = fewest(alloc, one.as_slice(), bound, memory)?;
     let fewer = without.min(with);
     Ok(fewer.min(room.saturating_add(1)))
@@ -119,7 +119,7 @@ fn fewest_with(
     cubes: &[Cube],
     variable: u8,
     without: u8,
-    bound: Bound,
+    bound: SearchBound,
     memory: &mut Memory,
 ) -> Result<u8, OutOfMemory>
     requires count { variable < 128 }
@@ -130,8 +130,8 @@ fn fewest_with(
     if most == 0 {
         return Ok(without.min(1));
     }
-    let more = stepped(alloc, cubes, Step::more(variable), most - 1)?;
-    let bound = Bound {
+    let more = stepped(alloc, cubes, SearchStep::more(variable), most - 1)?;
+    let bound = SearchBound {
         room: most - 1,
         depth: bound.depth,
     };
@@ -146,13 +146,13 @@ fn fewest_by_count(
     alloc: Global,
     cubes: &[Cube],
     variable: u8,
-    bound: Bound,
+    bound: SearchBound,
     memory: &mut Memory,
 ) -> Result<u8, OutOfMemory>
     requires { variable < 128 }
     ensures { IfOk result (Needs cubes.now) }
 {
-    let zero = stepped(alloc, cubes, Step::none(variable), bound.room)?;
+    let zero = stepped(alloc, cubes, SearchStep::none(variable), bound.room)?;
     let without = fewest(alloc, zero.as_slice(), bound, memory)?;
     let few = fewest_with(alloc, cubes, variable, without, bound, memory)?;
     Ok(few)
@@ -164,7 +164,7 @@ fn fewest_by_parts(
     alloc: Global,
     cubes: &[Cube],
     joined: &[bool; 256],
-    bound: Bound,
+    bound: SearchBound,
     memory: &mut Memory,
 ) -> Result<u8, OutOfMemory>
     ensures { IfOk result (Needs cubes.now) }
@@ -172,7 +172,7 @@ fn fewest_by_parts(
     let first = parted(alloc, cubes, joined, true)?;
     let few = fewest(alloc, first.as_slice(), bound, memory)?;
     let others = parted(alloc, cubes, joined, false)?;
-    let bound = Bound {
+    let bound = SearchBound {
         room: bound.room.saturating_sub(few),
         depth: bound.depth,
     };
@@ -185,7 +185,7 @@ fn fewest_by_parts(
 fn fewest_of_joined(
     alloc: Global,
     cubes: &[Cube],
-    bound: Bound,
+    bound: SearchBound,
     memory: &mut Memory,
 ) -> Result<u8, OutOfMemory>
     ensures { IfOk result (Needs cubes.now) }
@@ -213,7 +213,7 @@ fn fewest_of_joined(
 pub(crate) fn fewest(
     alloc: Global,
     cubes: &[Cube],
-    bound: Bound,
+    bound: SearchBound,
     memory: &mut Memory,
 ) -> Result<u8, OutOfMemory>
     ensures { IfOk result (Needs cubes.now) }
@@ -229,7 +229,7 @@ pub(crate) fn fewest(
     if bound.depth == 0 || memory.is_spent() || !cubes.iter().any(matches_zero) {
         return Ok(0);
     }
-    let bound = Bound {
+    let bound = SearchBound {
         room: bound.room,
         depth: bound.depth - 1,
     };

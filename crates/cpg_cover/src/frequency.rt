@@ -8,7 +8,7 @@ use std::cmp::Reverse;
 
 /// A literal, and how many cubes have one on its variable.
 #[derive(Clone, Copy, Debug, PartialEq, Eq, PartialOrd, Ord)]
-struct Rank {
+struct LiteralRank {
     count: Reverse<u32>,
     literal: Literal,
 }
@@ -30,13 +30,17 @@ fn frequencies(by: &[&Cube]) -> [u32; 256] {
     counts
 }
 
-fn ranks(alloc: Global, literals: &[Literal], counts: &[u32; 256]) -> Result<Vec<Rank>, OutOfMemory>
+fn ranks(
+    alloc: Global,
+    literals: &[Literal],
+    counts: &[u32; 256],
+) -> Result<Vec<LiteralRank>, OutOfMemory>
     ensures { IfOk result (λ ranks. map (λ r. r.literal) ranks.items ≡ literals.now) }
 {
     let mut ranks = Vec::new(alloc);
     ranks.reserve(literals.len())?;
     for literal in literals {
-        ranks.push(Rank {
+        ranks.push(LiteralRank {
             count: Reverse(counts[literal.variable as usize]),
             literal: *literal,
         })?;
@@ -44,7 +48,7 @@ fn ranks(alloc: Global, literals: &[Literal], counts: &[u32; 256]) -> Result<Vec
     Ok(ranks)
 }
 
-fn unranked(alloc: Global, ranks: &[Rank]) -> Result<Vec<Literal>, OutOfMemory>
+fn unranked(alloc: Global, ranks: &[LiteralRank]) -> Result<Vec<Literal>, OutOfMemory>
     ensures { IfOk result (λ literals. literals.items ≡ map (λ r. r.literal) ranks.now) }
 {
     let literals = ranks.iter().map(|rank| rank.literal).collect(alloc)?;

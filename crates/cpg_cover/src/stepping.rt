@@ -12,29 +12,29 @@ const LONG: usize = 256;
 
 /// A variable is 0, or more.
 #[derive(Clone, Copy)]
-pub(crate) struct Step {
+pub(crate) struct SearchStep {
     pub(crate) variable: u8,
     pub(crate) more: bool,
 }
 
-impl Step {
+impl SearchStep {
     /// The variable is 0.
-    pub(crate) fn none(variable: u8) -> Step
+    pub(crate) fn none(variable: u8) -> SearchStep
         ensures variable { result.variable ≡ variable }
         ensures more { result.more ≡ false }
     {
-        Step {
+        SearchStep {
             variable,
             more: false,
         }
     }
 
     /// It is more.
-    pub(crate) fn more(variable: u8) -> Step
+    pub(crate) fn more(variable: u8) -> SearchStep
         ensures variable { result.variable ≡ variable }
         ensures more { result.more ≡ true }
     {
-        Step {
+        SearchStep {
             variable,
             more: true,
         }
@@ -93,7 +93,7 @@ fn after_more(literal: Literal, room: u8) -> Rest
 }
 
 /// What a literal asks after the step.
-fn rest_of(literal: Literal, step: Step, room: u8) -> Rest
+fn rest_of(literal: Literal, step: SearchStep, room: u8) -> Rest
     ensures { (n : ℕ → ℕ) → IsStep step.variable step.more room n → rest_holds (after step.variable n) result ≡ true → holds_at n literal ≡ true }
 {
     if literal.variable != step.variable {
@@ -113,7 +113,7 @@ fn rest_of(literal: Literal, step: Step, room: u8) -> Rest
 fn asked_after(
     alloc: Global,
     literals: &[Literal],
-    step: Step,
+    step: SearchStep,
     room: u8,
 ) -> Result<Option<Vec<Literal>>, OutOfMemory>
     ensures { IfOk result (λ r. IfSome r (λ asked. (n : ℕ → ℕ) → IsStep step.variable step.more room n →
@@ -132,7 +132,7 @@ fn asked_after(
 
 /// Where a cube belongs in a list that is sorted, and `None` if it stands there already. A long list isn't kept sorted: it is
 /// at its end there.
-fn place_of(cubes: &[Cube], cube: &Cube) -> Option<usize>
+fn sorted_place(cubes: &[Cube], cube: &Cube) -> Option<usize>
     ensures { IfSome result (λ place. place ≤ length cubes.now) }
 {
     let mut place = cubes.len();
@@ -154,7 +154,7 @@ fn place_of(cubes: &[Cube], cube: &Cube) -> Option<usize>
 pub(crate) fn add(cubes: &mut Vec<Cube>, cube: Cube) -> Result<(), OutOfMemory>
     ensures { IfOk result (λ _. (n : ℕ → ℕ) → is_any_at n cubes.new.items ≡ true → (is_any_at n cubes.old.items || matches_at n cube) ≡ true) }
 {
-    if let Some(place) = place_of(cubes.as_slice(), &cube) {
+    if let Some(place) = sorted_place(cubes.as_slice(), &cube) {
         cubes.insert(place, cube)?;
     }
     Ok(())
@@ -178,7 +178,7 @@ pub(crate) fn add_asked(
 pub(crate) fn stepped(
     alloc: Global,
     cubes: &[Cube],
-    step: Step,
+    step: SearchStep,
     room: u8,
 ) -> Result<Vec<Cube>, OutOfMemory>
     ensures { IfOk result (λ rest. (n : ℕ → ℕ) → IsStep step.variable step.more room n →

@@ -1,5 +1,6 @@
 -- What the bounds of a cube tell of another: whether they meet, and whether it lies within the other.
-use Rattle.std.proofs.Common.{ℕ, ◌+◌, ◌-◌, ◌<◌, ◌≤◌, ◌≡◌, ◌⊎◌, min, true, cond, not, ◌&&◌, ◌||◌, ◌==◌, List, [], ◌∷◌, get_or, map, sum_by, Contains, arith, refl, sym, ap, ap₂, ◌∙◌, ⊎_elim, inl, inr, lt-ltb, le-ltb, le-leb, leb-true, eq-eqb, ne_eqb}
+use Rattle.std.proofs.Common.{ℕ, ◌+◌, ◌-◌, ◌<◌, ◌≤◌, ◌≡◌, ◌⊎◌, min, true, cond, not, ◌&&◌, ◌||◌, ◌==◌, List, [], ◌∷◌, get_or, map, sum_by, Contains, arith, refl, sym, ap, ap₂, ◌∙◌, ⊎_elim, inl, inr}
+use Rattle.std.proofs.Common.{lt-ltb, le-ltb, le-leb, leb-true, eq-eqb, ne_eqb}
 use Rattle.std.specs.Prelude.{nat_lt, nat_le, is_some}
 use Rattle.std.specs.List.{list_all}
 use Rattle.std.proofs.lemmas.Bool.{cases_eq, cases_lt, cond-true, cond-false, and_parts, and_from}
@@ -32,7 +33,8 @@ low_of_some (l ∷ ls) v = ⊎_elim
     (cases_eq l.variable v)
 
 -- the bound, beside the high
-bound_of_some : (k : ℕ) (ls : List Literal) (v : ℕ) → ((bound_in ls v ≡ 255) × (low_in ls v ≡ 0) × (high_in k ls v ≡ top k v)) ⊎ ((m : Literal) × Contains ls m × (m.variable ≡ v) × (bound_in ls v ≡ m.high) × (high_in k ls v ≡ m.high))
+bound_of_some : (k : ℕ) (ls : List Literal) (v : ℕ) → ((bound_in ls v ≡ 255) × (low_in ls v ≡ 0) × (high_in k ls v ≡ top k v)) ⊎
+    ((m : Literal) × Contains ls m × (m.variable ≡ v) × (bound_in ls v ≡ m.high) × (high_in k ls v ≡ m.high))
 bound_of_some k [] v = inl (refl, refl, refl)
 bound_of_some k (l ∷ ls) v = ⊎_elim
     (λ (e : l.variable ≡ v). inr (l, Contains-first l ls, e, bound_here l v ls e, cond-true (l.variable == v) l.high (high_in k ls v) (eq-eqb l.variable v e)))

@@ -1,5 +1,6 @@
 -- A narrowing's literal is exchanged for another one on its variable.
-use Rattle.std.proofs.Common.{ℕ, zero, suc, ◌<◌, ◌≤◌, ◌≡◌, ◌≢◌, true, false, List, [], ◌∷◌, Option, Some, None, length, get_or, Contains, arith, refl, sym, ap, ◌∙◌, subst, eq-eqb, ne_eqb, length-set, le-leb}
+use Rattle.std.proofs.Common.{ℕ, zero, suc, ◌<◌, ◌≤◌, ◌≡◌, ◌≢◌, true, false, List, [], ◌∷◌, Option, Some, None, length, get_or, Contains, arith, refl, sym, ap, ◌∙◌, subst, eq-eqb, ne_eqb, length-set}
+use Rattle.std.proofs.Common.{le-leb}
 use Rattle.std.specs.Prelude.{IfSome, nat_le, slice_set, remove}
 use Rattle.std.proofs.lemmas.Bool.{cond-true, cond-false, lt-leb}
 use Rattle.cpg_base.proofs.Lists.{Contains-first, Contains-rest}
@@ -51,7 +52,8 @@ module _ (l : Literal) where
         let k = r 0 (suc i) d (omega arith) h in
         after m (slice_set ms i was) (λ s. omega (arith, s, k, e)) ∙ range_set ms i d (AllPairs-rest Lower m ms r) (omega (arith, h)) e
 
-    put_set : (cube : List Literal) (i : ℕ) (d : Literal) → IsRising cube → i < length cube → (get_or cube i d).variable ≡ l.variable → narrowed_by l (slice_set cube i was) ≡ slice_set cube i (meet_literal l was)
+    put_set : (cube : List Literal) (i : ℕ) (d : Literal) → IsRising cube → i < length cube → (get_or cube i d).variable ≡ l.variable →
+        narrowed_by l (slice_set cube i was) ≡ slice_set cube i (meet_literal l was)
     put_set [] i d r h e = absurd (omega (arith, h))
     put_set (m ∷ ms) zero d r h e = narrowed-here l was ms (sym same)
     put_set (m ∷ ms) (suc i) d r h e =

@@ -1,7 +1,8 @@
 -- Columns with keys, sorted by these, and the columns alone.
 use Rattle.std.proofs.lemmas.List.Elements.{All-tail, Contains-get_or}
 use Rattle.cpg_base.proofs.Lists.{numbers-Contains}
-use Rattle.std.proofs.Common.{Ordering, Less, Equal, Greater, ℕ, suc, ◌+◌, ◌-◌, ◌*◌, ◌<◌, ◌≤◌, ◌≡◌, ◌≢◌, ◌==◌, Bool, true, false, List, [], ◌∷◌, ◌++◌, length, subst, map, get_or, All, Option, None, Some, IsPermutation, nat_lt, if◌then◌else◌, arith, refl, sym, ap, ap₂, ◌∙◌, inl, inr, eq-eqb, ne_eqb, lt-ltb, le-ltb, length-append}
+use Rattle.std.proofs.Common.{Ordering, Less, Equal, Greater, ℕ, suc, ◌+◌, ◌-◌, ◌*◌, ◌<◌, ◌≤◌, ◌≡◌, ◌≢◌, ◌==◌, Bool, true, false, List, [], ◌∷◌, ◌++◌, length, subst, map, get_or, All, Option, None}
+use Rattle.std.proofs.Common.{Some, IsPermutation, nat_lt, if◌then◌else◌, arith, refl, sym, ap, ap₂, ◌∙◌, inl, inr, eq-eqb, ne_eqb, lt-ltb, le-ltb, length-append}
 use Rattle.std.proofs.lemmas.Bool.{cases_Bool, cases_eq, cases_lt, cases_order, cond-true, cond-false, both_ways, false_from_ne_true}
 use Rattle.std.specs.Ordering.{nat_cmp, is_lt, ordering_then}
 use Rattle.std.specs.Cmp.{IsStrictWeakOrder}
@@ -16,7 +17,8 @@ use Rattle.cpg_base.specs.Numbers.{is_below, numbers_below}
 use Rattle.cpg_base.proofs.Below.{below_irreflexive, below_one_way, not_below_transitive, below-cons_less}
 use Rattle.cpg_base.proofs.Keyed.{cmp_less, cmp_same}
 use Rattle.cpg_base.proofs.Pairs.{AllPairs-map}
-use Rattle.cpg_cube.specs.Keys.{low_of_value, lows_of, lows_along, AreByLows, IsFirstByLows, IsFirstByKeys, variable_of_value, variables_of, variables_along, asked_from, key_along, key_by, AreBytes, IsKeyOf}
+use Rattle.cpg_cube.specs.Keys.{low_of_value, lows_of, lows_along, AreByLows, IsFirstByLows, IsFirstByKeys, variable_of_value, variables_of, variables_along, asked_from, key_along, key_by, AreBytes}
+use Rattle.cpg_cube.specs.Keys.{IsKeyOf}
 use Rattle.cpg_cube.specs.declared.sorting.Ranked.{Ranked}
 use Rattle.cpg_cube.specs.declared.sorting.Placed.{Placed}
 
@@ -52,7 +54,8 @@ module _ (low high : ℕ → ℕ) (bytes : (v : ℕ) → low v < 256) where
   later_below left [] first rest l = refl
   later_below left (v ∷ vs) first rest l = elim (cases_eq (low v) 0) [
     | inl e ↦ ap (λ (k : List ℕ). is_below k (first ∷ rest)) (asked_zero left (low v) (map low vs) e) ∙ later_below (left - 1) vs first rest (omega (arith, l))
-    | inr n ↦ ap (λ (k : List ℕ). is_below k (first ∷ rest)) (asked_some left (low v) (map low vs) n) ∙ below-cons_less (left * 256 + low v) first (asked_from (left - 1) (map low vs)) rest (omega (arith, l, bytes v))
+    | inr n ↦ ap (λ (k : List ℕ). is_below k (first ∷ rest)) (asked_some left (low v) (map low vs) n) ∙
+        below-cons_less (left * 256 + low v) first (asked_from (left - 1) (map low vs)) rest (omega (arith, l, bytes v))
   ]
 
   asked_below : (left : ℕ) (vs : List ℕ) → length vs ≤ left → is_below (map low vs) (map high vs) ≡ true → is_below (asked_from left (map low vs)) (asked_from left (map high vs)) ≡ true
@@ -110,7 +113,8 @@ low_of_variable low (Some c) = refl
 
 pub lows_by_variable : (g : Graph) (order : List ℕ) (low : ℕ → ℕ) → map low (variables_along g order) ≡ lows_along g order low
 lows_by_variable g [] low = refl
-lows_by_variable g (p ∷ ps) low = map-append low (variables_of g p) (variables_along g ps) ∙ ap₂ ◌++◌ (ap (λ (xs : List ℕ). low p ∷ xs) (low_of_variable low (condition_of g p))) (lows_by_variable g ps low)
+lows_by_variable g (p ∷ ps) low = map-append low (variables_of g p) (variables_along g ps) ∙
+    ap₂ ◌++◌ (ap (λ (xs : List ℕ). low p ∷ xs) (low_of_variable low (condition_of g p))) (lows_by_variable g ps low)
 
 pub few_variables : (g : Graph) (order : List ℕ) → length order ≤ 128 → length (variables_along g order) ≤ 256
 few_variables g order few = omega (arith, sym (length-map (variables_along g order) (λ (v : ℕ). v)) ∙ ap length (lows_by_variable g order (λ v. v)), twice_long g order (λ v. v), few)
@@ -121,7 +125,8 @@ few_variables g order few = omega (arith, sym (length-map (variables_along g ord
 pub key_is : (g : Graph) (order variables : List ℕ) → variables ≡ variables_along g order → (cube : List Literal) → key_by variables cube ≡ key_along g order (low_in cube)
 key_is g order variables along cube = ap (λ (vs : List ℕ). key_by vs cube) along ∙ ap (asked_from 256) (lows_by_variable g order (low_in cube))
 
-pub lows_from_keys : (g : Graph) (order : List ℕ) → length order ≤ 128 → (a b : List Literal) → AreBytes a → is_below (key_along g order (low_in a)) (key_along g order (low_in b)) ≡ false → is_below (lows_along g order (low_in a)) (lows_along g order (low_in b)) ≡ false
+pub lows_from_keys : (g : Graph) (order : List ℕ) → length order ≤ 128 → (a b : List Literal) → AreBytes a → is_below (key_along g order (low_in a)) (key_along g order (low_in b)) ≡ false →
+    is_below (lows_along g order (low_in a)) (lows_along g order (low_in b)) ≡ false
 lows_from_keys g order few a b bytes h =
     let along = lows_by_variable g order in
     false_from_ne_true _ (λ below. both_ways _ h (
@@ -129,7 +134,8 @@ lows_from_keys g order few a b bytes h =
     ∙ asked_below (low_in a) (low_in b) (low_in-byte a bytes) 256 (variables_along g order) (few_variables g order few) (ap₂ is_below (along (low_in a)) (along (low_in b)) ∙ below)))
 
 module _ {T : Type 0} (cube : T → List Literal) (columns : List T) where
-  pub first_by_lows : (g : Graph) (order variables : List ℕ) → length order ≤ 128 → variables ≡ variables_along g order → (at : ℕ) → IsFirstByKeys cube variables (length columns) columns at → IsFirstByLows cube g order columns at
+  pub first_by_lows : (g : Graph) (order variables : List ℕ) → length order ≤ 128 → variables ≡ variables_along g order → (at : ℕ) → IsFirstByKeys cube variables (length columns) columns at →
+      IsFirstByLows cube g order columns at
   first_by_lows g order variables few along at h = record {
     there = h.there;
     first = λ j d l. lows_from_keys g order few (cube (get_or columns j d)) (cube (get_or columns at d)) (h.bytes j d l)
@@ -154,7 +160,8 @@ module _ {T : Type 0} (cube : T → List Literal) (columns : List T) where
 
     module _ (n : ℕ) (best next : Placed) (h : IsBest n best) (at : next.place ≡ n) (key : (d : T) → IsKeyOf variables (cube (get_or columns next.place d)) next.key.items) where
       -- what is so of the first n and of the next is so of all
-      with_next : (i : ℕ) → ((j : ℕ) (d : T) → j < n → is_below (key_at j d) (key_at i d) ≡ false) → ((d : T) → is_below (key_at next.place d) (key_at i d) ≡ false) → (j : ℕ) (d : T) → j < n + 1 → is_below (key_at j d) (key_at i d) ≡ false
+      with_next : (i : ℕ) → ((j : ℕ) (d : T) → j < n → is_below (key_at j d) (key_at i d) ≡ false) → ((d : T) → is_below (key_at next.place d) (key_at i d) ≡ false) → (j : ℕ) (d : T) → j < n + 1 →
+          is_below (key_at j d) (key_at i d) ≡ false
       with_next i before after j d l = elim (cases_lt j n) [
         | inl m ↦ before j d m
         | inr m ↦ subst (λ o. is_below (key_at o d) (key_at i d) ≡ false) (let e : next.place ≡ j = omega (arith, l, m, at) in e) (after d)
@@ -198,7 +205,8 @@ module _ {T : Type 0} (cube : T → List Literal) (columns : List T) where
 
 pub by_lows : {T : Type 0} (cube : T → List Literal) (g : Graph) (order variables : List ℕ) → length order ≤ 128 → variables ≡ variables_along g order → (before after : List (Ranked T)) →
     All (λ r. IsKeyOf variables (cube r.column) r.key.items) before → IsPermutation before after → IsSortedBy is_key_below after → AreByLows cube g order (map (λ r. r.column) after)
-by_lows {T} cube g order variables few along before after keys p up = AllPairs-map (λ (a b : Ranked T). is_below (lows_along g order (low_in (cube b.column))) (lows_along g order (low_in (cube a.column))) ≡ false)
+by_lows {T} cube g order variables few along before after keys p up =
+    AllPairs-map (λ (a b : Ranked T). is_below (lows_along g order (low_in (cube b.column))) (lows_along g order (low_in (cube a.column))) ≡ false)
     (λ (c d : T). is_below (lows_along g order (low_in (cube d))) (lows_along g order (low_in (cube c))) ≡ false)
     (λ (r : Ranked T). r.column) after (λ a b h. h)
     (λ i j d l k.

@@ -1,5 +1,6 @@
 -- A key made of a cube's literals one by one, by the places of their variables, is that of the lows along the variables.
-use Rattle.std.proofs.Common.{ℕ, suc, ◌-◌, ◌+◌, ◌*◌, ◌<◌, ◌≤◌, ◌≡◌, ◌≢◌, ◌⊎◌, ◌==◌, true, false, zero, List, [], ◌∷◌, ◌++◌, length, map, take, drop, get_or, replicate, Contains, Option, Some, None, IsPermutation, nat_lt, arith, refl, sym, ap, ap₂, ◌∙◌, subst, inl, inr, eq-eqb, ne_eqb, lt-ltb, le-ltb, append_assoc}
+use Rattle.std.proofs.Common.{ℕ, suc, ◌-◌, ◌+◌, ◌*◌, ◌<◌, ◌≤◌, ◌≡◌, ◌≢◌, ◌⊎◌, ◌==◌, true, false, zero, List, [], ◌∷◌, ◌++◌, length, map, take, drop, get_or, replicate, Contains, Option, Some, None}
+use Rattle.std.proofs.Common.{IsPermutation, nat_lt, arith, refl, sym, ap, ap₂, ◌∙◌, subst, inl, inr, eq-eqb, ne_eqb, lt-ltb, le-ltb, append_assoc}
 use Rattle.std.specs.Prelude.{slice_set, slice_index_or, insert}
 use Rattle.std.specs.List.{AllPairs, list_all}
 use Rattle.std.proofs.lemmas.Bool.{and_parts, cases_eq, cases_lt, cond-true, cond-false, eqb-true}
@@ -11,7 +12,8 @@ use Rattle.cpg_base.proofs.Lists.{Contains-first, Contains-rest, Contains-cases,
 use Rattle.cpg_base.proofs.Pairs.{AllPairs-first, AllPairs-rest, AllPairs-nil, AllPairs-cons_by, AllPairs-flat_map_in, order_apart}
 use Rattle.cpg_base.proofs.ConditionProcesses.{process_of_condition_of}
 use Rattle.cpg_cube.specs.Cube.{Literal, IsRising, low_in}
-use Rattle.cpg_cube.specs.Keys.{asked_from, key_by, left_at, AreBytes, ArePlaces, place_in, with_number, with_any_asked, with_low_of, with_lows_of, variable_of_value, variables_of, variables_along, lows_along}
+use Rattle.cpg_cube.specs.Keys.{asked_from, key_by, left_at, AreBytes, ArePlaces, place_in, with_number, with_any_asked, with_low_of, with_lows_of, variable_of_value, variables_of, variables_along}
+use Rattle.cpg_cube.specs.Keys.{lows_along}
 use Rattle.cpg_cube.proofs.BoundSteps.{low_in-last, low_in-before}
 use Rattle.cpg_cube.proofs.CubeLows.{low_in-none}
 use Rattle.cpg_cube.proofs.KeyOrder.{asked_zero, asked_some, low_in-byte, lows_by_variable, more_first, same_first, within_order}
@@ -49,7 +51,8 @@ places_none v = elim (cases_lt v 256) [
   | inr m ↦ get_or_past (replicate 256 0) v 0 m
 ]
 
-pub places_more : (vs : List ℕ) → AllPairs (λ u v. u ≢ v) vs → (i d left : ℕ) → i < length vs → left + i ≡ 256 → (places : List ℕ) → length places ≡ 256 → slice_index_or vs i d < 256 → ((v : ℕ) → get_or places v 0 ≡ left_at 256 (take i vs) v)
+pub places_more : (vs : List ℕ) → AllPairs (λ u v. u ≢ v) vs → (i d left : ℕ) → i < length vs → left + i ≡ 256 → (places : List ℕ) → length places ≡ 256 → slice_index_or vs i d < 256 →
+    ((v : ℕ) → get_or places v 0 ≡ left_at 256 (take i vs) v)
     → (v : ℕ) → get_or (slice_set places (slice_index_or vs i d) left) v 0 ≡ left_at 256 (take (i + 1) vs) v
 places_more vs apart i d left within is places long small h v =
     let u = slice_index_or vs i d in
@@ -82,9 +85,11 @@ place_here number at all key within t is =
     let none : place_in number (drop at key) ≡ 0 = ap (place_in number) (drop_more key at 0 within) ∙ stop_at number (slice_index_or key at 0) (drop (at + 1) key) t in
     omega (arith, none, is)
 
-pub place_next : (number at all : ℕ) (key : List ℕ) → at < length key → nat_lt (slice_index_or key at 0) number ≡ false → all ≡ at + place_in number (drop at key) → all ≡ at + 1 + place_in number (drop (at + 1) key)
+pub place_next : (number at all : ℕ) (key : List ℕ) → at < length key → nat_lt (slice_index_or key at 0) number ≡ false → all ≡ at + place_in number (drop at key) →
+    all ≡ at + 1 + place_in number (drop (at + 1) key)
 place_next number at all key within f is =
-    let on : place_in number (drop at key) ≡ suc (place_in number (drop (at + 1) key)) = ap (place_in number) (drop_more key at 0 within) ∙ go_on number (slice_index_or key at 0) (drop (at + 1) key) f in
+    let on : place_in number (drop at key) ≡ suc (place_in number (drop (at + 1) key)) = ap (place_in number) (drop_more key at 0 within) ∙
+    go_on number (slice_index_or key at 0) (drop (at + 1) key) f in
     omega (arith, on, is)
 
 -- ---- a number put in its place
@@ -114,7 +119,8 @@ front : (f : ℕ → ℕ) → ((u : ℕ) → f u < 256) → (number left : ℕ) 
 front f bytes number left [] l = refl
 front f bytes number left (v ∷ vs) l = elim (cases_eq (f v) 0) [
   | inl z ↦ ap (place_in number) (asked_zero left (f v) (map f vs) z) ∙ front f bytes number (left - 1) vs (omega (arith, l))
-  | inr n ↦ ap (place_in number) (asked_some left (f v) (map f vs) n) ∙ stop_at number (left * 256 + f v) (asked_from (left - 1) (map f vs)) (lt-ltb (left * 256 + f v) number (omega (arith, l, bytes v)))
+  | inr n ↦ ap (place_in number) (asked_some left (f v) (map f vs) n) ∙ stop_at number (left * 256 + f v) (asked_from (left - 1) (map f vs))
+      (lt-ltb (left * 256 + f v) number (omega (arith, l, bytes v)))
 ]
 
 -- lows that differ at one variable, if the first has none
@@ -150,7 +156,8 @@ module _ (v : ℕ) (f g : ℕ → ℕ) (nothing : f v ≡ 0) (something : g v �
 
 module _ (variables places : List ℕ) (are : ArePlaces variables places) where
   -- the low of a literal above the others
-  one_more : (done : List Literal) (l : Literal) → AreBytes done → l.low < 256 → ((m : Literal) → Contains done m → m.variable < l.variable) → with_low_of places l (key_by variables done) ≡ key_by variables (done ++ l ∷ [])
+  one_more : (done : List Literal) (l : Literal) → AreBytes done → l.low < 256 → ((m : Literal) → Contains done m → m.variable < l.variable) →
+      with_low_of places l (key_by variables done) ≡ key_by variables (done ++ l ∷ [])
   one_more done l bytes byte lower =
       let new : low_in (done ++ l ∷ []) l.variable ≡ l.low = low_in-last done l lower in
       let old : low_in done l.variable ≡ 0 = low_in-none done l.variable (λ m c e. omega (arith, lower m c, e)) in
@@ -164,17 +171,20 @@ module _ (variables places : List ℕ) (are : ArePlaces variables places) where
             ∙ inserted l.variable (low_in done) (low_in (done ++ l ∷ [])) old (λ z. n (sym new ∙ z)) others (low_in-byte done bytes) (omega (arith, new, byte)) 256 variables are.apart are.few
       ]
     where
-      same : (done : List Literal) (l : Literal) (u : ℕ) → low_in done l.variable ≡ 0 → low_in (done ++ l ∷ []) l.variable ≡ 0 → ((u : ℕ) → u ≢ l.variable → low_in (done ++ l ∷ []) u ≡ low_in done u) → low_in done u ≡ low_in (done ++ l ∷ []) u
+      same : (done : List Literal) (l : Literal) (u : ℕ) → low_in done l.variable ≡ 0 → low_in (done ++ l ∷ []) l.variable ≡ 0 →
+          ((u : ℕ) → u ≢ l.variable → low_in (done ++ l ∷ []) u ≡ low_in done u) → low_in done u ≡ low_in (done ++ l ∷ []) u
       same done l u old new others = elim (cases_eq u l.variable) [
         | inl e ↦ ap (low_in done) e ∙ old ∙ sym new ∙ ap (low_in (done ++ l ∷ [])) (sym e)
         | inr n ↦ sym (others u n)
       ]
 
-  all_more : (done ls : List Literal) → AreBytes done → AreBytes ls → IsRising ls → ((m l : Literal) → Contains done m → Contains ls l → m.variable < l.variable) → with_lows_of places ls (key_by variables done) ≡ key_by variables (done ++ ls)
+  all_more : (done ls : List Literal) → AreBytes done → AreBytes ls → IsRising ls → ((m l : Literal) → Contains done m → Contains ls l → m.variable < l.variable) →
+      with_lows_of places ls (key_by variables done) ≡ key_by variables (done ++ ls)
   all_more done [] before bytes rising lower = ap (key_by variables) (sym (append-nil done))
   all_more done (l ∷ ls) before bytes rising lower =
       ap (with_lows_of places ls) (one_more done l before (bytes 0 l (omega arith)) (λ m c. lower m l c (Contains-first l ls)))
-      ∙ all_more (done ++ l ∷ []) ls (All-push is_byte done l before (bytes 0 l (omega arith))) (All-tail is_byte l ls bytes) (rising_rest l ls rising) (λ m n c d. elim (Contains-push_cases done l m c) [
+      ∙ all_more (done ++ l ∷ []) ls (All-push is_byte done l before (bytes 0 l (omega arith))) (All-tail is_byte l ls bytes) (rising_rest l ls rising)
+      (λ m n c d. elim (Contains-push_cases done l m c) [
         | inl k ↦ lower m n k (Contains-rest l ls n d)
         | inr e ↦ subst (λ (x : Literal). x.variable < n.variable) e (rising_first l n ls rising d)
       ])
@@ -184,7 +194,8 @@ module _ (variables places : List ℕ) (are : ArePlaces variables places) where
       is_byte m = m.low < 256
 
   pub key_made : (cube : List Literal) → AreBytes cube → IsRising cube → (key : List ℕ) → with_lows_of places cube [] ≡ key → key ≡ key_by variables cube
-  key_made cube bytes rising key is = sym is ∙ ap (with_lows_of places cube) (sym (empty 256 variables)) ∙ all_more [] cube (All-nil (λ (l : Literal). l.low < 256)) bytes rising (λ m l c d. absurd (Contains-nil m c))
+  key_made cube bytes rising key is = sym is ∙ ap (with_lows_of places cube) (sym (empty 256 variables)) ∙
+      all_more [] cube (All-nil (λ (l : Literal). l.low < 256)) bytes rising (λ m l c d. absurd (Contains-nil m c))
     where
       empty : (left : ℕ) (vs : List ℕ) → asked_from left (map (low_in []) vs) ≡ []
       empty left [] = refl
@@ -253,11 +264,13 @@ module _ (g : Graph) (few : process_count g ≤ 128) where
   variables_apart order all =
       let within = within_order (process_count g) order all in
       let below : (p : ℕ) → Contains order p → p < process_count g = λ p c. All-contains (λ p. p < process_count g) order p within c in
-      AllPairs-flat_map_in (λ p q. p ≢ q) (λ u v. u ≢ v) (variables_of g) order (λ p c. own_apart p (below p c)) (λ p q u v c d n j k. across p q u v (below p c) (below q d) n j k) (order_apart (process_count g) order all)
+      AllPairs-flat_map_in (λ p q. p ≢ q) (λ u v. u ≢ v) (variables_of g) order (λ p c. own_apart p (below p c)) (λ p q u v c d n j k. across p q u v (below p c) (below q d) n j k)
+      (order_apart (process_count g) order all)
 
 -- ---- two lists of lows that first differ at a variable
 
-lows_above : (f h : ℕ → ℕ) (v left : ℕ) (vs : List ℕ) → length vs ≤ left → left_at left vs v ≢ 0 → ((u : ℕ) → left_at left vs v < left_at left vs u → f u ≡ h u) → f v < h v → is_below (map h vs) (map f vs) ≡ false
+lows_above : (f h : ℕ → ℕ) (v left : ℕ) (vs : List ℕ) → length vs ≤ left → left_at left vs v ≢ 0 → ((u : ℕ) → left_at left vs v < left_at left vs u → f u ≡ h u) → f v < h v →
+    is_below (map h vs) (map f vs) ≡ false
 lows_above f h v left [] few there same less = absurd (there refl)
 lows_above f h v left (u ∷ us) few there same less = elim (cases_eq u v) [
   | inl e ↦ more_first (h u) (f u) (map h us) (map f us) (subst (λ w. f w < h w) (sym e) less)
@@ -272,7 +285,8 @@ lows_above f h v left (u ∷ us) few there same less = elim (cases_eq u v) [
 ]
 
 -- if the lows of two cubes first differ at a variable along an order, the one with the greater low isn't before the other
-pub first_differ : (g : Graph) (order places : List ℕ) → ArePlaces (variables_along g order) places → (a b : List Literal) (v : ℕ) → get_or places v 0 ≢ 0 → ((u : ℕ) → get_or places v 0 < get_or places u 0 → low_in a u ≡ low_in b u) →
+pub first_differ : (g : Graph) (order places : List ℕ) → ArePlaces (variables_along g order) places → (a b : List Literal) (v : ℕ) → get_or places v 0 ≢ 0 →
+    ((u : ℕ) → get_or places v 0 < get_or places u 0 → low_in a u ≡ low_in b u) →
     low_in a v < low_in b v → is_below (lows_along g order (low_in b)) (lows_along g order (low_in a)) ≡ false
 first_differ g order places is a b v there same less =
     ap₂ is_below (sym (lows_by_variable g order (low_in b))) (sym (lows_by_variable g order (low_in a)))

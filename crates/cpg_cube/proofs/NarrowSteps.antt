@@ -72,7 +72,8 @@ module _ (l : Literal) where
   narrowed-last cube e = narrowed_last cube (all_lower l.variable cube (not_found (position_or_len (from_variable l.variable) cube) (length cube) e))
 
   -- if the place has a literal on the variable
-  pub narrowed-set : (cube : List Literal) (i : ℕ) (d : Literal) → IsPlace l.variable cube i → (slice_index_or cube i d).variable ≡ l.variable → narrowed_by l cube ≡ slice_set cube i (meet_literal l (slice_index_or cube i d))
+  pub narrowed-set : (cube : List Literal) (i : ℕ) (d : Literal) → IsPlace l.variable cube i → (slice_index_or cube i d).variable ≡ l.variable →
+      narrowed_by l cube ≡ slice_set cube i (meet_literal l (slice_index_or cube i d))
   narrowed-set [] i d p e = absurd p
   narrowed-set (m ∷ ms) zero d p e = narrowed-here l m ms (sym e)
   narrowed-set (m ∷ ms) (suc i) d p e = narrowed-after l m ms p.0 ∙ ap (λ ls. m ∷ ls) (narrowed-set ms i d p.1 e)
@@ -80,5 +81,6 @@ module _ (l : Literal) where
   -- if it has one above
   pub narrowed-in : (cube : List Literal) (i : ℕ) (d : Literal) → IsPlace l.variable cube i → ((slice_index_or cube i d).variable ≡ l.variable → ⊥) → narrowed_by l cube ≡ insert cube i l
   narrowed-in [] i d p n = absurd p
-  narrowed-in (m ∷ ms) zero d p n = narrowed-before l m ms (let a : l.variable ≤ m.variable = p in ⊎_elim (λ (h : l.variable < m.variable). h) (λ (h : m.variable ≤ l.variable). absurd (n (omega arith))) (cases_lt l.variable m.variable))
+  narrowed-in (m ∷ ms) zero d p n = narrowed-before l m ms
+      (let a : l.variable ≤ m.variable = p in ⊎_elim (λ (h : l.variable < m.variable). h) (λ (h : m.variable ≤ l.variable). absurd (n (omega arith))) (cases_lt l.variable m.variable))
   narrowed-in (m ∷ ms) (suc i) d p n = narrowed-after l m ms p.0 ∙ ap (λ ls. m ∷ ls) (narrowed-in ms i d p.1 n)

@@ -76,7 +76,7 @@ fn do_variables_rise(literals: &[Literal]) -> bool
 }
 
 /// The place of the first literal on this variable or on one above.
-fn place_of(literals: &[Literal], variable: u8) -> Option<usize>
+fn first_literal_from(literals: &[Literal], variable: u8) -> Option<usize>
     ensures place { result ≡ position (λ l. nat_le variable l.variable) literals.now }
     ensures within { IfSome result (λ place. place < length literals.now) }
 {
@@ -103,7 +103,7 @@ fn narrow(literals: &mut SmallVec<Literal, FEW>, literal: Literal) -> Result<Nar
     ensures on { IfOk result (λ n. IsOn literal.variable n literals.new.items) }
     ensures same { IfErr result (λ _. literals.new.items ≡ literals.old.items) }
 {
-    let Some(place) = place_of(literals.as_slice(), literal.variable) else {
+    let Some(place) = first_literal_from(literals.as_slice(), literal.variable) else {
         let place = literals.len();
         literals.push(literal)?;
         return Ok(Narrowing { place, was: None });

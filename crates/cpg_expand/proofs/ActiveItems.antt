@@ -23,7 +23,8 @@ module _ (g : Graph) (order : List ℕ) (guards : Guards) (admitted : IsAdmitted
 
   -- a start is active with its process
   pub start_activity : (x : ℕ) → x < process_count g → p ≡ producer g x → IsActivityOf g x chooser
-  start_activity x small e s path law on = (active_tells s law).value path on ∙ ap (active g s.values) (e ∙ ap (producer_of_item g) (item_at-start g x small)) ∙ sym (ap (item_active g s.values) (item_at-start g x small))
+  start_activity x small e s path law on = (active_tells s law).value path on ∙ ap (active g s.values) (e ∙ ap (producer_of_item g) (item_at-start g x small)) ∙
+      sym (ap (item_active g s.values) (item_at-start g x small))
 
   -- what is sent is active if it goes
   pub sent_activity : (x : ℕ) → p ≡ producer g x → (t : TreeState Bool) → IsGoesTree g x chooser t → IsActivityOf g x t

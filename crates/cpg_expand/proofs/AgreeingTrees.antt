@@ -39,7 +39,8 @@ module _ (xs ys : List Literal) (v : ℕ) where
 
 module _ (s : Scenario) where
   -- literals more, and a fact that follows
-  pub agrees_weaker : {T : Type 0} (t : TreeState T) (some more : List Literal) (fact other : T → Type 0) → ((l : Literal) → Contains some l → Contains more l) → ((x : T) → fact x → other x) → Agrees s some fact t → Agrees s more other t
+  pub agrees_weaker : {T : Type 0} (t : TreeState T) (some more : List Literal) (fact other : T → Type 0) → ((l : Literal) → Contains some l → Contains more l) → ((x : T) → fact x → other x) →
+      Agrees s some fact t → Agrees s more other t
   agrees_weaker t some more fact other within follows a = record {
     value = λ x on. follows x.1 (a.value x on);
     says = λ x on.
@@ -74,7 +75,8 @@ module _ (s : Scenario) where
             });
       }
 
-  pub agrees_join : {T U V : Type 0} (answers : T → U → V → Type 0) (a : TreeState T) (b : TreeState U) (r : TreeState V) (first second : List Literal) (fact_a : T → Type 0) (fact_b : U → Type 0) (fact : V → Type 0) →
+  pub agrees_join : {T U V : Type 0} (answers : T → U → V → Type 0) (a : TreeState T) (b : TreeState U) (r : TreeState V) (first second : List Literal) (fact_a : T → Type 0) (fact_b : U → Type 0)
+      (fact : V → Type 0) →
       HasFew a.faults s → b.faults ≡ a.faults → HasOnePathEach a.faults a.paths → HasOnePathEach a.faults b.paths → IsJoin answers a b r →
       ((x : T) (y : U) (z : V) → fact_a x → fact_b y → answers x y z → fact z) → Agrees s first fact_a a → Agrees s second fact_b b → Agrees s (first ++ second) fact r
   agrees_join answers a b r first second fact_a fact_b fact few same each_a each_b is follows of_a of_b =
@@ -93,9 +95,12 @@ module _ (s : Scenario) where
       }
 
   -- what is told of a tree that is made where a chooser is true, if the chooser is
-  pub agrees_where : {T U V : Type 0} (answers : T → U → V → Type 0) (none : V) (chooser : TreeState Bool) (a : TreeState T) (b : TreeState U) (r : TreeState V) (told first second : List Literal) (fact_a : T → Type 0) (fact_b : U → Type 0) (fact : V → Type 0) →
-      HasFew chooser.faults s → a.faults ≡ chooser.faults → b.faults ≡ chooser.faults → HasOnePathEach chooser.faults chooser.paths → HasOnePathEach chooser.faults a.paths → HasOnePathEach chooser.faults b.paths → IsJoinWhere answers none chooser a b r →
-      ((x : T) (y : U) (z : V) → fact_a x → fact_b y → answers x y z → fact z) → Agrees s told (λ c. c ≡ true) chooser → Agrees s first fact_a a → Agrees s second fact_b b → Agrees s (told ++ (first ++ second)) fact r
+  pub agrees_where : {T U V : Type 0} (answers : T → U → V → Type 0) (none : V) (chooser : TreeState Bool) (a : TreeState T) (b : TreeState U) (r : TreeState V) (told first second : List Literal)
+      (fact_a : T → Type 0) (fact_b : U → Type 0) (fact : V → Type 0) →
+      HasFew chooser.faults s → a.faults ≡ chooser.faults → b.faults ≡ chooser.faults → HasOnePathEach chooser.faults chooser.paths → HasOnePathEach chooser.faults a.paths →
+      HasOnePathEach chooser.faults b.paths → IsJoinWhere answers none chooser a b r →
+      ((x : T) (y : U) (z : V) → fact_a x → fact_b y → answers x y z → fact z) → Agrees s told (λ c. c ≡ true) chooser → Agrees s first fact_a a → Agrees s second fact_b b →
+      Agrees s (told ++ (first ++ second)) fact r
   agrees_where answers none chooser a b r told first second fact_a fact_b fact few same_a same_b each_c each_a each_b is follows of_c of_a of_b =
       let c = the_path chooser.faults chooser.paths each_c s few in
       let x = the_path chooser.faults a.paths each_a s few in
@@ -133,7 +138,8 @@ module _ (s : Scenario) where
 
   -- only the tree that is picked in the scenario counts
   pub agrees_pick : {T : Type 0} (chooser : TreeState Bool) (on off r : TreeState T) (b : Bool) (first second : List Literal) (fact : T → Type 0) →
-      HasFew chooser.faults s → on.faults ≡ chooser.faults → off.faults ≡ chooser.faults → HasOnePathEach chooser.faults chooser.paths → HasOnePathEach chooser.faults on.paths → HasOnePathEach chooser.faults off.paths →
+      HasFew chooser.faults s → on.faults ≡ chooser.faults → off.faults ≡ chooser.faults → HasOnePathEach chooser.faults chooser.paths → HasOnePathEach chooser.faults on.paths →
+      HasOnePathEach chooser.faults off.paths →
       IsPick chooser on off r → Agrees s first (λ c. c ≡ b) chooser → Agrees s second fact (if b then on else off) → Agrees s (first ++ second) fact r
   agrees_pick {T} chooser on off r b first second fact few same_on same_off each_c each_on each_off is of_c of_picked =
       let c = the_path chooser.faults chooser.paths each_c s few in
@@ -171,11 +177,13 @@ module _ (s : Scenario) where
     value = λ x on. is.value s x few on;
     says = λ x on. subst (λ m. ContainsKept m x.0 (exactly v (number_of s v) ∷ [])) (sym is.faults) (record {
       low = λ u. elim (cases_eq u v) [
-        | inl e ↦ subst (λ w. low_in x.0 w ≤ kept_low (exactly v (number_of s v) ∷ []) w) (sym e) (omega (arith, low_in-le x.0 s v on.matched, low_kept (exactly v (number_of s v) ∷ []) v (exactly v (number_of s v)) (Contains-first _ []) refl))
+        | inl e ↦ subst (λ w. low_in x.0 w ≤ kept_low (exactly v (number_of s v) ∷ []) w) (sym e)
+            (omega (arith, low_in-le x.0 s v on.matched, low_kept (exactly v (number_of s v) ∷ []) v (exactly v (number_of s v)) (Contains-first _ []) refl))
         | inr n ↦ omega (arith, is.low s x u few on n)
       ];
       high = λ u. elim (cases_eq u v) [
-        | inl e ↦ subst (λ w. kept_high k (exactly v (number_of s v) ∷ []) w ≤ high_in k x.0 w) (sym e) (omega (arith, high_in-ge k x.0 s v most on.matched, high_kept (exactly v (number_of s v) ∷ []) v k (exactly v (number_of s v)) (Contains-first _ []) refl))
+        | inl e ↦ subst (λ w. kept_high k (exactly v (number_of s v) ∷ []) w ≤ high_in k x.0 w) (sym e)
+            (omega (arith, high_in-ge k x.0 s v most on.matched, high_kept (exactly v (number_of s v) ∷ []) v k (exactly v (number_of s v)) (Contains-first _ []) refl))
         | inr n ↦ omega (arith, is.high s x u few on n, high_kept_top (exactly v (number_of s v) ∷ []) u k)
       ];
     });

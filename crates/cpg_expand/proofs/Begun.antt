@@ -1,5 +1,6 @@
 -- Once the start, the end and the readiness of its node are set, a process has begun: trees that were grown before its place go on to tell the runs.
-use Rattle.std.proofs.Common.{ℕ, ◌+◌, ◌*◌, ◌<◌, ◌≤◌, ◌≡◌, ◌≢◌, max, Bool, true, false, if◌then◌else◌, List, [], length, map, get_or, flat_map, Option, Some, None, unwrap_or, Contains, ◌⊎◌, arith, refl, sym, ap, ◌∙◌, subst, inl, inr, get_or-set_same, get_or-set_other}
+use Rattle.std.proofs.Common.{ℕ, ◌+◌, ◌*◌, ◌<◌, ◌≤◌, ◌≡◌, ◌≢◌, max, Bool, true, false, if◌then◌else◌, List, [], length, map, get_or, flat_map, Option, Some, None, unwrap_or, Contains, ◌⊎◌, arith}
+use Rattle.std.proofs.Common.{refl, sym, ap, ◌∙◌, subst, inl, inr, get_or-set_same, get_or-set_other}
 use Rattle.std.proofs.lemmas.Bool.{cases_eq, cases_lt, cond-false}
 use Rattle.std.proofs.lemmas.List.{get_or-map}
 use Rattle.std.proofs.lemmas.List.Sums.{get_or-le-sum_by}
@@ -76,7 +77,9 @@ own_rows_hold g order i f has = record {
     row : (x : ℕ) → x < item_count g → row_at (own_rows f) x ≡ map path_column (times_of g f x).paths
     row x l = get_or-map (λ (t : TreeState (Option ℕ)). map path_column t.paths) f.times x (no_tree g.faults) [] (omega (arith, l, has.times))
 
-module _ (g : Graph) (urgency : List ℕ) (guards : Guards) (a : IsAdmitted g urgency guards) (order : List ℕ) (topological : IsTopological g order) (p : ℕ) (l : p < process_count g) (old new : ForestState) (before after : List (Option ℕ)) (chooser : TreeState Bool) (grown : IsGrown g order (place order p) before old) (trees : HasTrees g new) (b : IsBegun g order guards p old new before after chooser) where
+module _ (g : Graph) (urgency : List ℕ) (guards : Guards) (a : IsAdmitted g urgency guards) (order : List ℕ) (topological : IsTopological g order) (p : ℕ) (l : p < process_count g)
+    (old new : ForestState) (before after : List (Option ℕ)) (chooser : TreeState Bool) (grown : IsGrown g order (place order p) before old) (trees : HasTrees g new)
+    (b : IsBegun g order guards p old new before after chooser) where
   abbrev guard : Guard
   guard = tree_of guards p
 
@@ -144,12 +147,14 @@ module _ (g : Graph) (urgency : List ℕ) (guards : Guards) (a : IsAdmitted g ur
 
     -- what the trees tell of its start
     told_start : (from : ℕ) → IsCut g order guards (node_of g p) (place order p) from → IsToldStart g order guards old chooser from p s t
-    told_start from cut = start_is_told g a.limits order topological a.joins urgency a.urgency a.topological rows s law fs t run small old grown.trees p l nodes told lines guards (λ q k. a.guards.trees q k) chooser b.actives from cut
+    told_start from cut = start_is_told g a.limits order topological a.joins urgency a.urgency a.topological rows s law fs t run small old grown.trees p l nodes told lines guards
+        (λ q k. a.guards.trees q k) chooser b.actives from cut
 
   early_before : AreEarly before
   early_before = early_from_low g order before a.limits topological grown.settled.count grown.settled.low
 
-  all_told : (from : ℕ) → IsCut g order guards (node_of g p) (place order p) from → (s : Scenario) → IsScenario g s → (t : Times) → IsRun g order before s t → IsToldStart g order guards old chooser from p s t
+  all_told : (from : ℕ) → IsCut g order guards (node_of g p) (place order p) from → (s : Scenario) → IsScenario g s → (t : Times) → IsRun g order before s t →
+      IsToldStart g order guards old chooser from p s t
   all_told from cut s law t run = told_start before (λ y h e. refl) early_before (own_rows old) (own_rows_hold g order (place order p) old grown.trees) s law t run from cut
 
   acts_as : (values : List Bool) → item_active g values (item_at g p) ≡ active g values p
@@ -158,7 +163,8 @@ module _ (g : Graph) (urgency : List ℕ) (guards : Guards) (a : IsAdmitted g ur
   found : IsFrozenStart g order guards p old before after chooser b.start → IsFound g order before p after
   found f = frozen_found g order topological before p (omega (arith, p_item, grown.settled.count)) unset f.latest
       (λ s law t run on. latest_above g order guards before old chooser b.chooser_tree f.from p topological (all_told f.from f.cut) f.latest f.top s law t run (sym (acts_as s.values) ∙ on))
-      (λ m e. let r = latest_reached g order guards before old chooser b.chooser_tree f.from p topological (all_told f.from f.cut) f.latest f.top m e in (r.0, r.1, acts_as r.0.values ∙ r.2, r.3)) after f.frozen.set
+      (λ m e. let r = latest_reached g order guards before old chooser b.chooser_tree f.from p topological (all_told f.from f.cut) f.latest f.top m e in (r.0, r.1, acts_as r.0.values ∙ r.2, r.3))
+      after f.frozen.set
 
   -- ---- the frozen times
 
@@ -170,7 +176,8 @@ module _ (g : Graph) (urgency : List ℕ) (guards : Guards) (a : IsAdmitted g ur
           (settled_idle g order topological a.limits (IsEarlier g order (place order p)) (IsDone g order p 0) before grown.settled p p_item later (λ y e. inl e) (inr (inl refl)) only th.0)
       by (inr f) =
           let r = found f.1 in
-          settled_more g order topological a.limits (IsEarlier g order (place order p)) (IsDone g order p 0) before grown.settled p p_item later (λ y e. inl e) (inr (inl refl)) only f.0 after r.is r.same r.long
+          settled_more g order topological a.limits (IsEarlier g order (place order p)) (IsDone g order p 0) before grown.settled p p_item later (λ y e. inl e)
+          (inr (inl refl)) only f.0 after r.is r.same r.long
 
   same_earlier : (x : ℕ) → x < item_count g → IsEarlier g order (place order p) x → get_or before x None ≡ get_or after x None
   same_earlier x h e = by b.starts
@@ -197,14 +204,16 @@ module _ (g : Graph) (urgency : List ℕ) (guards : Guards) (a : IsAdmitted g ur
   other_end q other = ap (λ f. ends_of g f q) b.is ∙ get_or-set_other old.ends p q b.end (no_tree g.faults) other
 
   new_ready : ready_of g new (node_of g p) ≡ goes_on b.end b.ready
-  new_ready = ap (ready_by g new) (ap (λ f. ready_at g f (node_of g p)) b.is ∙ get_or-set_same old.ready (node_of g p) b.ready (At (no_tree g.faults)) (let n = nodes p l in omega (arith, n, grown.trees.ready))) ∙ goes b.ready b.ready_after
+  new_ready = ap (ready_by g new) (ap (λ f. ready_at g f (node_of g p)) b.is ∙ get_or-set_same old.ready (node_of g p) b.ready (At (no_tree g.faults))
+      (let n = nodes p l in omega (arith, n, grown.trees.ready))) ∙ goes b.ready b.ready_after
     where
       goes : (r : Ready) → IsReadyAfter g p r → ready_by g new r ≡ goes_on b.end r
       goes (After q) e = ap later_tree (ap (ends_of g new) e ∙ new_end)
       goes (At t) is = refl
 
   other_ready : (node : ℕ) → node < length g.nodes → node ≢ node_of g p → ready_of g new node ≡ ready_of g old node
-  other_ready node within other = ap (ready_by g new) (ap (λ f. ready_at g f node) b.is ∙ get_or-set_other old.ready (node_of g p) node b.ready (At (no_tree g.faults)) other) ∙ kept (ready_at g old node) refl
+  other_ready node within other = ap (ready_by g new) (ap (λ f. ready_at g f node) b.is ∙ get_or-set_other old.ready (node_of g p) node b.ready (At (no_tree g.faults)) other) ∙
+      kept (ready_at g old node) refl
     where
       -- the process after whose ends another node is ready isn't this one
       kept : (r : Ready) → ready_at g old node ≡ r → ready_by g new r ≡ ready_by g old r
@@ -266,7 +275,8 @@ module _ (g : Graph) (urgency : List ℕ) (guards : Guards) (a : IsAdmitted g ur
             let was = was_ready (waits_here th.0) in
             subst (λ (o : Option ℕ). Tells s (carried_at_start g order rows s p) o b.start)
             (start_value g order topological urgency a.urgency a.topological after s law.values t run p l guard is_guard was.time was.is (ap (λ fs. get_or fs p None) th.1 ∙ unset))
-            (start_line g a.limits order topological a.joins urgency a.urgency a.topological rows s law.values few_faults t run_is_small old p l nodes told_before guard is_guard th.2.wait th.2.waits was.time was.is was.tells b.start th.2.is (thawed_start_of th.0))
+            (start_line g a.limits order topological a.joins urgency a.urgency a.topological rows s law.values few_faults t run_is_small old p l nodes told_before guard is_guard th.2.wait th.2.waits
+            was.time was.is was.tells b.start th.2.is (thawed_start_of th.0))
         by (inr f) = subst (λ (o : Option ℕ). Tells s (carried_at_start g order rows s p) o b.start)
             (frozen_time f.0 f.1.latest (ap (λ h. get_or h p None) f.1.frozen.set ∙ set_here before p f.1.latest (omega (arith, p_item, grown.settled.count)) unset))
             (frozen_line g order rows s few_faults p guard leads_there way_decides (frozen_start_of f.0) chooser b.start (unwrap_or f.1.latest 0) b.chooser_tree b.actives f.1.frozen.made)
@@ -277,14 +287,17 @@ module _ (g : Graph) (urgency : List ℕ) (guards : Guards) (a : IsAdmitted g ur
     ended : Tells s (carried_at_end g order rows s p) (get_or t.ends p None) b.end
     ended = end_line g a.limits order after s law t run run_is_small p l few_here rows b.start b.end few_faults b.ends started
 
-    readied : IsWaitedFor g order (place order p) (node_of g p) → IsReadyOnce g old (node_of g p) guard chooser b.end (goes_on b.end b.ready) → IsReadyLine g order rows s t (place order p + 1) (node_of g p) (goes_on b.end b.ready)
+    readied : IsWaitedFor g order (place order p) (node_of g p) → IsReadyOnce g old (node_of g p) guard chooser b.end (goes_on b.end b.ready) →
+        IsReadyLine g order rows s t (place order p + 1) (node_of g p) (goes_on b.end b.ready)
     readied waited made =
         let was = was_ready waited in
         ready_next g order topological (place order p) p l refl rows s after t run was.time (greatest (map (heard_there g t (node_of g p)) (way guard s.values))) was.is
         (most g order topological urgency a.urgency a.topological after s law.values t run p l guard is_guard was.time was.is)
         (waited_ends g order topological urgency a.urgency a.topological after s law.values t run p l guard is_guard was.time was.is) (goes_on b.end b.ready)
-        (ready_line g order topological rows s few_faults t run_is_small p guard leads_there way_decides chooser b.end made.wait (goes_on b.end b.ready) (max was.time (greatest (map (heard_there g t (node_of g p)) (way guard s.values)))) b.actives made.is ended
-        (wait_line g a.limits order topological a.joins urgency a.urgency a.topological rows s law.values few_faults t run_is_small old p l nodes told_before guard is_guard made.wait made.waits was.time was.is was.tells))
+        (ready_line g order topological rows s few_faults t run_is_small p guard leads_there way_decides chooser b.end made.wait (goes_on b.end b.ready)
+        (max was.time (greatest (map (heard_there g t (node_of g p)) (way guard s.values)))) b.actives made.is ended
+        (wait_line g a.limits order topological a.joins urgency a.urgency a.topological rows s law.values few_faults t run_is_small old p l nodes told_before guard is_guard made.wait made.waits
+        was.time was.is was.tells))
 
     freed_by : IsFreeLine g order rows s t (place order p) (node_of g p) (free_of g old (node_of g p)) → IsFreeOnce g order rows s t p 0 new
     freed_by was_free = record {
@@ -292,7 +305,8 @@ module _ (g : Graph) (urgency : List ℕ) (guards : Guards) (a : IsAdmitted g ur
       is = most_same (free_after g t) (IsSentBefore g order s (node_of g p) (place order p)) (IsSentBy g order s p 0) was_free.time
           (λ y h. (h.0, inl h.1)) (λ y h. (h.0, elim h.1 [ inl less ↦ less | inr c ↦ absurd (Contains-nil y c) ])) was_free.is;
       tells = subst (λ (tree : TreeState ℕ). Tells s (flat_map (queued g order rows s) (sent_so_far g order p 0)) was_free.time tree) (sym (same_free (node_of g p)))
-          (agrees_weaker s (free_of g old (node_of g p)) (flat_map (queued g order rows s) (sent_before g order (place order p) (node_of g p))) (flat_map (queued g order rows s) (sent_so_far g order p 0)) (λ z. z ≡ was_free.time) (λ z. z ≡ was_free.time)
+          (agrees_weaker s (free_of g old (node_of g p)) (flat_map (queued g order rows s) (sent_before g order (place order p) (node_of g p)))
+          (flat_map (queued g order rows s) (sent_so_far g order p 0)) (λ z. z ≡ was_free.time) (λ z. z ≡ was_free.time)
           (λ x j. let m = Contains-flat_map_parts (queued g order rows s) (sent_before g order (place order p) (node_of g p)) x j in
           Contains-flat_map (queued g order rows s) (sent_so_far g order p 0) m.0 x (Contains-append_left (sent_before g order (place order p) (node_of g p)) [] m.0 m.1) m.2)
           (λ z e. e) was_free.tells);
@@ -314,11 +328,13 @@ module _ (g : Graph) (urgency : List ℕ) (guards : Guards) (a : IsAdmitted g ur
       ends = λ q h less. elim (cases_eq q p) [
         | inl e ↦ subst (λ z. Tells s (carried_at_end g order rows s z) (get_or t.ends z None) (ends_of g new z)) (sym e)
             (subst (λ (tree : TreeState (Option ℕ)). Tells s (carried_at_end g order rows s p) (get_or t.ends p None) tree) (sym new_end) ended)
-        | inr other ↦ subst (λ (tree : TreeState (Option ℕ)). Tells s (carried_at_end g order rows s q) (get_or t.ends q None) tree) (sym (other_end q other)) (lines_before.ends q h (sooner_end q h less other))
+        | inr other ↦ subst (λ (tree : TreeState (Option ℕ)). Tells s (carried_at_end g order rows s q) (get_or t.ends q None) tree) (sym (other_end q other))
+            (lines_before.ends q h (sooner_end q h less other))
       ];
       ready = λ node h w. elim (cases_eq node (node_of g p)) [
         | inl e ↦ subst (λ n. IsReadyLine g order rows s t (place order p + 1) n (ready_of g new n)) (sym e)
-            (subst (λ (tree : TreeState ℕ). IsReadyLine g order rows s t (place order p + 1) (node_of g p) tree) (sym new_ready) (let waits = subst (IsWaitedFor g order (place order p + 1)) e w in readied (waits_before (node_of g p) waits) (b.readies waits)))
+            (subst (λ (tree : TreeState ℕ). IsReadyLine g order rows s t (place order p + 1) (node_of g p) tree) (sym new_ready)
+            (let waits = subst (IsWaitedFor g order (place order p + 1)) e w in readied (waits_before (node_of g p) waits) (b.readies waits)))
         | inr other ↦ subst (λ (tree : TreeState ℕ). IsReadyLine g order rows s t (place order p + 1) node tree) (sym (other_ready node h other))
             (ready_elsewhere g order topological (place order p) p l refl rows s after t run node other (ready_of g old node) (lines_before.ready node h (waits_before node w)))
       ];
@@ -329,7 +345,8 @@ module _ (g : Graph) (urgency : List ℕ) (guards : Guards) (a : IsAdmitted g ur
         sooner_end : (q : ℕ) → q < process_count g → place order q < place order p + 1 → q ≢ p → place order q < place order p
         sooner_end q h less other = elim (cases_lt (place order q) (place order p)) [
           | inl k ↦ k
-          | inr k ↦ absurd (other (same_place order q p (Contains-order (process_count g) order topological.all q h) (Contains-order (process_count g) order topological.all p l) (omega (arith, less, k))))
+          | inr k ↦ absurd (other (same_place order q p (Contains-order (process_count g) order topological.all q h) (Contains-order (process_count g) order topological.all p l)
+              (omega (arith, less, k))))
         ]
 
   new_unsent : LeavesUnsent g new

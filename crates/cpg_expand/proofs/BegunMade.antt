@@ -37,7 +37,8 @@ module _ (g : Graph) (order : List ℕ) (guards : Guards) (admitted : IsAdmitted
       (leads_below g order admitted.topological p l guard (subst (IsGuardOf g order p) (sym is) (admitted.guards.trees p l)))
 
 -- what is asked of the guards and an order
-pub along_here : (g : Graph) (urgency : List ℕ) (guards : Guards) → IsAdmitted g urgency guards → (h : Graph) → h ≡ g → (found : Guards) → found ≡ guards → (order : List ℕ) → length order ≡ process_count g → AreAlong h found order
+pub along_here : (g : Graph) (urgency : List ℕ) (guards : Guards) → IsAdmitted g urgency guards → (h : Graph) → h ≡ g → (found : Guards) → found ≡ guards → (order : List ℕ) →
+    length order ≡ process_count g → AreAlong h found order
 along_here g urgency guards admitted h same found is order long = subst (λ (k : Graph). AreAlong k found order) (sym same) (subst (λ (x : Guards). AreAlong g x order) (sym is) (record {
   few = admitted.well_formed.few_conditions;
   trees = admitted.guards.count;
@@ -49,8 +50,10 @@ pub inputs_here : (h : Graph) (p : ℕ) (edges : List ℕ) → edges ≡ inputs 
 inputs_here h p edges is = all_below (edge_count h) (edge_count h) edges (inputs h p) refl is (λ e c. (inputs_parts h p e c).0)
 
 -- the latest start is that of the same graph, order, guards, node and inputs
-pub latest_as : (f : ForestState) (from p : ℕ) (active : TreeState Bool) (latest : Option ℕ) (h k : Graph) → k ≡ h → (order other : List ℕ) → other ≡ order → (guards found : Guards) → found ≡ guards → (node at : ℕ) → at ≡ node → (edges es : List ℕ) → es ≡ edges →
-    IsLatestStart k other found f at from (place other p) (process_at k p).release es active latest → IsLatestStart h order guards f node from (place order p) (process_at h p).release edges active latest
+pub latest_as : (f : ForestState) (from p : ℕ) (active : TreeState Bool) (latest : Option ℕ) (h k : Graph) → k ≡ h → (order other : List ℕ) → other ≡ order → (guards found : Guards) →
+    found ≡ guards → (node at : ℕ) → at ≡ node → (edges es : List ℕ) → es ≡ edges →
+    IsLatestStart k other found f at from (place other p) (process_at k p).release es active latest →
+    IsLatestStart h order guards f node from (place order p) (process_at h p).release edges active latest
 latest_as f from p active latest h k same order other in_order guards found is node at there edges es into start =
     subst (λ (g : Graph). IsLatestStart g order guards f node from (place order p) (process_at g p).release edges active latest) same
     (subst (λ o. IsLatestStart k o guards f node from (place o p) (process_at k p).release edges active latest) in_order
@@ -65,7 +68,8 @@ ready_waits g p (After q) l e = subst (λ n. n < process_count g) (sym e) l
 ready_waits g p (At t) l is = is
 
 -- a tree for each is kept
-pub has_begun : (g : Graph) (f new : ForestState) (p node : ℕ) (times ends : TreeState (Option ℕ)) (ready : Ready) → p < process_count g → node ≡ node_of g p → HasTrees g f → IsTree g times → IsTree g ends → IsReadyAfter g p ready →
+pub has_begun : (g : Graph) (f new : ForestState) (p node : ℕ) (times ends : TreeState (Option ℕ)) (ready : Ready) → p < process_count g → node ≡ node_of g p → HasTrees g f → IsTree g times →
+    IsTree g ends → IsReadyAfter g p ready →
     new ≡ record { times = set f.times p times; ends = set f.ends p ends; ready = set f.ready node ready; free = f.free; wide = f.wide } → HasTrees g new
 has_begun g f new p node times ends ready l at has of_times of_ends of_ready is = subst (HasTrees g) (sym is) (record {
   times = length-set f.times p times ∙ has.times;
@@ -78,17 +82,20 @@ has_begun g f new p node times ends ready l at has of_times of_ends of_ready is 
   all_free = has.all_free;
   own = λ n q within e. elim (cases_eq n node) [
     | inl here ↦
-        let there : After q ≡ ready = sym e ∙ ap (λ m. get_or (set f.ready node ready) m (At (no_tree g.faults))) here ∙ get_or-set_same f.ready node ready (At (no_tree g.faults)) (omega (arith, within, here, has.ready)) in
+        let there : After q ≡ ready = sym e ∙ ap (λ m. get_or (set f.ready node ready) m (At (no_tree g.faults))) here ∙
+        get_or-set_same f.ready node ready (At (no_tree g.faults)) (omega (arith, within, here, has.ready)) in
         let same : q ≡ p = subst (IsReadyAfter g p) (sym there) of_ready in
         ap (node_of g) same ∙ sym at ∙ sym here
     | inr other ↦ has.own n q within (sym (get_or-set_other f.ready node n ready (At (no_tree g.faults)) other) ∙ e)
   ];
 })
 
-pub begun_made : (how : Graph → Guard → TreeState Bool → TreeState (Option ℕ) → Type 0) (g h : Graph) → h ≡ g → (order : List ℕ) (p : ℕ) (guard found : Guard) → found ≡ guard → (node : ℕ) → node ≡ node_of h p →
+pub begun_made : (how : Graph → Guard → TreeState Bool → TreeState (Option ℕ) → Type 0) (g h : Graph) → h ≡ g → (order : List ℕ) (p : ℕ) (guard found : Guard) → found ≡ guard → (node : ℕ) →
+    node ≡ node_of h p →
     (old new : ForestState) (chooser : TreeState Bool) → IsTree h chooser → IsActiveTree h.faults found chooser → (start : TreeState (Option ℕ)) → how h found chooser start →
     (end : TreeState (Option ℕ)) → IsEndTree h p start end → (ready : Ready) → IsReadyAfter h p ready → IsReadyIfWaited h order old p found chooser end (goes_on end ready) →
-    new ≡ record { times = set old.times p start; ends = set old.ends p end; ready = set old.ready node ready; free = old.free; wide = old.wide } → IsBegunBy (how g guard) g order p guard old new chooser
+    new ≡ record { times = set old.times p start; ends = set old.ends p end; ready = set old.ready node ready; free = old.free; wide = old.wide } →
+    IsBegunBy (how g guard) g order p guard old new chooser
 begun_made how g h same order p guard found the_guard node there old new chooser chooser_tree actives start starts end ends ready ready_after readies is =
     subst (λ k. IsBegunBy (how k guard) k order p guard old new chooser) same (subst (λ t. IsBegunBy (how h t) h order p t old new chooser) the_guard (record {
       chooser_tree = chooser_tree;

@@ -25,8 +25,10 @@ use Rattle.cpg_expand.specs.Guarded.{value_known, told_of}
 
 -- ---- the literals of a column that matches are told
 
-pub told_there : (rows : List (List Column)) (s : Scenario) (x : ℕ) (c : Column) → Contains (row_at rows x) c → matches c.cube s ≡ true → (l : Literal) → Contains c.cube l → Contains (told_by rows s x) l
-told_there rows s x c j m l i = Contains-flat_map (λ (d : Column). d.cube) (filter (λ (d : Column). matches d.cube s) (row_at rows x)) c l (Contains-filter (λ (d : Column). matches d.cube s) (row_at rows x) c m j) i
+pub told_there : (rows : List (List Column)) (s : Scenario) (x : ℕ) (c : Column) → Contains (row_at rows x) c → matches c.cube s ≡ true → (l : Literal) → Contains c.cube l →
+    Contains (told_by rows s x) l
+told_there rows s x c j m l i = Contains-flat_map (λ (d : Column). d.cube) (filter (λ (d : Column). matches d.cube s) (row_at rows x)) c l
+    (Contains-filter (λ (d : Column). matches d.cube s) (row_at rows x) c m j) i
 
 -- a tree whose paths of a scenario are columns of the row says what the row tells
 pub told_by_tree : {T : Type 0} (k : ℕ) (rows : List (List Column)) (s : Scenario) (x : ℕ) (fact : T → Type 0) (t : TreeState T) → t.faults ≡ k →
@@ -35,7 +37,8 @@ told_by_tree k rows s x fact t same there = record {
   value = λ p on. (there p on).0;
   says = λ p on.
       let c = (there p on).1 in
-      let kept = range_known t.faults (told_by rows s x) p.0 (λ l i. told_there rows s x c.0 c.1 (subst (λ (ls : List Literal). matches ls s ≡ true) (sym c.2) on.matched) l (subst (λ (ls : List Literal). Contains ls l) (sym c.2) i)) in
+      let kept = range_known t.faults (told_by rows s x) p.0
+      (λ l i. told_there rows s x c.0 c.1 (subst (λ (ls : List Literal). matches ls s ≡ true) (sym c.2) on.matched) l (subst (λ (ls : List Literal). Contains ls l) (sym c.2) i)) in
       record { low = λ v. (kept v).0; high = λ v. (kept v).1 };
 }
 
@@ -48,7 +51,8 @@ module _ (g : Graph) (order : List ℕ) (topological : IsTopological g order) (r
       let of_r = on_node_before g order q r i in
       let node_q = eqb-true (node_of g q) (node_of g p) (Contains-filter_parts (λ (u : ℕ). node_of g u == node_of g p) (before order p) q j).1 in
       let node_r = eqb-true (node_of g r) (node_of g q) (Contains-filter_parts (λ (u : ℕ). node_of g u == node_of g q) (before order q) r i).1 in
-      Contains-filter (λ (u : ℕ). node_of g u == node_of g p) (before order p) r (eq-eqb (node_of g r) (node_of g p) (node_r ∙ node_q)) (Contains-before order r p of_r.0 (omega (arith, of_q.1, of_r.1)))
+      Contains-filter (λ (u : ℕ). node_of g u == node_of g p) (before order p) r (eq-eqb (node_of g r) (node_of g p) (node_r ∙ node_q))
+      (Contains-before order r p of_r.0 (omega (arith, of_q.1, of_r.1)))
 
   abbrev more : ℕ → List Literal
   more q = if active g s.values q then executed g rows s q else []
@@ -63,7 +67,8 @@ module _ (g : Graph) (order : List ℕ) (topological : IsTopological g order) (r
   passed_executed q l on j = Contains-append_right (decided g s q ++ heard g rows s q) (more q) l (subst (λ (b : Bool). Contains (if b then executed g rows s q else []) l) (sym on) j)
 
   -- what is carried beside the end of an active process is carried on by its node
-  pub end_carried : (p q : ℕ) → Contains (before_on_node g order p) q → active g s.values q ≡ true → (l : Literal) → Contains (carried_at_end g order rows s q) l → Contains (flat_map (passed g rows s) (before_on_node g order p)) l
+  pub end_carried : (p q : ℕ) → Contains (before_on_node g order p) q → active g s.values q ≡ true → (l : Literal) → Contains (carried_at_end g order rows s q) l →
+      Contains (flat_map (passed g rows s) (before_on_node g order p)) l
   end_carried p q j on l i = by (process_at g q).frozen refl
     where
       here : Contains (passed g rows s q) l → Contains (flat_map (passed g rows s) (before_on_node g order p)) l
@@ -86,7 +91,8 @@ module _ (g : Graph) (order : List ℕ) (topological : IsTopological g order) (r
 
       parts : Contains all l → (process_at g q).frozen ≡ false → Contains (flat_map (passed g rows s) (before_on_node g order p)) l
       parts k e = elim (Contains-append_cases (flat_map (passed g rows s) (before_on_node g order q) ++ decided g s q ++ heard g rows s q) (received g rows s q) l k) [
-        | inr o ↦ here (passed_executed q l on (Contains-append_left (if (process_at g q).frozen then [] else received g rows s q) (number_known s q ∷ []) l (subst (λ (f : Bool). Contains (if f then [] else received g rows s q) l) (sym e) o)))
+        | inr o ↦ here (passed_executed q l on (Contains-append_left (if (process_at g q).frozen then [] else received g rows s q) (number_known s q ∷ []) l
+            (subst (λ (f : Bool). Contains (if f then [] else received g rows s q) l) (sym e) o)))
         | inl m ↦ elim (Contains-append_cases (flat_map (passed g rows s) (before_on_node g order q) ++ decided g s q) (heard g rows s q) l m) [
           | inr n ↦ here (passed_heard q l n)
           | inl n ↦ elim (Contains-append_cases (flat_map (passed g rows s) (before_on_node g order q)) (decided g s q) l n) [
@@ -128,11 +134,13 @@ module _ (g : Graph) (order : List ℕ) (topological : IsTopological g order) (r
           | inl e ↦ Contains-append_left (flat_map (passed g rows s) (before_on_node g order p)) (heard g rows s p) l
               (end_carried p (process_of g c) (own_before p (process_of g c) (process_of_below g c low) (decides_earlier g order topological s.values p c low r.1) e)
               (deciding_is_active g urgency is_urgency urgent s.values p c low r.1) l
-              (subst (λ (b : Bool). Contains (if b then carried_at_end g order rows s (process_of g c) else told_by rows s (broadcast_item g c)) l) (eq-eqb (node_of g (process_of g c)) (node_of g p) e) i))
+              (subst (λ (b : Bool). Contains (if b then carried_at_end g order rows s (process_of g c) else told_by rows s (broadcast_item g c)) l)
+              (eq-eqb (node_of g (process_of g c)) (node_of g p) e) i))
           | inr n ↦ Contains-append_right (flat_map (passed g rows s) (before_on_node g order p)) (heard g rows s p) l
               (Contains-flat_map (λ d. if node_of g (process_of g d) == node_of g p then [] else told_by rows s (broadcast_item g d)) (deciding g s.values p) c l j
               (subst (λ (b : Bool). Contains (if b then [] else told_by rows s (broadcast_item g c)) l) (sym (ne_eqb (node_of g (process_of g c)) (node_of g p) n))
-              (subst (λ (b : Bool). Contains (if b then carried_at_end g order rows s (process_of g c) else told_by rows s (broadcast_item g c)) l) (ne_eqb (node_of g (process_of g c)) (node_of g p) n) i)))
+              (subst (λ (b : Bool). Contains (if b then carried_at_end g order rows s (process_of g c) else told_by rows s (broadcast_item g c)) l)
+              (ne_eqb (node_of g (process_of g c)) (node_of g p) n) i)))
         ]
 
     -- all that the tests on the way of a guard tell
@@ -142,12 +150,14 @@ module _ (g : Graph) (order : List ℕ) (topological : IsTopological g order) (r
         let r = Contains-flat_map_parts (λ c. heard_tell (node_of g p) c ++ value_known s c ∷ []) ws l i in
         elim (Contains-append_cases (heard_tell (node_of g p) r.0) (value_known s r.0 ∷ []) l r.2) [
           | inl m ↦ elim (Contains-append_cases (flat_map (passed g rows s) (before_on_node g order p)) (heard g rows s p) l (heard_carried r.0 (of r.0 r.1) l m)) [
-            | inl n ↦ Contains-append_left (flat_map (passed g rows s) (before_on_node g order p) ++ decided g s p) (heard g rows s p) l (Contains-append_left (flat_map (passed g rows s) (before_on_node g order p)) (decided g s p) l n)
+            | inl n ↦ Contains-append_left (flat_map (passed g rows s) (before_on_node g order p) ++ decided g s p) (heard g rows s p) l
+                (Contains-append_left (flat_map (passed g rows s) (before_on_node g order p)) (decided g s p) l n)
             | inr n ↦ Contains-append_right (flat_map (passed g rows s) (before_on_node g order p) ++ decided g s p) (heard g rows s p) l n
           ]
           | inr m ↦ elim (Contains-cases (value_known s r.0) [] l m) [
             | inl e ↦ Contains-append_left (flat_map (passed g rows s) (before_on_node g order p) ++ decided g s p) (heard g rows s p) l
-                (Contains-append_right (flat_map (passed g rows s) (before_on_node g order p)) (decided g s p) l (subst (Contains (decided g s p)) e (Contains-map (value_known s) (deciding g s.values p) r.0 (of r.0 r.1))))
+                (Contains-append_right (flat_map (passed g rows s) (before_on_node g order p)) (decided g s p) l
+                (subst (Contains (decided g s p)) e (Contains-map (value_known s) (deciding g s.values p) r.0 (of r.0 r.1))))
             | inr none ↦ absurd (Contains-nil l none)
           ]
         ]
@@ -159,14 +169,16 @@ module _ (g : Graph) (order : List ℕ) (topological : IsTopological g order) (r
   input_tell e = if is_message g e then told_by rows s (message_item g e) else carried_at_end g order rows s (source g e)
 
   -- what tells of a live input is carried
-  pub input_carried : (p e : ℕ) → Contains (inputs g p) e → node_of g (source g e) ≡ node_of g p ⊎ (is_message g e ≡ true) → source g e < process_count g → active g s.values (source g e) ≡ true → (l : Literal) → Contains (input_tell e) l →
+  pub input_carried : (p e : ℕ) → Contains (inputs g p) e → node_of g (source g e) ≡ node_of g p ⊎ (is_message g e ≡ true) → source g e < process_count g → active g s.values (source g e) ≡ true →
+      (l : Literal) → Contains (input_tell e) l →
       Contains (flat_map (passed g rows s) (before_on_node g order p) ++ received g rows s p) l
   input_carried p e j way low on l i = by (is_message g e) refl way
     where
       by : (m : Bool) → is_message g e ≡ m → node_of g (source g e) ≡ node_of g p ⊎ (is_message g e ≡ true) → Contains (flat_map (passed g rows s) (before_on_node g order p) ++ received g rows s p) l
       by true is w = Contains-append_right (flat_map (passed g rows s) (before_on_node g order p)) (received g rows s p) l
           (Contains-flat_map (λ d. if is_message g d then told_by rows s (message_item g d) else []) (inputs g p) e l j
-          (subst (λ (b : Bool). Contains (if b then told_by rows s (message_item g e) else []) l) (sym is) (subst (λ (b : Bool). Contains (if b then told_by rows s (message_item g e) else carried_at_end g order rows s (source g e)) l) is i)))
+          (subst (λ (b : Bool). Contains (if b then told_by rows s (message_item g e) else []) l) (sym is)
+          (subst (λ (b : Bool). Contains (if b then told_by rows s (message_item g e) else carried_at_end g order rows s (source g e)) l) is i)))
       by false is (inl same) = Contains-append_left (flat_map (passed g rows s) (before_on_node g order p)) (received g rows s p) l
           (end_carried p (source g e) (own_before p (source g e) low (input_goes_up g order topological p e j) same) on l
           (subst (λ (b : Bool). Contains (if b then told_by rows s (message_item g e) else carried_at_end g order rows s (source g e)) l) is i))
@@ -179,7 +191,8 @@ module _ (g : Graph) (order : List ℕ) (topological : IsTopological g order) (r
 
   -- all that a start that isn't frozen rests on: when its node is ready, what its guard tests, and its live inputs
   pub start_carried : (p : ℕ) → (process_at g p).frozen ≡ false → (l : Literal) →
-      Contains (flat_map (passed g rows s) (before_on_node g order p) ++ decided g s p ++ heard g rows s p) l ⊎ Contains (flat_map (passed g rows s) (before_on_node g order p) ++ received g rows s p) l → Contains (carried_at_start g order rows s p) l
+      Contains (flat_map (passed g rows s) (before_on_node g order p) ++ decided g s p ++ heard g rows s p) l ⊎
+      Contains (flat_map (passed g rows s) (before_on_node g order p) ++ received g rows s p) l → Contains (carried_at_start g order rows s p) l
   start_carried p e l i = subst (λ (f : Bool). Contains (if f then decided g s p else all) l) (sym e) (by i)
     where
       on : List Literal
@@ -192,11 +205,13 @@ module _ (g : Graph) (order : List ℕ) (topological : IsTopological g order) (r
       by (inl m) = Contains-append_left (on ++ decided g s p ++ heard g rows s p) (received g rows s p) l m
       by (inr m) = elim (Contains-append_cases on (received g rows s p) l m) [
         | inr n ↦ Contains-append_right (on ++ decided g s p ++ heard g rows s p) (received g rows s p) l n
-        | inl n ↦ Contains-append_left (on ++ decided g s p ++ heard g rows s p) (received g rows s p) l (Contains-append_left (on ++ decided g s p) (heard g rows s p) l (Contains-append_left on (decided g s p) l n))
+        | inl n ↦ Contains-append_left (on ++ decided g s p ++ heard g rows s p) (received g rows s p) l
+            (Contains-append_left (on ++ decided g s p) (heard g rows s p) l (Contains-append_left on (decided g s p) l n))
       ]
 
   -- what a node is ready by after a process was carried before, or beside its end
-  pub ready_carried : (p : ℕ) (l : Literal) → Contains (decided g s p) l ⊎ Contains (flat_map (passed g rows s) (before_on_node g order p) ++ decided g s p ++ heard g rows s p) l → Contains (flat_map (passed g rows s) (before_on_node g order p) ++ passed g rows s p) l
+  pub ready_carried : (p : ℕ) (l : Literal) → Contains (decided g s p) l ⊎ Contains (flat_map (passed g rows s) (before_on_node g order p) ++ decided g s p ++ heard g rows s p) l →
+      Contains (flat_map (passed g rows s) (before_on_node g order p) ++ passed g rows s p) l
   ready_carried p l (inl m) = Contains-append_right (flat_map (passed g rows s) (before_on_node g order p)) (passed g rows s p) l (passed_decided p l m)
   ready_carried p l (inr m) = elim (Contains-append_cases (flat_map (passed g rows s) (before_on_node g order p) ++ decided g s p) (heard g rows s p) l m) [
     | inr n ↦ Contains-append_right (flat_map (passed g rows s) (before_on_node g order p)) (passed g rows s p) l (passed_heard p l n)
@@ -209,7 +224,8 @@ module _ (g : Graph) (order : List ℕ) (topological : IsTopological g order) (r
   -- ---- the end
 
   -- what is carried beside the end of an active process is carried before it, or passed on by it
-  pub end_parts : (q : ℕ) → active g s.values q ≡ true → (l : Literal) → Contains (carried_at_end g order rows s q) l → Contains (flat_map (passed g rows s) (before_on_node g order q)) l ⊎ Contains (passed g rows s q) l
+  pub end_parts : (q : ℕ) → active g s.values q ≡ true → (l : Literal) → Contains (carried_at_end g order rows s q) l → Contains (flat_map (passed g rows s) (before_on_node g order q)) l ⊎
+      Contains (passed g rows s q) l
   end_parts q on l i = elim (Contains-append_cases (if (process_at g q).frozen then decided g s q else all) (number_known s q ∷ []) l i) [
     | inr k ↦ inr (passed_executed q l on (Contains-append_right (if (process_at g q).frozen then [] else received g rows s q) (number_known s q ∷ []) l k))
     | inl k ↦ of_start (process_at g q).frozen refl k
@@ -218,10 +234,12 @@ module _ (g : Graph) (order : List ℕ) (topological : IsTopological g order) (r
       all : List Literal
       all = flat_map (passed g rows s) (before_on_node g order q) ++ decided g s q ++ heard g rows s q ++ received g rows s q
 
-      of_start : (f : Bool) → (process_at g q).frozen ≡ f → Contains (if f then decided g s q else all) l → Contains (flat_map (passed g rows s) (before_on_node g order q)) l ⊎ Contains (passed g rows s q) l
+      of_start : (f : Bool) → (process_at g q).frozen ≡ f → Contains (if f then decided g s q else all) l → Contains (flat_map (passed g rows s) (before_on_node g order q)) l ⊎
+          Contains (passed g rows s q) l
       of_start true e k = inr (passed_decided q l k)
       of_start false e k = elim (Contains-append_cases (flat_map (passed g rows s) (before_on_node g order q) ++ decided g s q ++ heard g rows s q) (received g rows s q) l k) [
-        | inr o ↦ inr (passed_executed q l on (Contains-append_left (if (process_at g q).frozen then [] else received g rows s q) (number_known s q ∷ []) l (subst (λ (f : Bool). Contains (if f then [] else received g rows s q) l) (sym e) o)))
+        | inr o ↦ inr (passed_executed q l on (Contains-append_left (if (process_at g q).frozen then [] else received g rows s q) (number_known s q ∷ []) l
+            (subst (λ (f : Bool). Contains (if f then [] else received g rows s q) l) (sym e) o)))
         | inl m ↦ elim (Contains-append_cases (flat_map (passed g rows s) (before_on_node g order q) ++ decided g s q) (heard g rows s q) l m) [
           | inr n ↦ inr (passed_heard q l n)
           | inl n ↦ elim (Contains-append_cases (flat_map (passed g rows s) (before_on_node g order q)) (decided g s q) l n) [

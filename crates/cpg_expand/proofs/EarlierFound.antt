@@ -46,10 +46,12 @@ module _ (g : Graph) (order : List ℕ) (guards : Guards) (node from to c : ℕ)
   more k n s l a = record { process = a.process; below = omega (arith, a.below, l); between = a.between; tested = a.tested }
 
   -- of one more process, but for what that one asks
-  less : (q : ℕ) (s : Scenario) → (IsBetween g order node from to q → is_tested (tree_of guards q) s.values c ≡ true → ⊥) → IsAskedOf g order guards node from to c (q + 1) s.values → IsAskedOf g order guards node from to c q s.values
+  less : (q : ℕ) (s : Scenario) → (IsBetween g order node from to q → is_tested (tree_of guards q) s.values c ≡ true → ⊥) → IsAskedOf g order guards node from to c (q + 1) s.values →
+      IsAskedOf g order guards node from to c q s.values
   less q s off a = elim (cases_lt a.process q) [
     | inl l ↦ record { process = a.process; below = l; between = a.between; tested = a.tested }
-    | inr m ↦ absurd (let e : a.process ≡ q = omega (arith, a.below, m) in off (subst (IsBetween g order node from to) e a.between) (subst (λ p. is_tested (tree_of guards p) s.values c ≡ true) e a.tested))
+    | inr m ↦ absurd (let e : a.process ≡ q = omega (arith, a.below, m) in off (subst (IsBetween g order node from to) e a.between)
+        (subst (λ p. is_tested (tree_of guards p) s.values c ≡ true) e a.tested))
   ]
 
   pub none_asked : (t : TreeState Bool) → IsConstant false g.faults t → Asked 0 t
@@ -61,7 +63,8 @@ module _ (g : Graph) (order : List ℕ) (guards : Guards) (node from to c : ℕ)
   pub asked_same : (q : ℕ) (t : TreeState Bool) → (IsBetween g order node from to q → ⊥) → Asked q t → Asked (q + 1) t
   asked_same q t off asks s few x on = (λ e. more q (q + 1) s (omega arith) ((asks s few x on).0 e), λ a. (asks s few x on).1 (less q s (λ b e. off b) a))
 
-  pub asked_too : (q : ℕ) (tested always asked t : TreeState Bool) → IsBetween g order node from to q → IsTree g tested → IsTree g always → IsTree g asked → IsTestedOn g.faults (tree_of guards q) c tested → IsConstant true g.faults always → IsPick tested always asked t →
+  pub asked_too : (q : ℕ) (tested always asked t : TreeState Bool) → IsBetween g order node from to q → IsTree g tested → IsTree g always → IsTree g asked →
+      IsTestedOn g.faults (tree_of guards q) c tested → IsConstant true g.faults always → IsPick tested always asked t →
       Asked q asked → Asked (q + 1) t
   asked_too q tested always asked t between of_tested of_always of_asked tests is pick asks s few z on = by w.0.1 refl
     where
@@ -99,4 +102,5 @@ both_true g a b never t of_a of_never is pick s few x y z on_x on_y on_z = by x.
     by true e = pick.value s x y z few_there on_x (subst (λ (d : Bool). IsOn (if d then b.paths else never.paths) s y) (sym e) on_y) on_z ∙ sym (ap (λ (d : Bool). d && y.1) e)
     by false e =
         let n = the_path g.faults never.paths of_never.each s few in
-        pick.value s x n.0 z few_there on_x (subst (λ (d : Bool). IsOn (if d then b.paths else never.paths) s n.0) (sym e) n.1) on_z ∙ constant_there false g.faults never is s n.0 n.1 ∙ sym (ap (λ (d : Bool). d && y.1) e)
+        pick.value s x n.0 z few_there on_x (subst (λ (d : Bool). IsOn (if d then b.paths else never.paths) s n.0) (sym e) n.1) on_z ∙ constant_there false g.faults never is s n.0 n.1 ∙
+        sym (ap (λ (d : Bool). d && y.1) e)

@@ -26,7 +26,8 @@ has_put g f new x node times free has of_times of_free is = subst (HasTrees g) (
   own = has.own;
 })
 
-pub free_read : (g : Graph) (f : ForestState) → HasTrees g f → (i : ForestState) → i ≡ f → (v : TreeState ℕ) (at node : ℕ) → v ≡ get_or i.free at v → at ≡ node → node < length g.nodes → v ≡ free_of g f node
+pub free_read : (g : Graph) (f : ForestState) → HasTrees g f → (i : ForestState) → i ≡ f → (v : TreeState ℕ) (at node : ℕ) → v ≡ get_or i.free at v → at ≡ node → node < length g.nodes →
+    v ≡ free_of g f node
 free_read g f has i same v at node is e l =
     let long = ap (λ (h : ForestState). length h.free) same in
     get_or_read_under i.free at (length i.free) v (no_tree g.faults) is (omega (arith, e, l, has.free, long)) refl ∙ ap (λ (h : ForestState). free_of g h at) same ∙ ap (free_of g f) e

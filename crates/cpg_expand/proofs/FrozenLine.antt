@@ -25,11 +25,14 @@ use Rattle.cpg_expand.proofs.TreesTold.{each_of, few_of}
 module _ (g : Graph) (order : List ℕ) (rows : List (List Column)) (s : Scenario) (few : HasFew g.faults s) (p : ℕ) (guard : Guard)
     (leads : outcome_at guard s.values ≡ activation g s.values p) (on_way : (c : ℕ) → Contains (way guard s.values) c → Contains (deciding g s.values p) c) where
   -- one time wherever the process is active
-  pub frozen_line : (process_at g p).frozen ≡ true → (chooser : TreeState Bool) (tree : TreeState (Option ℕ)) (time : ℕ) → IsTree g chooser → IsActiveTree g.faults guard chooser → IsMap (λ b z. z ≡ time_if time b) chooser tree →
+  pub frozen_line : (process_at g p).frozen ≡ true → (chooser : TreeState Bool) (tree : TreeState (Option ℕ)) (time : ℕ) → IsTree g chooser → IsActiveTree g.faults guard chooser →
+      IsMap (λ b z. z ≡ time_if time b) chooser tree →
       Tells s (carried_at_start g order rows s p) (if active g s.values p then Some time else None) tree
   frozen_line frozen chooser tree time of_chooser actives made =
-      agrees_weaker s tree (values_known s (way guard s.values)) (carried_at_start g order rows s p) (λ z. z ≡ time_if time (active g s.values p)) (λ z. z ≡ (if active g s.values p then Some time else None)) within (λ z e. e)
-      (agrees_map s (λ b z. z ≡ time_if time b) chooser tree (values_known s (way guard s.values)) (λ b. b ≡ active g s.values p) (λ z. z ≡ time_if time (active g s.values p)) (few_of g.faults chooser.faults s of_chooser.faults few) (each_of g chooser.faults chooser of_chooser.faults of_chooser) made
+      agrees_weaker s tree (values_known s (way guard s.values)) (carried_at_start g order rows s p) (λ z. z ≡ time_if time (active g s.values p))
+      (λ z. z ≡ (if active g s.values p then Some time else None)) within (λ z e. e)
+      (agrees_map s (λ b z. z ≡ time_if time b) chooser tree (values_known s (way guard s.values)) (λ b. b ≡ active g s.values p) (λ z. z ≡ time_if time (active g s.values p))
+      (few_of g.faults chooser.faults s of_chooser.faults few) (each_of g chooser.faults chooser of_chooser.faults of_chooser) made
       (λ b z e f. f ∙ ap (time_if time) e) chosen)
     where
       chosen : Tells s (values_known s (way guard s.values)) (active g s.values p) chooser
@@ -41,10 +44,12 @@ module _ (g : Graph) (order : List ℕ) (rows : List (List Column)) (s : Scenari
           subst (Contains (decided g s p)) r.2 (Contains-map (value_known s) (deciding g s.values p) r.0 (on_way r.0 r.1))
 
       within : (l : Literal) → Contains (values_known s (way guard s.values)) l → Contains (carried_at_start g order rows s p) l
-      within l j = subst (λ (f : Bool). Contains (if f then decided g s p else flat_map (passed g rows s) (before_on_node g order p) ++ decided g s p ++ heard g rows s p ++ received g rows s p) l) (sym frozen) (in_decided l j)
+      within l j = subst (λ (f : Bool). Contains (if f then decided g s p else flat_map (passed g rows s) (before_on_node g order p) ++ decided g s p ++ heard g rows s p ++ received g rows s p) l)
+          (sym frozen) (in_decided l j)
 
 -- a frozen time that no unfrozen time is above is the time of the run
-pub frozen_value : (g : Graph) (order : List ℕ) (frozen : List (Option ℕ)) (s : Scenario) (t : Times) → IsRun g order frozen s t → (p : ℕ) → p < process_count g → (time : ℕ) → get_or frozen p None ≡ Some time →
+pub frozen_value : (g : Graph) (order : List ℕ) (frozen : List (Option ℕ)) (s : Scenario) (t : Times) → IsRun g order frozen s t → (p : ℕ) → p < process_count g → (time : ℕ) →
+    get_or frozen p None ≡ Some time →
     (active g s.values p ≡ true → unfrozen_time g order s t p ≤ time) → (if active g s.values p then Some time else None) ≡ get_or t.times p None
 frozen_value g order frozen s t run p l time is most =
     go (active g s.values p) refl ∙ sym (ap (λ ts. get_or ts p None) run.times ∙ get_or-map-below (time_by g order frozen s t) (item_count g) p None (omega (arith, l))

@@ -1,5 +1,6 @@
 -- The tree of a frozen send agrees with what is carried beside it; and a frozen time is the run's.
-use Rattle.std.proofs.Common.{ℕ, ◌<◌, ◌≤◌, ◌≡◌, Bool, true, false, if◌then◌else◌, List, [], ◌∷◌, ◌++◌, flat_map, get_or, Option, Some, None, option_to_list, Contains, ◌⊎◌, arith, refl, sym, ap, ◌∙◌, subst, inl, inr}
+use Rattle.std.proofs.Common.{ℕ, ◌<◌, ◌≤◌, ◌≡◌, Bool, true, false, if◌then◌else◌, List, [], ◌∷◌, ◌++◌, flat_map, get_or, Option, Some, None, option_to_list, Contains, ◌⊎◌, arith, refl, sym, ap, ◌∙◌}
+use Rattle.std.proofs.Common.{subst, inl, inr}
 use Rattle.std.proofs.lemmas.List.Elements.{Contains-append_left, Contains-append_right}
 use Rattle.cpg_base.specs.Numbers.{greatest}
 use Rattle.cpg_base.specs.Graph.{Graph, item_count, item_at, is_frozen, producer}
@@ -26,8 +27,10 @@ module _ (g : Graph) (order : List ℕ) (rows : List (List Column)) (s : Scenari
   pub frozen_send_line : is_frozen g x ≡ true → (tree : TreeState (Option ℕ)) (time : ℕ) → IsTree g goes → IsMap (λ b z. z ≡ time_if time b) goes tree →
       Tells s (carried_at_send g order rows s x) (if item_active g s.values (item_at g x) then Some time else None) tree
   frozen_send_line frozen tree time of_tree made =
-      agrees_weaker s tree says (carried_at_send g order rows s x) (λ z. z ≡ time_if time (item_active g s.values (item_at g x))) (λ z. z ≡ (if item_active g s.values (item_at g x) then Some time else None)) within (λ z e. e)
-      (agrees_map s (λ b z. z ≡ time_if time b) goes tree says (λ b. b ≡ item_active g s.values (item_at g x)) (λ z. z ≡ time_if time (item_active g s.values (item_at g x))) (few_of g.faults goes.faults s of_tree.faults few) (each_of g goes.faults goes of_tree.faults of_tree) made
+      agrees_weaker s tree says (carried_at_send g order rows s x) (λ z. z ≡ time_if time (item_active g s.values (item_at g x)))
+      (λ z. z ≡ (if item_active g s.values (item_at g x) then Some time else None)) within (λ z e. e)
+      (agrees_map s (λ b z. z ≡ time_if time b) goes tree says (λ b. b ≡ item_active g s.values (item_at g x)) (λ z. z ≡ time_if time (item_active g s.values (item_at g x)))
+      (few_of g.faults goes.faults s of_tree.faults few) (each_of g goes.faults goes of_tree.faults of_tree) made
       (λ b z e f. f ∙ ap (time_if time) e) of_goes)
     where
       all : List Literal
@@ -43,11 +46,13 @@ module _ (g : Graph) (order : List ℕ) (rows : List (List Column)) (s : Scenari
       ]
 
 -- a frozen time that no unfrozen time is above is the time of the run
-pub frozen_send_value : (g : Graph) (order : List ℕ) (frozen : List (Option ℕ)) (s : Scenario) (t : Times) → IsRun g order frozen s t → (x : ℕ) → x < item_count g → (time : ℕ) → get_or frozen x None ≡ Some time →
+pub frozen_send_value : (g : Graph) (order : List ℕ) (frozen : List (Option ℕ)) (s : Scenario) (t : Times) → IsRun g order frozen s t → (x : ℕ) → x < item_count g → (time : ℕ) →
+    get_or frozen x None ≡ Some time →
     (item_active g s.values (item_at g x) ≡ true → unfrozen_time g order s t x ≤ time) → (if item_active g s.values (item_at g x) then Some time else None) ≡ get_or t.times x None
 frozen_send_value g order frozen s t run x l time is most = go (item_active g s.values (item_at g x)) refl ∙ sym (time_is g order frozen s t run x l)
   where
-    go : (b : Bool) → item_active g s.values (item_at g x) ≡ b → (if b then Some time else None) ≡ (if b then Some (greatest (unfrozen_time g order s t x ∷ option_to_list (get_or frozen x None))) else None)
+    go : (b : Bool) → item_active g s.values (item_at g x) ≡ b → (if b then Some time else None) ≡
+        (if b then Some (greatest (unfrozen_time g order s t x ∷ option_to_list (get_or frozen x None))) else None)
     go true on = ap (λ n. Some n) (
         let one = ap (λ o. greatest (unfrozen_time g order s t x ∷ option_to_list o)) is in
         let both = greatest-cons (unfrozen_time g order s t x) (time ∷ []) in

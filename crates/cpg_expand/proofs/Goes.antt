@@ -1,5 +1,6 @@
 -- The trees of where an edge is live and an item is sent.
-use Rattle.std.proofs.Common.{ℕ, ◌<◌, ◌≡◌, ◌&&◌, Bool, true, false, true≢false, if◌then◌else◌, List, [], ◌∷◌, ◌++◌, map, get_or, Option, Some, None, unwrap_or, option_to_list, is_some, ◌⊎◌, inl, inr, refl, sym, ap, ap₂, ◌∙◌, subst}
+use Rattle.std.proofs.Common.{ℕ, ◌<◌, ◌≡◌, ◌&&◌, Bool, true, false, true≢false, if◌then◌else◌, List, [], ◌∷◌, ◌++◌, map, get_or, Option, Some, None, unwrap_or, option_to_list, is_some, ◌⊎◌, inl, inr}
+use Rattle.std.proofs.Common.{refl, sym, ap, ap₂, ◌∙◌, subst}
 use Rattle.std.proofs.lemmas.List.Elements.{Contains-append_left}
 use Rattle.std.proofs.lemmas.Option.{none-some}
 use Rattle.cpg_base.specs.Numbers.{same_bool}
@@ -29,10 +30,12 @@ and_true true = refl
 and_true false = refl
 
 -- what is true where a tree is
-pub same_told : (g : Graph) (chooser t : TreeState Bool) → IsTree g chooser → IsMap (λ x z. z ≡ same_bool true x) chooser t → (s : Scenario) → HasFew g.faults s → (b : Bool) (first more : List Literal) → Tells s first b chooser → Tells s (first ++ more) b t
+pub same_told : (g : Graph) (chooser t : TreeState Bool) → IsTree g chooser → IsMap (λ x z. z ≡ same_bool true x) chooser t → (s : Scenario) → HasFew g.faults s →
+    (b : Bool) (first more : List Literal) → Tells s first b chooser → Tells s (first ++ more) b t
 same_told g chooser t of_chooser made s few b first more told =
     agrees_weaker s t first (first ++ more) (λ z. z ≡ b) (λ z. z ≡ b) (λ l j. Contains-append_left first more l j) (λ z e. e)
-    (agrees_map s (λ x z. z ≡ same_bool true x) chooser t first (λ x. x ≡ b) (λ z. z ≡ b) (few_of g.faults chooser.faults s of_chooser.faults few) (each_of g chooser.faults chooser of_chooser.faults of_chooser) made
+    (agrees_map s (λ x z. z ≡ same_bool true x) chooser t first (λ x. x ≡ b) (λ z. z ≡ b) (few_of g.faults chooser.faults s of_chooser.faults few)
+    (each_of g chooser.faults chooser of_chooser.faults of_chooser) made
     (λ x z e f. f ∙ ap (same_bool true) e ∙ same_true b) told)
 
 -- ---- what an edge asks for
@@ -81,7 +84,8 @@ module _ (g : Graph) (e : ℕ) where
     live_tested c w is tested s few first told =
         let both = a_question (edge_at g e).when (condition_of g (source g e)) c w is in
         let b : Bool = active g s.values (source g e) in
-        let lits = ap₂ (λ (o : Option Bool) (d : Option ℕ). first ++ (if b then map (number_known s) (if is_some o then map value_variable (option_to_list d) else []) else [])) (sym both.0) (sym both.1) in
+        let lits = ap₂ (λ (o : Option Bool) (d : Option ℕ). first ++ (if b then map (number_known s) (if is_some o then map value_variable (option_to_list d) else []) else [])) (sym both.0)
+        (sym both.1) in
         let value = ap₂ (λ (o : Option Bool) (d : Option ℕ). b && takes o (get_or s.values (unwrap_or d 0) false)) (sym both.0) (sym both.1) in
         subst (λ (ls : List Literal). Tells s ls (live g s.values e) t) lits
         (subst (λ (z : Bool). Tells s (first ++ (if b then value_known s c ∷ [] else [])) z t) value (tested s few b first told))
@@ -91,8 +95,10 @@ module _ (g : Graph) (x : ℕ) (chooser t : TreeState Bool) where
   pub goes_message : (e : ℕ) → item_at g x ≡ Message e → is_sent_item g (item_at g x) ≡ true → IsLiveTree g e chooser t → IsGoesTree g x chooser t
   goes_message e is sent lives s few first told =
       let message = sym (ap (is_sent_item g) is) ∙ sent in
-      subst (λ (i : Item). Tells s first (active g s.values (producer_of_item g i)) chooser → Tells s (first ++ (if active g s.values (producer_of_item g i) then map (number_known s) (sent_value g i) else [])) (item_active g s.values i) t) (sym is)
-      (λ by_source. subst (λ (z : Bool). Tells s (first ++ (if active g s.values (source g e) then map (number_known s) (source_value g e) else [])) z t) (sym (ap (λ (b : Bool). b && live g s.values e) message)) (lives s few first by_source))
+      subst (λ (i : Item). Tells s first (active g s.values (producer_of_item g i)) chooser →
+      Tells s (first ++ (if active g s.values (producer_of_item g i) then map (number_known s) (sent_value g i) else [])) (item_active g s.values i) t) (sym is)
+      (λ by_source. subst (λ (z : Bool). Tells s (first ++ (if active g s.values (source g e) then map (number_known s) (source_value g e) else [])) z t)
+      (sym (ap (λ (b : Bool). b && live g s.values e) message)) (lives s few first by_source))
       told
 
   -- a broadcast with its process
@@ -108,7 +114,8 @@ module _ (g : Graph) (x : ℕ) (chooser t : TreeState Bool) where
   no_start p is sent = true≢false (sym sent ∙ ap (is_sent_item g) is)
 
   -- what is sent and is no message is a broadcast
-  pub goes_other : (i : Item) → item_at g x ≡ i → ((e : ℕ) → i ≡ Message e → ⊥) → is_sent_item g (item_at g x) ≡ true → IsTree g chooser → IsMap (λ x z. z ≡ same_bool true x) chooser t → IsGoesTree g x chooser t
+  pub goes_other : (i : Item) → item_at g x ≡ i → ((e : ℕ) → i ≡ Message e → ⊥) → is_sent_item g (item_at g x) ≡ true → IsTree g chooser → IsMap (λ x z. z ≡ same_bool true x) chooser t →
+      IsGoesTree g x chooser t
   goes_other (Start p) is other sent of_chooser made = absurd (no_start p is sent)
   goes_other (Message e) is other sent of_chooser made = absurd (other e refl)
   goes_other (Broadcast c) is other sent of_chooser made = goes_broadcast c is sent of_chooser made

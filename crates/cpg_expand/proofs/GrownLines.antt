@@ -32,7 +32,8 @@ use Rattle.cpg_expand.proofs.TreesTold.{times_tree}
 
 -- ---- what is told
 
-pub told_from_lines : (g : Graph) (order : List ℕ) (rows : List (List Column)) (i : ℕ) (f : ForestState) → HasTrees g f → RowsHold g order i f rows → (frozen : List (Option ℕ)) (s : Scenario) (t : Times) → IsRun g order frozen s t →
+pub told_from_lines : (g : Graph) (order : List ℕ) (rows : List (List Column)) (i : ℕ) (f : ForestState) → HasTrees g f → RowsHold g order i f rows →
+    (frozen : List (Option ℕ)) (s : Scenario) (t : Times) → IsRun g order frozen s t →
     Lines g order rows s t i f → HasTold g order rows s t i f
 told_from_lines g order rows i f has hold frozen s t run lines = record {
   ends = λ q l sooner on. lines.ends q l sooner;
@@ -69,7 +70,8 @@ module _ (g : Graph) (order : List ℕ) (f : ForestState) (bare : IsBare g f) (h
     time = 0;
     is = record { ends = λ q k before. absurd (omega (arith, before)); heard = λ q c k before. absurd (omega (arith, before)); least = λ b x y. omega arith };
     tells = agrees_weaker s (ready_of g f node) [] _ (λ z. z ≡ 0) (λ z. z ≡ 0) (λ l j. absurd (Contains-nil l j)) (λ z e. e)
-        (agrees_constant s 0 g.faults (ready_of g f node) (λ z. z ≡ 0) refl (first (ready_at g f node) (All-get_or (IsReadyFirst g.faults) f.ready node (At (no_tree g.faults)) (omega (arith, l, has.ready)) bare.ready)));
+        (agrees_constant s 0 g.faults (ready_of g f node) (λ z. z ≡ 0) refl
+        (first (ready_at g f node) (All-get_or (IsReadyFirst g.faults) f.ready node (At (no_tree g.faults)) (omega (arith, l, has.ready)) bare.ready)));
   }
     where
       first : (r : Ready) → IsReadyFirst g.faults r → IsConstant 0 g.faults (ready_by g f r)

@@ -50,7 +50,8 @@ module _ (g : Graph) (order : List ℕ) (topological : IsTopological g order) (p
   done : (x : ℕ) → x < item_count g → (x < process_count g) ⊎ (is_sent g x ≡ true) → IsEarlier g order (place order p + 1) x → IsDone g order p (length (queue_of g p)) x
   done x h kind sooner = elim (cases_lt (place order (producer g x)) (place order p)) [
     | inl less ↦ inl less
-    | inr more ↦ inr (by kind (same_place order (producer g x) p (Contains-order (process_count g) order topological.all (producer g x) (producer_in_range g order topological x h)) (Contains-order (process_count g) order topological.all p l) (omega (arith, sooner, more))))
+    | inr more ↦ inr (by kind (same_place order (producer g x) p (Contains-order (process_count g) order topological.all (producer g x) (producer_in_range g order topological x h))
+        (Contains-order (process_count g) order topological.all p l) (omega (arith, sooner, more))))
   ]
     where
       by : (x < process_count g) ⊎ (is_sent g x ≡ true) → producer g x ≡ p → (x ≡ p) ⊎ Contains (take (length (queue_of g p)) (queue_of g p)) x
@@ -70,7 +71,8 @@ module _ (g : Graph) (order : List ℕ) (topological : IsTopological g order) (p
     low = sending.settled.low;
   }
 
-  module _ (rows : List (List Column)) (hold : RowsHold g order (place order p + 1) f rows) (s : Scenario) (t : Times) (run : IsRun g order frozen s t) (lines : SendLines g order rows s t p (length (queue_of g p)) f) where
+  module _ (rows : List (List Column)) (hold : RowsHold g order (place order p + 1) f rows) (s : Scenario) (t : Times) (run : IsRun g order frozen s t)
+      (lines : SendLines g order rows s t p (length (queue_of g p)) f) where
     unsent_line : (x : ℕ) → process_count g ≤ x → x < item_count g → is_sent g x ≡ false → Tells s (carried g order rows s x) (get_or t.times x None) (times_of g f x)
     unsent_line x big h is = agrees_weaker s (times_of g f x) [] (carried g order rows s x) (λ z. z ≡ None) (λ z. z ≡ get_or t.times x None) (λ y j. absurd (Contains-nil y j))
         (λ z e. e ∙ sym (time_is g order frozen s t run x h ∙ cond-false _ _ _ (unsent_idle g s.values x big (item_cases g x h) is)))
@@ -92,9 +94,11 @@ module _ (g : Graph) (order : List ℕ) (topological : IsTopological g order) (p
     free_line_here once = record {
       time = once.time;
       is = free_here g order topological frozen s t run (place order p) p l refl once.time once.is;
-      tells = agrees_weaker s (free_of g f (node_of g p)) (flat_map (queued g order rows s) (sent_so_far g order p (length (queue_of g p)))) (flat_map (queued g order rows s) (sent_before g order (place order p + 1) (node_of g p)))
+      tells = agrees_weaker s (free_of g f (node_of g p)) (flat_map (queued g order rows s) (sent_so_far g order p (length (queue_of g p))))
+          (flat_map (queued g order rows s) (sent_before g order (place order p + 1) (node_of g p)))
           (λ z. z ≡ once.time) (λ z. z ≡ once.time)
-          (λ y j. let r = Contains-flat_map_parts (queued g order rows s) (sent_so_far g order p (length (queue_of g p))) y j in Contains-flat_map (queued g order rows s) (sent_before g order (place order p + 1) (node_of g p)) r.0 y (more r.0 r.1) r.2)
+          (λ y j. let r = Contains-flat_map_parts (queued g order rows s) (sent_so_far g order p (length (queue_of g p))) y j in
+          Contains-flat_map (queued g order rows s) (sent_before g order (place order p + 1) (node_of g p)) r.0 y (more r.0 r.1) r.2)
           (λ z e. e) once.tells;
     }
       where
@@ -102,7 +106,8 @@ module _ (g : Graph) (order : List ℕ) (topological : IsTopological g order) (p
         more y j = elim (Contains-append_cases (sent_before g order (place order p) (node_of g p)) (take (length (queue_of g p)) (queue_of g p)) y j) [
           | inl i ↦ let r = Contains-flat_map_parts (queue_of g) (on_node g order (place order p) (node_of g p)) y i in
               Contains-flat_map (queue_of g) (on_node g order (place order p + 1) (node_of g p)) r.0 y (kept_on g order topological (place order p) p l refl (node_of g p) r.0 r.1) r.2
-          | inr i ↦ Contains-flat_map (queue_of g) (on_node g order (place order p + 1) (node_of g p)) p y (here_on g order topological (place order p) p l refl) (Contains-take (length (queue_of g p)) (queue_of g p) y i)
+          | inr i ↦ Contains-flat_map (queue_of g) (on_node g order (place order p + 1) (node_of g p)) p y (here_on g order topological (place order p) p l refl)
+              (Contains-take (length (queue_of g p)) (queue_of g p) y i)
         ]
 
     free_line_other : (node : ℕ) → node < length g.nodes → node ≢ node_of g p → IsQueuedFor g order (place order p) node → IsFreeLine g order rows s t (place order p + 1) node (free_of g f node)
@@ -111,7 +116,8 @@ module _ (g : Graph) (order : List ℕ) (topological : IsTopological g order) (p
         record {
           time = line.time;
           is = free_other g order topological frozen s t run (place order p) p l refl node line.time other line.is;
-          tells = agrees_weaker s (free_of g f node) (flat_map (queued g order rows s) (sent_before g order (place order p) node)) (flat_map (queued g order rows s) (sent_before g order (place order p + 1) node)) (λ z. z ≡ line.time) (λ z. z ≡ line.time)
+          tells = agrees_weaker s (free_of g f node) (flat_map (queued g order rows s) (sent_before g order (place order p) node))
+              (flat_map (queued g order rows s) (sent_before g order (place order p + 1) node)) (λ z. z ≡ line.time) (λ z. z ≡ line.time)
               (λ y j. let r = Contains-flat_map_parts (queued g order rows s) (sent_before g order (place order p) node) y j in
               let q = Contains-flat_map_parts (queue_of g) (on_node g order (place order p) node) r.0 r.1 in
               Contains-flat_map (queued g order rows s) (sent_before g order (place order p + 1) node) r.0 y
@@ -125,7 +131,8 @@ module _ (g : Graph) (order : List ℕ) (topological : IsTopological g order) (p
       ends = lines.ends;
       ready = lines.ready;
       free = λ node h q. elim (cases_eq node (node_of g p)) [
-        | inl e ↦ subst (λ n. IsFreeLine g order rows s t (place order p + 1) n (free_of g f n)) (sym e) (free_line_here (lines.here (subst (IsQueuedFor g order (place order p)) e (queued_before_it node q))))
+        | inl e ↦ subst (λ n. IsFreeLine g order rows s t (place order p + 1) n (free_of g f n)) (sym e)
+            (free_line_here (lines.here (subst (IsQueuedFor g order (place order p)) e (queued_before_it node q))))
         | inr other ↦ free_line_other node h other (queued_before_it node q)
       ];
     }

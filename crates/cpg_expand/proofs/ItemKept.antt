@@ -18,7 +18,8 @@ module _ (g : Graph) (order : List ℕ) (chooser : TreeState Bool) (x : ℕ) (ol
   pub same_ready : (node : ℕ) → ready_of g new node ≡ ready_of g old node
   same_ready node = ap (λ (f : ForestState). ready_of g f node) added.is ∙ kept (ready_at g old node)
     where
-      kept : (r : Ready) → ready_by g (record { times = set old.times x added.sent; ends = old.ends; ready = old.ready; free = set old.free (home g x) added.freed; wide = old.wide }) r ≡ ready_by g old r
+      kept : (r : Ready) → ready_by g (record { times = set old.times x added.sent; ends = old.ends; ready = old.ready; free = set old.free (home g x) added.freed; wide = old.wide }) r ≡ ready_by g
+          old r
       kept (After q) = refl
       kept (At t) = refl
 

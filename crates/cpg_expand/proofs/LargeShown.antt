@@ -28,7 +28,8 @@ handed_on P (Ok x) told same h = absurd same
 handed_on P (Err e) told same h = subst P (sym same) h
 
 -- for another cause
-pub handed_as : {T : Type 0} (A B : Type 0) (wide : Option ℕ) (result : Result T BuildFault) (told : BuildFault) → IsErrAnd result (λ e. e ≡ told) → (A → B) → ShowsLarge wide A told → IfErr result (ShowsLarge wide B)
+pub handed_as : {T : Type 0} (A B : Type 0) (wide : Option ℕ) (result : Result T BuildFault) (told : BuildFault) → IsErrAnd result (λ e. e ≡ told) → (A → B) → ShowsLarge wide A told →
+    IfErr result (ShowsLarge wide B)
 handed_as A B wide (Ok x) told same f h = absurd same
 handed_as A B wide (Err e) told same f h = subst (ShowsLarge wide B) (sym same) (shown_as A B wide told f h)
 
@@ -58,7 +59,8 @@ pub begun_wide : (g : Graph) (order : List ℕ) (guards : Guards) (p : ℕ) (old
     IsBegun g order guards p old new before after chooser → new.wide ≡ old.wide
 begun_wide g order guards p old new before after chooser begun = ap (λ (f : ForestState). f.wide) begun.is
 
-module _ (g : Graph) (urgency : List ℕ) (guards : Guards) (are : AreGuardsOf g urgency guards) (order : List ℕ) (lawful : IsOrder order) (k p : ℕ) (within : k < length order) (at : p ≡ get_or order k 0)
+module _ (g : Graph) (urgency : List ℕ) (guards : Guards) (are : AreGuardsOf g urgency guards) (order : List ℕ) (lawful : IsOrder order) (k p : ℕ) (within : k < length order)
+    (at : p ≡ get_or order k 0)
     (frozen : List (Option ℕ)) (f : ForestState) where
   stands : place order p ≡ k
   stands = ap (place order) at ∙ place_at order lawful k within

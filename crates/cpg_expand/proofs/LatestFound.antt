@@ -1,5 +1,6 @@
 -- What the code finds of latest times.
-use Rattle.std.proofs.Common.{ℕ, ◌+◌, suc, ◌<◌, ◌≤◌, ◌≡◌, ◌==◌, max, Bool, true, false, if◌then◌else◌, List, [], ◌∷◌, ◌++◌, length, take, get_or, Option, Some, None, Contains, arith, eq-eqb, refl, sym, ap, ◌∙◌, subst, inl, inr, ◌⊎◌}
+use Rattle.std.proofs.Common.{ℕ, ◌+◌, suc, ◌<◌, ◌≤◌, ◌≡◌, ◌==◌, max, Bool, true, false, if◌then◌else◌, List, [], ◌∷◌, ◌++◌, length, take, get_or, Option, Some, None, Contains, arith, eq-eqb, refl}
+use Rattle.std.proofs.Common.{sym, ap, ◌∙◌, subst, inl, inr, ◌⊎◌}
 use Rattle.std.specs.Option.{IfNone, IfSome}
 use Rattle.std.proofs.Math.Seq.{take-suc}
 use Rattle.std.proofs.lemmas.Bool.{and_from, and_parts, cases_lt, ne_eqb}
@@ -10,7 +11,7 @@ use Rattle.cpg_base.specs.Scenario.{Scenario, IsScenario}
 use Rattle.cpg_base.proofs.Lists.{Contains-cases, Contains-nil}
 use Rattle.cpg_rules.specs.Guards.{Guards}
 use Rattle.cpg_run.proofs.Sends.{in_next}
-use Rattle.cpg_paths.specs.Meeting.{HasWhere, IsMostWhere, IsNowhere}
+use Rattle.cpg_tree_columns.specs.Meeting.{HasWhere, IsMostWhere, IsNowhere}
 use Rattle.cpg_tree.specs.Space.{HasFew}
 use Rattle.cpg_tree.specs.Tree.{TreeState}
 use Rattle.cpg_tree.proofs.OnePath.{scenario_few, the_path}
@@ -24,7 +25,8 @@ use Rattle.cpg_expand.specs.Waited.{stands_before}
 
 -- ---- the greatest time of a tree where another one is true
 
-pub top_where : (g : Graph) → process_count g ≤ 128 → (t : TreeState (Option ℕ)) (u : TreeState Bool) → IsTree g t → IsTree g u → (o : Option ℕ) → IfNone o (IsNowhere t u) → IfSome o (IsMostWhere t u) → IsTop g (HasWhere t u) o
+pub top_where : (g : Graph) → process_count g ≤ 128 → (t : TreeState (Option ℕ)) (u : TreeState Bool) → IsTree g t → IsTree g u → (o : Option ℕ) → IfNone o (IsNowhere t u) →
+    IfSome o (IsMostWhere t u) → IsTop g (HasWhere t u) o
 top_where g few t u of of_u None none some = λ time s law h. none s time (subst (λ n. HasFew n s) (sym of.faults) (scenario_few g s law)) h
 top_where g few t u of of_u (Some most) none some =
     let r = some.reached g (record { few = few; faults = of.faults; known = of.known; known_too = of_u.known }) in
@@ -71,7 +73,8 @@ module _ (g : Graph) (A B : ℕ → Scenario → Type 0) where
 
 -- ---- what is there a delay after the time of a tree
 
-pub later_raised : (g : Graph) (tree : TreeState (Option ℕ)) (wanted : TreeState Bool) (latest delay : ℕ) (o : Option ℕ) → IsTop g (HasWhere tree wanted) o → IsRaised g (HasLater tree wanted delay) latest (or_later latest delay o)
+pub later_raised : (g : Graph) (tree : TreeState (Option ℕ)) (wanted : TreeState Bool) (latest delay : ℕ) (o : Option ℕ) → IsTop g (HasWhere tree wanted) o →
+    IsRaised g (HasLater tree wanted delay) latest (or_later latest delay o)
 later_raised g tree wanted latest delay None none = record { from = omega arith; above = λ n s law h. absurd (none h.time s law h.has); found = inl refl }
 later_raised g tree wanted latest delay (Some time) top = record {
   from = omega arith;
@@ -99,10 +102,12 @@ module _ (g : Graph) (f : ForestState) (node c : ℕ) (wanted : TreeState Bool) 
   heard_if : (d : Bool) → (node_of g (process_of g c) == node) ≡ d →
       IsRaised g (HasLater (if d then ends_of g f (process_of g c) else times_of g f (broadcast_item g c)) wanted (if d then 0 else slot_length g (home g (broadcast_item g c)))) old new →
       IsRaised g (HasLater (heard_tree g f node c) wanted (heard_delay g node c)) old new
-  heard_if d e is = subst (λ (b : Bool). IsRaised g (HasLater (if b then ends_of g f (process_of g c) else times_of g f (broadcast_item g c)) wanted (if b then 0 else slot_length g (home g (broadcast_item g c)))) old new) (sym e) is
+  heard_if d e is = subst (λ (b : Bool). IsRaised g
+      (HasLater (if b then ends_of g f (process_of g c) else times_of g f (broadcast_item g c)) wanted (if b then 0 else slot_length g (home g (broadcast_item g c)))) old new) (sym e) is
 
   -- on its own node by the end of its process
-  pub heard_by_end : node_of g (process_of g c) ≡ node → IsRaised g (HasLater (ends_of g f (process_of g c)) wanted 0) old new → IsRaised g (HasLater (heard_tree g f node c) wanted (heard_delay g node c)) old new
+  pub heard_by_end : node_of g (process_of g c) ≡ node → IsRaised g (HasLater (ends_of g f (process_of g c)) wanted 0) old new →
+      IsRaised g (HasLater (heard_tree g f node c) wanted (heard_delay g node c)) old new
   heard_by_end e is = heard_if true (eq-eqb (node_of g (process_of g c)) node e) is
 
   -- on others by its frame
@@ -114,9 +119,11 @@ module _ (g : Graph) (f : ForestState) (node c : ℕ) (wanted : TreeState Bool) 
 
 module _ (g : Graph) (order : List ℕ) (guards : Guards) (f : ForestState) (active : TreeState Bool) (of_active : IsTree g active) (node from to : ℕ) where
   -- the time is a condition's if one of them tests it and the process is active
-  pub heard_raised : (c : ℕ) (asked wanted : TreeState Bool) → IsTree g asked → IsTree g wanted → IsAskedTree g order guards node from to c (process_count g) asked → IsBothTree g.faults asked active wanted →
+  pub heard_raised : (c : ℕ) (asked wanted : TreeState Bool) → IsTree g asked → IsTree g wanted → IsAskedTree g order guards node from to c (process_count g) asked →
+      IsBothTree g.faults asked active wanted →
       (old new : ℕ) → IsRaised g (HasLater (heard_tree g f node c) wanted (heard_delay g node c)) old new → IsRaised g (HasHeard g order guards f active node from to c) old new
-  heard_raised c asked wanted of_asked of_wanted asks both old new r = raised_as g (HasLater (heard_tree g f node c) wanted (heard_delay g node c)) (HasHeard g order guards f active node from to c) back forth old new r
+  heard_raised c asked wanted of_asked of_wanted asks both old new r = raised_as g (HasLater (heard_tree g f node c) wanted (heard_delay g node c))
+      (HasHeard g order guards f active node from to c) back forth old new r
     where
       back : (n : ℕ) (s : Scenario) → IsScenario g s → HasHeard g order guards f active node from to c n s → HasLater (heard_tree g f node c) wanted (heard_delay g node c) n s
       back n s law h =
@@ -143,11 +150,14 @@ module _ (g : Graph) (order : List ℕ) (guards : Guards) (f : ForestState) (act
       below : (n : ℕ) (s : Scenario) → HasHeardOf g order guards f active node from to 0 n s → ⊥
       below n s h = omega (arith, h.below)
 
-  pub next_heard : (c first mid last : ℕ) → IsRaised g (HasHeardOf g order guards f active node from to c) first mid → IsRaised g (HasHeard g order guards f active node from to c) mid last → IsRaised g (HasHeardOf g order guards f active node from to (c + 1)) first last
-  next_heard c first mid last = raised_on g (HasHeardOf g order guards f active node from to c) (HasHeard g order guards f active node from to c) (HasHeardOf g order guards f active node from to (c + 1)) split
+  pub next_heard : (c first mid last : ℕ) → IsRaised g (HasHeardOf g order guards f active node from to c) first mid → IsRaised g (HasHeard g order guards f active node from to c) mid last →
+      IsRaised g (HasHeardOf g order guards f active node from to (c + 1)) first last
+  next_heard c first mid last = raised_on g (HasHeardOf g order guards f active node from to c) (HasHeard g order guards f active node from to c)
+      (HasHeardOf g order guards f active node from to (c + 1)) split
       (λ n s h. record { condition = h.condition; below = omega (arith, h.below); there = h.there }) (λ n s h. record { condition = c; below = omega arith; there = h }) first mid last
     where
-      split : (n : ℕ) (s : Scenario) → HasHeardOf g order guards f active node from to (c + 1) n s → HasHeardOf g order guards f active node from to c n s ⊎ HasHeard g order guards f active node from to c n s
+      split : (n : ℕ) (s : Scenario) → HasHeardOf g order guards f active node from to (c + 1) n s → HasHeardOf g order guards f active node from to c n s ⊎
+          HasHeard g order guards f active node from to c n s
       split n s h = elim (cases_lt h.condition c) [
         | inl less ↦ inl (record { condition = h.condition; below = less; there = h.there })
         | inr more ↦ inr (subst (λ d. HasHeard g order guards f active node from to d n s) (let e : h.condition ≡ c = omega (arith, h.below, more) in e) h.there)
@@ -169,7 +179,8 @@ module _ (g : Graph) (order : List ℕ) (f : ForestState) (active : TreeState Bo
       below : (n : ℕ) (s : Scenario) → HasEndedOf g order f active node from to 0 n s → ⊥
       below n s h = omega (arith, h.below)
 
-  pub next_ended : (q first mid last : ℕ) → IsRaised g (HasEndedOf g order f active node from to q) first mid → IsRaised g (HasEnded g order f active node from to q) mid last → IsRaised g (HasEndedOf g order f active node from to (q + 1)) first last
+  pub next_ended : (q first mid last : ℕ) → IsRaised g (HasEndedOf g order f active node from to q) first mid → IsRaised g (HasEnded g order f active node from to q) mid last →
+      IsRaised g (HasEndedOf g order f active node from to (q + 1)) first last
   next_ended q first mid last = raised_on g (HasEndedOf g order f active node from to q) (HasEnded g order f active node from to q) (HasEndedOf g order f active node from to (q + 1)) split
       (λ n s h. record { process = h.process; below = omega (arith, h.below); there = h.there }) (λ n s h. record { process = q; below = omega arith; there = h }) first mid last
     where
@@ -197,7 +208,8 @@ module _ (g : Graph) (order : List ℕ) (f : ForestState) (goes : TreeState Bool
       below : (n : ℕ) (s : Scenario) → HasQueuedOf g order f goes x 0 n s → ⊥
       below n s h = omega (arith, h.below)
 
-  pub next_queued : (y first mid last : ℕ) → IsRaised g (HasQueuedOf g order f goes x y) first mid → IsRaised g (HasQueued g order f goes x y) mid last → IsRaised g (HasQueuedOf g order f goes x (y + 1)) first last
+  pub next_queued : (y first mid last : ℕ) → IsRaised g (HasQueuedOf g order f goes x y) first mid → IsRaised g (HasQueued g order f goes x y) mid last →
+      IsRaised g (HasQueuedOf g order f goes x (y + 1)) first last
   next_queued y first mid last = raised_on g (HasQueuedOf g order f goes x y) (HasQueued g order f goes x y) (HasQueuedOf g order f goes x (y + 1)) split
       (λ n s h. record { item = h.item; below = omega (arith, h.below); there = h.there }) (λ n s h. record { item = y; below = omega arith; there = h }) first mid last
     where
@@ -218,9 +230,11 @@ module _ (g : Graph) (f : ForestState) (active : TreeState Bool) where
       apart i = cc
 
   -- one from another node raises by its frame
-  pub input_raised : (e latest last : ℕ) → is_message g e ≡ true → IsRaised g (HasLater (times_of g f (message_item g e)) active (slot_length g (home g (message_item g e)))) latest last → IsRaised g (HasInput g f active e) latest last
+  pub input_raised : (e latest last : ℕ) → is_message g e ≡ true → IsRaised g (HasLater (times_of g f (message_item g e)) active (slot_length g (home g (message_item g e)))) latest last →
+      IsRaised g (HasInput g f active e) latest last
   input_raised e latest last on is = by_tree on
-      (subst (λ (b : Bool). IsRaised g (HasLater (if b then times_of g f (message_item g e) else ends_of g f (source g e)) active (if b then slot_length g (home g (message_item g e)) else 0)) latest last) (sym on) is)
+      (subst (λ (b : Bool). IsRaised g (HasLater (if b then times_of g f (message_item g e) else ends_of g f (source g e)) active (if b then slot_length g (home g (message_item g e)) else 0)) latest
+      last) (sym on) is)
     where
       by_tree : is_message g e ≡ true → IsRaised g (HasLater (input_tree g f e) active (input_delay g e)) latest last → IsRaised g (HasInput g f active e) latest last
       by_tree m = raised_as g (HasLater (input_tree g f e) active (input_delay g e)) (HasInput g f active e)
@@ -235,7 +249,8 @@ module _ (g : Graph) (f : ForestState) (active : TreeState Bool) where
     found = inl refl;
   }
 
-  pub next_raised : (edges : List ℕ) (k e : ℕ) → k < length edges → e ≡ get_or edges k 0 → (first mid last : ℕ) → IsRaised g (HasInputOf g f active (take k edges)) first mid → IsRaised g (HasInput g f active e) mid last →
+  pub next_raised : (edges : List ℕ) (k e : ℕ) → k < length edges → e ≡ get_or edges k 0 → (first mid last : ℕ) → IsRaised g (HasInputOf g f active (take k edges)) first mid →
+      IsRaised g (HasInput g f active e) mid last →
       IsRaised g (HasInputOf g f active (take (k + 1) edges)) first last
   next_raised edges k e inside at first mid last before one = record {
     from = omega (arith, before.from, one.from);
@@ -244,7 +259,12 @@ module _ (g : Graph) (f : ForestState) (active : TreeState Bool) where
       | inr h ↦ inr (h.0, h.1, record { edge = e; of = in_next edges k e inside (inr at); there = h.2 })
       | inl same ↦ elim before.found [
         | inl e ↦ inl (same ∙ e)
-        | inr h ↦ inr (h.0, h.1, subst (λ n. HasInputOf g f active (take (k + 1) edges) n h.0) (sym same) (record { edge = h.2.edge; of = in_next edges k h.2.edge inside (inl h.2.of); there = h.2.there }))
+        | inr h ↦ inr (
+          h.0,
+          h.1,
+          subst (λ n. HasInputOf g f active (take (k + 1) edges) n h.0) (sym same)
+              (record { edge = h.2.edge; of = in_next edges k h.2.edge inside (inl h.2.of); there = h.2.there }),
+        )
       ]
     ];
   }

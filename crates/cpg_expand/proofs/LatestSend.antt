@@ -14,8 +14,8 @@ use Rattle.cpg_order.specs.Urgency.{IsTopological}
 use Rattle.cpg_run.specs.Run.{Times, IsRun, end_in, time_in, send_bounds, unfrozen_time}
 use Rattle.cpg_run.proofs.Bounded.{send_bounds_le}
 use Rattle.cpg_run.proofs.RunExists.{a_run}
-use Rattle.cpg_paths.specs.Greatest.{HasValue}
-use Rattle.cpg_paths.specs.Meeting.{HasWhere}
+use Rattle.cpg_tree_columns.specs.Greatest.{HasValue}
+use Rattle.cpg_tree_columns.specs.Meeting.{HasWhere}
 use Rattle.cpg_tree.specs.Space.{HasFew}
 use Rattle.cpg_tree.specs.Tree.{Path, TreeState, IsOn}
 use Rattle.cpg_tree.proofs.OnePath.{scenario_few, the_path}
@@ -49,11 +49,15 @@ pub record IsToldSend (g : Graph) (order : List ℕ) (f : ForestState) (goes : T
   pub early : end_in t (producer g x) < 2 ^ 59
   pub value : unfrozen_time g order s t x ≡ greatest (send_bounds g order s t x)
   -- what stands before it was sent at the time of its tree
-  pub sent : (y : ℕ) → Contains (queued_before g order x) y → item_active g s.values (item_at g y) ≡ true → (time : ℕ) × HasValue (times_of g f y).paths (Some time) s × (time_in t y + round g ≡ time_later (round g) (Some time)) × (y < item_count g) × (stands_before g order y x ≡ true)
-  pub came : (y time : ℕ) → y < item_count g → stands_before g order y x ≡ true → HasValue (times_of g f y).paths (Some time) s → time_later (round g) (Some time) ≤ greatest (send_bounds g order s t x)
+  pub sent : (y : ℕ) → Contains (queued_before g order x) y → item_active g s.values (item_at g y) ≡ true → (time : ℕ) × HasValue (times_of g f y).paths (Some time) s ×
+      (time_in t y + round g ≡ time_later (round g) (Some time)) × (y < item_count g) × (stands_before g order y x ≡ true)
+  pub came : (y time : ℕ) → y < item_count g → stands_before g order y x ≡ true → HasValue (times_of g f y).paths (Some time) s →
+      time_later (round g) (Some time) ≤ greatest (send_bounds g order s t x)
 
-module _ (g : Graph) (order : List ℕ) (frozen : List (Option ℕ)) (topological : IsTopological g order) (f : ForestState) (goes : TreeState Bool) (of_goes : IsTree g goes) (end : TreeState (Option ℕ)) (of_end : IsTree g end) (x : ℕ)
-    (told : (s : Scenario) → IsScenario g s → (t : Times) → IsRun g order frozen s t → IsToldSend g order f goes end x s t) (latest : Option ℕ) (top : IsLatestSend g order f (share_of g (home g x)) goes end x latest) where
+module _ (g : Graph) (order : List ℕ) (frozen : List (Option ℕ)) (topological : IsTopological g order) (f : ForestState) (goes : TreeState Bool) (of_goes : IsTree g goes) (end : TreeState (Option ℕ))
+    (of_end : IsTree g end) (x : ℕ)
+    (told : (s : Scenario) → IsScenario g s → (t : Times) → IsRun g order frozen s t → IsToldSend g order f goes end x s t) (latest : Option ℕ)
+    (top : IsLatestSend g order f (share_of g (home g x)) goes end x latest) where
   -- ---- in one scenario
 
   module _ (s : Scenario) (law : IsScenario g s) (t : Times) (run : IsRun g order frozen s t) where
@@ -105,7 +109,12 @@ module _ (g : Graph) (order : List ℕ) (frozen : List (Option ℕ)) (topologica
         (omega (arith, next_slot_later g (home g x) (end_in t (producer g x)) r.last (r.ends.above (end_in t (producer g x)) s law (end_there s law t run on)), slot_is, r.raised.from))
         (λ y c a.
         let k = (here s law t run).sent y c a in
-        omega (arith, k.2, r.raised.above (time_later (round g) (Some k.0)) s law (record { item = y; below = k.3; there = record { before = k.4; there = record { time = k.0; has = record { has = k.1; there = goes_there s law t run on }; is = refl } } })))
+        omega (
+          arith,
+          k.2,
+          r.raised.above (time_later (round g) (Some k.0)) s law
+              (record { item = y; below = k.3; there = record { before = k.4; there = record { time = k.0; has = record { has = k.1; there = goes_there s law t run on }; is = refl } } }),
+        ))
 
     abbrev Reached : Type 0
     Reached = (s : Scenario) × IsScenario g s × (item_active g s.values (item_at g x) ≡ true) × ((t : Times) → IsRun g order frozen s t → m ≤ unfrozen_time g order s t x)
@@ -121,7 +130,8 @@ module _ (g : Graph) (order : List ℕ) (frozen : List (Option ℕ)) (topologica
         r.ends.lawful,
         acts_there r.ends.scenario r.ends.lawful r.ends.there.there,
         λ t run. by_bounds r.ends.scenario r.ends.lawful t run m
-            (by_slot m (slot_at (share_of g (home g x)) (Some r.last)) (next_slot g (home g x) r.last) (next_slot g (home g x) (end_in t (producer g x))) (greatest (send_bounds g order r.ends.scenario t x))
+            (by_slot m (slot_at (share_of g (home g x)) (Some r.last)) (next_slot g (home g x) r.last) (next_slot g (home g x) (end_in t (producer g x)))
+            (greatest (send_bounds g order r.ends.scenario t x))
             same slot_is (ap (next_slot g (home g x)) (end_is r.ends.scenario r.ends.lawful t run r.last r.ends.there)) (slot_in r.ends.scenario r.ends.lawful t run)),
       )
     ]
@@ -129,12 +139,14 @@ module _ (g : Graph) (order : List ℕ) (frozen : List (Option ℕ)) (topologica
         by_slot : (m a b c all : ℕ) → m ≡ a → a ≡ b → b ≡ c → c ≤ all → m ≤ all
         by_slot m a b c all e f i h = omega (arith, e, f, i, h)
 
-  pub send_above : (s : Scenario) → IsScenario g s → (t : Times) → IsRun g order frozen s t → item_active g s.values (item_at g x) ≡ true → (m : ℕ) × (latest ≡ Some m) × (unfrozen_time g order s t x ≤ m)
+  pub send_above : (s : Scenario) → IsScenario g s → (t : Times) → IsRun g order frozen s t → item_active g s.values (item_at g x) ≡ true → (m : ℕ) × (latest ≡ Some m) ×
+      (unfrozen_time g order s t x ≤ m)
   send_above s law t run on = by latest refl top
     where
       by : (o : Option ℕ) → latest ≡ o → IsLatestSend g order f (share_of g (home g x)) goes end x o → (m : ℕ) × (latest ≡ Some m) × (unfrozen_time g order s t x ≤ m)
       by None e none = absurd (none (end_in t (producer g x)) s law (end_there s law t run on))
       by (Some m) e r = (m, e, omega (arith, (here s law t run).value, slot_above m r s law t run on))
 
-  pub send_reached : (m : ℕ) → latest ≡ Some m → (s : Scenario) × IsScenario g s × (item_active g s.values (item_at g x) ≡ true) × ((t : Times) → IsRun g order frozen s t → m ≤ unfrozen_time g order s t x)
+  pub send_reached : (m : ℕ) → latest ≡ Some m → (s : Scenario) × IsScenario g s × (item_active g s.values (item_at g x) ≡ true) ×
+      ((t : Times) → IsRun g order frozen s t → m ≤ unfrozen_time g order s t x)
   send_reached m e = slot_reached m (subst (IsLatestSend g order f (share_of g (home g x)) goes end x) e top)

@@ -12,8 +12,8 @@ use Rattle.cpg_rules.specs.Guards.{Guards}
 use Rattle.cpg_run.proofs.Bounded.{start_bounds_le}
 use Rattle.cpg_run.proofs.RunExists.{a_run}
 use Rattle.cpg_run.specs.Run.{Times, IsRun, end_in, heard_there, input_there, input_bounds, start_bounds, unfrozen_time}
-use Rattle.cpg_paths.specs.Greatest.{HasValue}
-use Rattle.cpg_paths.specs.Meeting.{HasWhere}
+use Rattle.cpg_tree_columns.specs.Greatest.{HasValue}
+use Rattle.cpg_tree_columns.specs.Meeting.{HasWhere}
 use Rattle.cpg_tree.specs.Tree.{Path, TreeState, IsOn}
 use Rattle.cpg_tree.proofs.OnePath.{scenario_few, the_path}
 use Rattle.cpg_expand.specs.Agreeing.{IsTree}
@@ -49,11 +49,13 @@ pub record IsToldStart (g : Graph) (order : List ℕ) (guards : Guards) (f : For
   pub ends : (q : ℕ) → Contains (before_on_node g order p) q → active g s.values q ≡ true → HasEndAt g order f from p s (end_in t q)
   pub ended : (q time : ℕ) → IsBetween g order (node_of g p) from (place order p) q → HasValue (ends_of g f q).paths (Some time) s → time_later 0 (Some time) ≤ greatest (start_bounds g order s t p)
   -- the node has heard what decides them once one from the place on has ended, or at the time of its tree
-  pub hears : (c : ℕ) → Contains (flat_map (deciding g s.values) (before_on_node g order p ++ p ∷ [])) c → HasEndAt g order f from p s (heard_there g t (node_of g p) c) ⊎ IsHeardAt g order guards f from p s t c
+  pub hears : (c : ℕ) → Contains (flat_map (deciding g s.values) (before_on_node g order p ++ p ∷ [])) c → HasEndAt g order f from p s (heard_there g t (node_of g p) c) ⊎
+      IsHeardAt g order guards f from p s t c
   pub heard : (c time : ℕ) → IsAskedOf g order guards (node_of g p) from (place order p + 1) c (process_count g) s.values → HasValue (heard_tree g f (node_of g p) c).paths (Some time) s →
       time_later (heard_delay g (node_of g p) c) (Some time) ≤ greatest (start_bounds g order s t p)
   -- the inputs from other nodes have their times exactly if they are live
-  pub comes : (e : ℕ) → Contains (inputs g p) e → is_message g e ≡ true → live g s.values e ≡ true → (time : ℕ) × (get_or t.times (message_item g e) None ≡ Some time) × (input_there g t e ≡ time_later (input_delay g e) (Some time))
+  pub comes : (e : ℕ) → Contains (inputs g p) e → is_message g e ≡ true → live g s.values e ≡ true → (time : ℕ) × (get_or t.times (message_item g e) None ≡ Some time) ×
+      (input_there g t e ≡ time_later (input_delay g e) (Some time))
   pub lives : (e time : ℕ) → Contains (inputs g p) e → is_message g e ≡ true → get_or t.times (message_item g e) None ≡ Some time → live g s.values e ≡ true
   pub tells : (e : ℕ) → Contains (inputs g p) e → is_message g e ≡ true → (x : Path (Option ℕ)) × IsOn (input_tree g f e).paths s x × (x.1 ≡ get_or t.times (message_item g e) None)
   pub told : (e : ℕ) → Contains (inputs g p) e → is_message g e ≡ true → (x : Path (Option ℕ)) → IsOn (input_tree g f e).paths s x → x.1 ≡ get_or t.times (message_item g e) None
@@ -96,7 +98,13 @@ module _ (g : Graph) (order : List ℕ) (guards : Guards) (frozen : List (Option
       end_under n h = omega (
         arith,
         h.late,
-        r.ends.above (time_later 0 (Some h.time)) s law (record { process = h.process; below = h.between.within; there = record { between = h.between; there = record { time = h.time; has = record { has = h.has; there = acts_there on }; is = refl } } }),
+        r.ends.above (time_later 0 (Some h.time)) s law
+            (record {
+              process = h.process;
+              below = h.between.within;
+              there =
+                  record { between = h.between; there = record { time = h.time; has = record { has = h.has; there = acts_there on }; is = refl } };
+            }),
         r.hears.from,
         r.raised.from,
       )
@@ -106,7 +114,8 @@ module _ (g : Graph) (order : List ℕ) (guards : Guards) (frozen : List (Option
       heard_under c (inr h) = omega (
         arith,
         h.is,
-        r.hears.above (time_later (heard_delay g (node_of g p) c) (Some h.time)) s law (record { condition = c; below = h.below; there = record { asked = h.asked; acts = acts_there on; time = h.time; has = h.has; is = refl } }),
+        r.hears.above (time_later (heard_delay g (node_of g p) c) (Some h.time)) s law
+            (record { condition = c; below = h.below; there = record { asked = h.asked; acts = acts_there on; time = h.time; has = h.has; is = refl } }),
         r.raised.from,
       )
 
@@ -114,11 +123,17 @@ module _ (g : Graph) (order : List ℕ) (guards : Guards) (frozen : List (Option
       input_under e c lives true is =
           let k = here.comes e c is lives in
           let x = here.tells e c is in
-          omega (arith, k.2, r.raised.above (time_later (input_delay g e) (Some k.0)) s law (record { edge = e; of = c; there = record { message = is; time = k.0; has = record { has = (x.0, x.1, x.2 ∙ k.1); there = acts_there on }; is = refl } }))
+          omega (
+            arith,
+            k.2,
+            r.raised.above (time_later (input_delay g e) (Some k.0)) s law
+                (record { edge = e; of = c; there = record { message = is; time = k.0; has = record { has = (x.0, x.1, x.2 ∙ k.1); there = acts_there on }; is = refl } }),
+          )
       input_under e c lives false is = end_under (input_there g t e) (here.own e c is lives)
 
       all_under : bounds ≤ m
-      all_under = start_bounds_le g order s t p m release_under (λ e c lives. input_under e c lives (is_message g e) refl) (λ q c a. end_under (end_in t q) (here.ends q c a)) (λ c k. heard_under c (here.hears c k))
+      all_under = start_bounds_le g order s t p m release_under (λ e c lives. input_under e c lives (is_message g e) refl) (λ q c a. end_under (end_in t q) (here.ends q c a))
+          (λ c k. heard_under c (here.hears c k))
 
     -- what some scenario has is no later than the start there
     ended_below : (m : ℕ) → HasEndedOf g order f chooser (node_of g p) from (place order p) (process_count g) m s → m ≤ bounds
@@ -135,8 +150,10 @@ module _ (g : Graph) (order : List ℕ) (guards : Guards) (frozen : List (Option
         let lives = here.lives e i.time h.of i.message is in
         let r = here.comes e h.of i.message lives in
         let same = some_same r.0 i.time (sym r.1 ∙ is) in
-        let bound = greatest_above (input_bounds g s t p) (input_there g t e) (Contains-map (input_there g t) (filter (live g s.values) (inputs g p)) e (Contains-filter (live g s.values) (inputs g p) e lives h.of)) in
-        under m (input_there g t e) (time_later (input_delay g e) (Some r.0)) (time_later (input_delay g e) (Some i.time)) (greatest (input_bounds g s t p)) bounds i.is r.2 (ap (λ n. time_later (input_delay g e) (Some n)) same) bound (inputs_in g order topological s t p)
+        let bound = greatest_above (input_bounds g s t p) (input_there g t e)
+        (Contains-map (input_there g t) (filter (live g s.values) (inputs g p)) e (Contains-filter (live g s.values) (inputs g p) e lives h.of)) in
+        under m (input_there g t e) (time_later (input_delay g e) (Some r.0)) (time_later (input_delay g e) (Some i.time)) (greatest (input_bounds g s t p)) bounds i.is r.2
+        (ap (λ n. time_later (input_delay g e) (Some n)) same) bound (inputs_in g order topological s t p)
       where
         under : (m there a b last all : ℕ) → m ≡ b → there ≡ a → a ≡ b → there ≤ last → last ≤ all → m ≤ all
         under m there a b last all e i j k v = omega (arith, e, i, j, k, v)
@@ -149,7 +166,8 @@ module _ (g : Graph) (order : List ℕ) (guards : Guards) (frozen : List (Option
   pub latest_above : (s : Scenario) → IsScenario g s → (t : Times) → IsRun g order frozen s t → active g s.values p ≡ true → (m : ℕ) × (latest ≡ Some m) × (unfrozen_time g order s t p ≤ m)
   latest_above s law t run on = by latest refl top.is
     where
-      by : (o : Option ℕ) → latest ≡ o → IsLatestOf g order guards f (node_of g p) from (place order p) top.ready (inputs g p) chooser o → (m : ℕ) × (latest ≡ Some m) × (unfrozen_time g order s t p ≤ m)
+      by : (o : Option ℕ) → latest ≡ o → IsLatestOf g order guards f (node_of g p) from (place order p) top.ready (inputs g p) chooser o → (m : ℕ) × (latest ≡ Some m) ×
+          (unfrozen_time g order s t p ≤ m)
       by None e none = absurd (none (process_at g p).release s law (ready_there s law t run on))
       by (Some m) e r = (m, e, omega (arith, (here s law t run).value, all_under s law t run m r on))
 
@@ -164,7 +182,8 @@ module _ (g : Graph) (order : List ℕ) (guards : Guards) (frozen : List (Option
           (s : Scenario) × IsScenario g s × (active g s.values p ≡ true) × ((t : Times) → IsRun g order frozen s t → m ≤ unfrozen_time g order s t p)
       found m n s law on same below = (s, law, active_there s law on, λ t run. by_bounds s law t run m (omega (arith, same, below t run)))
 
-      by : IsLatestAt g order guards f (node_of g p) from (place order p) top.ready (inputs g p) chooser m → (s : Scenario) × IsScenario g s × (active g s.values p ≡ true) × ((t : Times) → IsRun g order frozen s t → m ≤ unfrozen_time g order s t p)
+      by : IsLatestAt g order guards f (node_of g p) from (place order p) top.ready (inputs g p) chooser m → (s : Scenario) × IsScenario g s × (active g s.values p ≡ true) ×
+          ((t : Times) → IsRun g order frozen s t → m ≤ unfrozen_time g order s t p)
       by r = elim r.raised.found [
         | inr h ↦ found m m h.0 h.1 h.2.there.has.there refl (λ t run. input_below h.0 h.1 t run m h.2)
         | inl as_heard ↦ elim r.hears.found [

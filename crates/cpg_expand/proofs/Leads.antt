@@ -1,5 +1,6 @@
 -- The leaves of a guard are activations of its process, so they lead to inputs of the graph.
-use Rattle.std.proofs.Common.{ℕ, ◌+◌, ◌<◌, ◌≡◌, Bool, true, false, if◌then◌else◌, List, [], ◌∷◌, length, filter, get_or, set, Contains, arith, refl, sym, ap, ◌∙◌, subst, get_or-set_same, get_or-set_other}
+use Rattle.std.proofs.Common.{ℕ, ◌+◌, ◌<◌, ◌≡◌, Bool, true, false, if◌then◌else◌, List, [], ◌∷◌, length, filter, get_or, set, Contains, arith, refl, sym, ap, ◌∙◌, subst, get_or-set_same}
+use Rattle.std.proofs.Common.{get_or-set_other}
 use Rattle.std.specs.List.{list_all}
 use Rattle.std.proofs.lemmas.List.{length-set, length-replicate}
 use Rattle.std.specs.Prelude.{replicate}
@@ -56,7 +57,8 @@ module _ (g : Graph) (order : List ℕ) (n : ℕ) where
       here b other same = same c (omega arith) ∙ get_or-set_same o c b false (omega (arith, ordered.0, long))
 
       earlier : (b : Bool) (other : List Bool) → SameBefore (place order (process_of g c) + 1) (set o c b) other → SameBefore k o other
-      earlier b other same d l = same d (omega (arith, l, ordered.1)) ∙ get_or-set_other o c d b false (λ e. absurd (let at = ap (λ q. place order (process_of g q)) e in omega (arith, l, ordered.1, at)))
+      earlier b other same d l = same d (omega (arith, l, ordered.1)) ∙ get_or-set_other o c d b false
+          (λ e. absurd (let at = ap (λ q. place order (process_of g q)) e in omega (arith, l, ordered.1, at)))
 
 pub leads_below : (g : Graph) (order : List ℕ) → IsTopological g order → (p : ℕ) → p < process_count g → (guard : Guard) → IsGuardOf g order p guard → LeadsBelow (edge_count g) guard
 leads_below g order topological p l guard is = leads_from g order (edge_count g) 0 guard is.ordered (replicate (condition_count g) false) (length-replicate {A = Bool} (condition_count g) false)

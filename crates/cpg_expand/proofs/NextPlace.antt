@@ -1,5 +1,6 @@
 -- What a node carries on, when it is ready and which frozen times are settled at the next place.
-use Rattle.std.proofs.Common.{ℕ, ◌+◌, ◌<◌, ◌≤◌, ◌≡◌, ◌≢◌, ◌==◌, max, Bool, true, false, if◌then◌else◌, List, ◌++◌, length, filter, take, get_or, flat_map, Option, None, Contains, ◌⊎◌, arith, eq-eqb, refl, sym, ap, ◌∙◌, subst, inl, inr}
+use Rattle.std.proofs.Common.{ℕ, ◌+◌, ◌<◌, ◌≤◌, ◌≡◌, ◌≢◌, ◌==◌, max, Bool, true, false, if◌then◌else◌, List, ◌++◌, length, filter, take, get_or, flat_map, Option, None, Contains, ◌⊎◌, arith, eq-eqb}
+use Rattle.std.proofs.Common.{refl, sym, ap, ◌∙◌, subst, inl, inr}
 use Rattle.std.proofs.lemmas.Bool.{cases_eq}
 use Rattle.std.proofs.lemmas.List.Elements.{Contains-append_cases}
 use Rattle.cpg_base.specs.Graph.{Graph, process_count, condition_count, item_count, node_of, is_frozen}
@@ -67,11 +68,13 @@ module _ (g : Graph) (order : List ℕ) (topological : IsTopological g order) (i
       -- the node of the process, by when it was ready before and when it has heard what decides the process
       pub ready_next : (r h : ℕ) → IsReady g order s t i (node_of g p) r → IsMost (λ c. (c < condition_count g) × (decides g s.values p c ≡ true)) (heard_there g t (node_of g p)) h →
           (active g s.values p ≡ true → max r h ≤ end_in t p) → (tree : TreeState ℕ) →
-          Tells s (flat_map (passed g rows s) (before_on_node g order p) ++ passed g rows s p) (if active g s.values p then end_in t p else max r h) tree → IsReadyLine g order rows s t (i + 1) (node_of g p) tree
+          Tells s (flat_map (passed g rows s) (before_on_node g order p) ++ passed g rows s p) (if active g s.values p then end_in t p else max r h) tree →
+          IsReadyLine g order rows s t (i + 1) (node_of g p) tree
       ready_next r h ready heard ended tree tells = record {
         time = v;
         is = by (active g s.values p) refl;
-        tells = agrees_weaker s tree (flat_map (passed g rows s) (before_on_node g order p) ++ passed g rows s p) (flat_map (passed g rows s) (on_node g order (i + 1) (node_of g p))) (λ z. z ≡ v) (λ z. z ≡ v) then_on (λ z e. e) tells;
+        tells = agrees_weaker s tree (flat_map (passed g rows s) (before_on_node g order p) ++ passed g rows s p) (flat_map (passed g rows s) (on_node g order (i + 1) (node_of g p))) (λ z. z ≡ v)
+            (λ z. z ≡ v) then_on (λ z e. e) tells;
       }
         where
           v : ℕ
@@ -88,13 +91,15 @@ module _ (g : Graph) (order : List ℕ) (topological : IsTopological g order) (i
         time = line.time;
         is = ready_other g order topological frozen s t run i p l at node line.time other line.is;
         tells = agrees_weaker s tree (flat_map (passed g rows s) (on_node g order i node)) (flat_map (passed g rows s) (on_node g order (i + 1) node)) (λ z. z ≡ line.time) (λ z. z ≡ line.time)
-            (λ x j. let r = Contains-flat_map_parts (passed g rows s) (on_node g order i node) x j in Contains-flat_map (passed g rows s) (on_node g order (i + 1) node) r.0 x (kept_on node r.0 r.1) r.2)
+            (λ x j. let r = Contains-flat_map_parts (passed g rows s) (on_node g order i node) x j in
+            Contains-flat_map (passed g rows s) (on_node g order (i + 1) node) r.0 x (kept_on node r.0 r.1) r.2)
             (λ z e. e) line.tells;
       }
 
 -- ---- frozen times
 
-module _ (g : Graph) (order : List ℕ) (topological : IsTopological g order) (within : IsWithinLimits g) (Done More : ℕ → Type 0) (frozen : List (Option ℕ)) (settled : AreSettledOf g order Done frozen) (x : ℕ) (l : x < item_count g)
+module _ (g : Graph) (order : List ℕ) (topological : IsTopological g order) (within : IsWithinLimits g) (Done More : ℕ → Type 0) (frozen : List (Option ℕ))
+    (settled : AreSettledOf g order Done frozen) (x : ℕ) (l : x < item_count g)
     (later : (y : ℕ) → y < item_count g → Done y → moment g order y < moment g order x) (grows : (y : ℕ) → Done y → More y) (one : More x) (only : (y : ℕ) → More y → Done y ⊎ (y ≡ x)) where
   -- no frozen time is to be set
   pub settled_idle : is_frozen g x ≡ false → AreSettledOf g order More frozen
@@ -112,7 +117,8 @@ module _ (g : Graph) (order : List ℕ) (topological : IsTopological g order) (w
   not_done done = omega (arith, later x l done)
 
   -- the frozen time of the item is set
-  pub settled_more : is_frozen g x ≡ true → (more : List (Option ℕ)) → IsUnfrozenTime g order frozen x (get_or more x None) → ((y : ℕ) → y ≢ x → get_or more y None ≡ get_or frozen y None) → length more ≡ length frozen → AreSettledOf g order More more
+  pub settled_more : is_frozen g x ≡ true → (more : List (Option ℕ)) → IsUnfrozenTime g order frozen x (get_or more x None) → ((y : ℕ) → y ≢ x → get_or more y None ≡ get_or frozen y None) →
+      length more ≡ length frozen → AreSettledOf g order More more
   settled_more is_one more is same count = record {
     count = count ∙ settled.count;
     each = λ y h f done. elim (cases_eq y x) [

@@ -1,5 +1,6 @@
 -- A peak of the first n processes, with one process more.
-use Rattle.std.proofs.Common.{ℕ, ◌+◌, ◌≤◌, ◌<◌, ◌≡◌, ◌==◌, ◌⊎◌, Bool, true, false, nat_lt, if◌then◌else◌, List, Option, Some, None, All, arith, eq-eqb, refl, sym, ap, ◌∙◌, subst, inl, inr, le-leb, lt-ltb}
+use Rattle.std.proofs.Common.{ℕ, ◌+◌, ◌≤◌, ◌<◌, ◌≡◌, ◌==◌, ◌⊎◌, Bool, true, false, nat_lt, if◌then◌else◌, List, Option, Some, None, All, arith, eq-eqb, refl, sym, ap, ◌∙◌, subst, inl, inr, le-leb}
+use Rattle.std.proofs.Common.{lt-ltb}
 use Rattle.std.specs.Prelude.{nat_le}
 use Rattle.std.proofs.lemmas.Bool.{cases_Bool, cases_lt, cases_eq, cond-true, cond-false, both_ways, false≢true, leb-true, ne_eqb, ltb-true}
 use Rattle.std.proofs.lemmas.List.Elements.{All-contains}
@@ -8,7 +9,7 @@ use Rattle.cpg_base.specs.Graph.{Graph, process_count}
 use Rattle.cpg_base.specs.Duration.{due}
 use Rattle.cpg_base.specs.Scenario.{zero_scenario, is_before, Scenario, IsScenario}
 use Rattle.cpg_base.proofs.ScenarioOrder.{before_one_way, not_before_transitive}
-use Rattle.cpg_paths.specs.Greatest.{HasValue, IsGreatestOf}
+use Rattle.cpg_tree_columns.specs.Greatest.{HasValue, IsGreatestOf}
 use Rattle.cpg_tree.specs.Tree.{Path, TreeState, IsOn}
 use Rattle.cpg_expand.specs.Agreeing.{IsTree}
 use Rattle.cpg_expand.specs.Tops.{IsTop, HasFrom, reaches}
@@ -23,7 +24,8 @@ pub no_peak : (g : Graph) (urgency : List ℕ) (has : ℕ → ℕ → Scenario �
 no_peak g urgency has peak is = subst (IsPeak g urgency 0 has) (sym is) (record { time = refl; scenario = refl; none = λ q time s l law h. absurd (omega arith) })
 
 -- if all have been gone through
-pub all_processes : (g : Graph) (urgency : List ℕ) (has : ℕ → ℕ → Scenario → Type 0) (n : ℕ) (peak : Peak) → n ≡ process_count g → IsPeak g urgency n has peak → IsPeak g urgency (process_count g) has peak
+pub all_processes : (g : Graph) (urgency : List ℕ) (has : ℕ → ℕ → Scenario → Type 0) (n : ℕ) (peak : Peak) → n ≡ process_count g → IsPeak g urgency n has peak →
+    IsPeak g urgency (process_count g) has peak
 all_processes g urgency has n peak e a = subst (λ i. IsPeak g urgency i has peak) e a
 
 -- what goes before a time in a scenario, and what doesn't
@@ -56,7 +58,8 @@ module _ (g : Graph) (urgency : List ℕ) (n : ℕ) (has : ℕ → ℕ → Scena
   -- ---- the peak stays
 
   stays : (peak : Peak) (o : Option ℕ) → IsPeakBy g urgency n has peak o → (o ≡ None → (time : ℕ) (s : Scenario) → IsScenario g s → has n time s → ⊥) →
-      ((p : ℕ) → o ≡ Some p → (time : ℕ) (s : Scenario) → IsScenario g s → has n time s → (time ≤ peak.time) × (time ≡ peak.time → is_before g urgency s peak.scenario ≡ false)) → IsPeakBy g urgency (n + 1) has peak o
+      ((p : ℕ) → o ≡ Some p → (time : ℕ) (s : Scenario) → IsScenario g s → has n time s → (time ≤ peak.time) × (time ≡ peak.time → is_before g urgency s peak.scenario ≡ false)) →
+      IsPeakBy g urgency (n + 1) has peak o
   stays peak None a none some = record {
     time = a.time;
     scenario = a.scenario;
@@ -77,7 +80,8 @@ module _ (g : Graph) (urgency : List ℕ) (n : ℕ) (has : ℕ → ℕ → Scena
   pub next_none : (peak : Peak) → IsPeak g urgency n has peak → ((time : ℕ) (s : Scenario) → IsScenario g s → has n time s → ⊥) → IsPeak g urgency (n + 1) has peak
   next_none peak a none = stays peak peak.process a (λ e. none) (λ p e time s law h. absurd (none time s law h))
 
-  module _ (paths : List (Path (Option ℕ))) (into : (time : ℕ) (s : Scenario) → IsScenario g s → has n time s → HasValue paths (Some time) s) (there : (time : ℕ) (s : Scenario) → IsGreatestOf g urgency paths time s → has n time s) where
+  module _ (paths : List (Path (Option ℕ))) (into : (time : ℕ) (s : Scenario) → IsScenario g s → has n time s → HasValue paths (Some time) s)
+      (there : (time : ℕ) (s : Scenario) → IsGreatestOf g urgency paths time s → has n time s) where
     -- ---- the next process has no time
 
     none_of_paths : All (λ (p : Path (Option ℕ)). p.1 ≡ None) paths → (time : ℕ) (s : Scenario) → IsScenario g s → has n time s → ⊥
@@ -98,7 +102,8 @@ module _ (g : Graph) (urgency : List ℕ) (n : ℕ) (has : ℕ → ℕ → Scena
       here : has n time scenario
       here = there time scenario greatest
 
-      comes : ((q other : ℕ) (s : Scenario) → q < n → IsScenario g s → has q other s → other ≤ time) → ((q : ℕ) (s : Scenario) → q < n → IsScenario g s → has q time s → is_before g urgency s scenario ≡ false) → ((q : ℕ) → q < n → has q time scenario → ⊥) → IsPeakOf g urgency (n + 1) has new n
+      comes : ((q other : ℕ) (s : Scenario) → q < n → IsScenario g s → has q other s → other ≤ time) →
+          ((q : ℕ) (s : Scenario) → q < n → IsScenario g s → has q time s → is_before g urgency s scenario ≡ false) → ((q : ℕ) → q < n → has q time scenario → ⊥) → IsPeakOf g urgency (n + 1) has new n
       comes most least first = record {
         most = λ q other s l law h. elim (of_next q other s l h) [ inl m ↦ most q other s m law h | inr k ↦ at_most other s law k ];
         least = record {
@@ -123,7 +128,8 @@ module _ (g : Graph) (urgency : List ℕ) (n : ℕ) (has : ℕ → ℕ → Scena
             (λ q l h. absurd (omega (arith, less, a.most q time scenario l greatest.least.lawful h)))
         | inr same ↦ comes
             (λ q other s l law h. omega (arith, same.0, a.most q other s l law h))
-            (λ q s l law h. not_before_transitive g urgency scenario peak.scenario s (before_one_way g urgency scenario peak.scenario same.1) (a.least.least s law (q, l, subst (λ i. has q i s) (sym same.0) h)))
+            (λ q s l law h. not_before_transitive g urgency scenario peak.scenario s (before_one_way g urgency scenario peak.scenario same.1)
+            (a.least.least s law (q, l, subst (λ i. has q i s) (sym same.0) h)))
             (λ q l h. both_ways (is_before g urgency scenario peak.scenario) (a.least.least scenario greatest.least.lawful (q, l, subst (λ i. has q i scenario) (sym same.0) h)) same.1)
       ]
 
@@ -161,7 +167,8 @@ module _ (g : Graph) (urgency : List ℕ) (n : ℕ) (has : ℕ → ℕ → Scena
   pub next_under : reaches bar top ≡ false → (peak : Peak) → IsPeak g urgency n (HasFrom bar has) peak → IsPeak g urgency (n + 1) (HasFrom bar has) peak
   next_under f peak a = next_none g urgency n (HasFrom bar has) peak a (none_from top is_top f)
 
-  module _ (reached : reaches bar top ≡ true) (paths : List (Path (Option ℕ))) (into : (time : ℕ) (s : Scenario) → IsScenario g s → has n time s → HasValue paths (Some time) s) (from : (time : ℕ) (s : Scenario) → IsScenario g s → HasValue paths (Some time) s → has n time s) where
+  module _ (reached : reaches bar top ≡ true) (paths : List (Path (Option ℕ))) (into : (time : ℕ) (s : Scenario) → IsScenario g s → has n time s → HasValue paths (Some time) s)
+      (from : (time : ℕ) (s : Scenario) → IsScenario g s → HasValue paths (Some time) s → has n time s) where
     -- the greatest time of one that reaches the bar isn't under it
     not_under : (o : Option ℕ) → IsTop g (has n) o → reaches bar o ≡ true → (time : ℕ) (s : Scenario) → IsGreatestOf g urgency paths time s → bar ≤ time
     not_under None is t time s greatest = absurd (false≢true t)
@@ -184,7 +191,8 @@ past_end (Some end) due x e = (end, refl)
 
 module _ (g : Graph) (urgency : List ℕ) (trees : List (TreeState (Option ℕ))) (n : ℕ) (end : TreeState (Option ℕ)) (same : end ≡ tree_at g trees n) (old next : Peak) where
   module _ (bar : ℕ) (top : Option ℕ) (reached : reaches bar top ≡ true) where
-    pub next_end : IsTop g (EndsAt g trees n) top → IsPeak g urgency n (HasFrom bar (EndsAt g trees)) old → IsNextPeak g urgency end.paths n old next → IsPeak g urgency (n + 1) (HasFrom bar (EndsAt g trees)) next
+    pub next_end : IsTop g (EndsAt g trees n) top → IsPeak g urgency n (HasFrom bar (EndsAt g trees)) old → IsNextPeak g urgency end.paths n old next →
+        IsPeak g urgency (n + 1) (HasFrom bar (EndsAt g trees)) next
     next_end is_top a is = next_from g urgency n (EndsAt g trees) bar top is_top reached end.paths
         (λ time s law h. subst (λ (t : TreeState (Option ℕ)). HasValue t.paths (Some time) s) (sym same) h)
         (λ time s law h. subst (λ (t : TreeState (Option ℕ)). HasValue t.paths (Some time) s) same h)

@@ -1,5 +1,6 @@
 -- The peak of times that aren't under the greatest of the tops is the peak of all.
-use Rattle.std.proofs.Common.{ℕ, ◌+◌, ◌-◌, ◌<◌, ◌≤◌, ◌≡◌, ◌⊎◌, nat_lt, List, [], ◌∷◌, ◌++◌, map, length, get_or, Option, Some, None, unwrap_or, All, Contains, arith, sym, ap, ◌∙◌, subst, inl, inr, lt-ltb, le-ltb}
+use Rattle.std.proofs.Common.{ℕ, ◌+◌, ◌-◌, ◌<◌, ◌≤◌, ◌≡◌, ◌⊎◌, nat_lt, List, [], ◌∷◌, ◌++◌, map, length, get_or, Option, Some, None, unwrap_or, All, Contains, arith, sym, ap, ◌∙◌, subst, inl, inr}
+use Rattle.std.proofs.Common.{lt-ltb, le-ltb}
 use Rattle.std.specs.Option.{IfNone, IfSome}
 use Rattle.std.proofs.lemmas.Bool.{cases_lt, cond-true, cond-false}
 use Rattle.std.proofs.lemmas.List.{get_or_append_left, get_or-append_right, get_or_default, length-append, length-map}
@@ -11,7 +12,7 @@ use Rattle.cpg_base.specs.Duration.{due}
 use Rattle.cpg_base.specs.Numbers.{numbers_below}
 use Rattle.cpg_base.proofs.Lists.{Contains-map_parts, get_or-map-below, greatest_cases}
 use Rattle.cpg_base.specs.Scenario.{Scenario, IsScenario}
-use Rattle.cpg_paths.specs.Greatest.{IsMost}
+use Rattle.cpg_tree_columns.specs.Greatest.{IsMost}
 use Rattle.cpg_tree.specs.Tree.{Path, TreeState}
 use Rattle.cpg_tree.proofs.Passing.{known_from}
 use Rattle.cpg_expand.specs.Agreeing.{IsTree}
@@ -73,7 +74,8 @@ pub top_from : (t : TreeState (Option ℕ)) (o : Option ℕ) → IfNone o (All (
 top_from t None none some = none
 top_from t (Some m) none some = some
 
-module _ (g : Graph) (processes : process_count g ≤ 128) (trees : List (TreeState (Option ℕ))) (all : All (IsTree g) trees) (tops : List (Option ℕ)) (are : AreTops trees (length trees) tops) (count : length trees ≡ process_count g) where
+module _ (g : Graph) (processes : process_count g ≤ 128) (trees : List (TreeState (Option ℕ))) (all : All (IsTree g) trees) (tops : List (Option ℕ)) (are : AreTops trees (length trees) tops)
+    (count : length trees ≡ process_count g) where
   top_of : (q : ℕ) → IsTree g (tree_at g trees q) → (o : Option ℕ) → IsTopOf (tree_at g trees q) o → IsTop g (EndsAt g trees q) o
   top_of q tree None none = λ time s law h. none-some time (sym (All-contains (λ (p : Path (Option ℕ)). p.1 ≡ None) (tree_at g trees q).paths h.0 none h.1.stands) ∙ h.2)
   top_of q tree (Some m) most =
@@ -90,7 +92,8 @@ module _ (g : Graph) (processes : process_count g ≤ 128) (trees : List (TreeSt
       let within : q < length trees = omega (arith, l, count) in
       top_of q (All-get_or (IsTree g) trees q (no_tree g.faults) within all) (get_or tops q None) (are.each q (no_tree g.faults) within)
 
-pub tops_more : (trees : List (TreeState (Option ℕ))) (n : ℕ) (tops new : List (Option ℕ)) (tree : TreeState (Option ℕ)) (o : Option ℕ) → AreTops trees n tops → n < length trees → ((d : TreeState (Option ℕ)) → get_or trees n d ≡ tree) → IsTopOf tree o → new ≡ tops ++ o ∷ [] → AreTops trees (n + 1) new
+pub tops_more : (trees : List (TreeState (Option ℕ))) (n : ℕ) (tops new : List (Option ℕ)) (tree : TreeState (Option ℕ)) (o : Option ℕ) → AreTops trees n tops → n < length trees →
+    ((d : TreeState (Option ℕ)) → get_or trees n d ≡ tree) → IsTopOf tree o → new ≡ tops ++ o ∷ [] → AreTops trees (n + 1) new
 tops_more trees n tops new tree o are within is top more = subst (AreTops trees (n + 1)) (sym more) (record {
   count = length-append tops (o ∷ []) ∙ ap (λ m. m + 1) are.count;
   each = λ q d l. elim (cases_lt q n) [
@@ -130,7 +133,8 @@ module _ (g : Graph) (trees : List (TreeState (Option ℕ))) where
   ]
 
   pub past_tops_are : (tops : List (Option ℕ)) → HasTops g (process_count g) (EndsAt g trees) tops → HasTops g (process_count g) (EndsPast g trees) (past_tops g tops)
-  past_tops_are tops are q l = subst (IsTop g (EndsPast g trees q)) (sym (get_or-map-below (λ p. time_past (due g p) (get_or tops p None)) (process_count g) q None l)) (past_top q (get_or tops q None) (are q l))
+  past_tops_are tops are q l = subst (IsTop g (EndsPast g trees q)) (sym (get_or-map-below (λ p. time_past (due g p) (get_or tops p None)) (process_count g) q None l))
+      (past_top q (get_or tops q None) (are q l))
 
 pub past_count : (g : Graph) (tops : List (Option ℕ)) → length (past_tops g tops) ≡ process_count g
 past_count g tops = length-map (numbers_below (process_count g)) (λ q. time_past (due g q) (get_or tops q None)) ∙ length-range_with_len 0 (process_count g)

@@ -25,7 +25,8 @@ use Rattle.cpg_expand.proofs.AgreeingTrees.{agrees_weaker}
 use Rattle.cpg_expand.proofs.CarriedOn.{end_parts, ready_carried}
 use Rattle.cpg_expand.proofs.StartTimes.{later_exact}
 
-module _ (g : Graph) (order : List ℕ) (topological : IsTopological g order) (rows : List (List Column)) (s : Scenario) (few : HasFew g.faults s) (t : Times) (small : AreSmall t) (p : ℕ) (guard : Guard)
+module _ (g : Graph) (order : List ℕ) (topological : IsTopological g order) (rows : List (List Column)) (s : Scenario) (few : HasFew g.faults s) (t : Times) (small : AreSmall t) (p : ℕ)
+    (guard : Guard)
     (leads : outcome_at guard s.values ≡ activation g s.values p) (on_way : (c : ℕ) → Contains (way guard s.values) c → Contains (deciding g s.values p) c) where
   abbrev wait_says : List Literal
   wait_says = flat_map (passed g rows s) (before_on_node g order p) ++ decided g s p ++ heard g rows s p

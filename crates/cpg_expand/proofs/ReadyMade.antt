@@ -18,7 +18,8 @@ none_tells : {T : Type 0} (k : ℕ) (s : Scenario) (literals : List Literal) (fa
 none_tells k s literals fact = record { value = λ x on. absurd (Contains-nil x on.stands); says = λ x on. absurd (Contains-nil x on.stands) }
 
 -- if the process is active everywhere, nothing is asked of what it waited for
-pub ready_everywhere : (g : Graph) (f : ForestState) (node : ℕ) (guard : Guard) (active : TreeState Bool) (end : TreeState (Option ℕ)) → IsConstant true active.faults active → IsReadyOnce g f node guard active end (later_tree end)
+pub ready_everywhere : (g : Graph) (f : ForestState) (node : ℕ) (guard : Guard) (active : TreeState Bool) (end : TreeState (Option ℕ)) → IsConstant true active.faults active →
+    IsReadyOnce g f node guard active end (later_tree end)
 ready_everywhere g f node guard active end always = record {
   wait = no_tree g.faults;
   waits = λ s few base x tells tell time told. none_tells g.faults s _ _;
@@ -40,11 +41,13 @@ none_waits g order node at k b before is off q below there behind thawed = elim 
 
     by : q ≡ k → ⊥
     by e = apart (sym (and_from (node_of g k == node) (nat_lt at (place order k) && not (is_frozen g k)) (eq-eqb (node_of g k) node (ap (node_of g) (sym e) ∙ there))
-        (and_from (nat_lt at (place order k)) (not (is_frozen g k)) (lt-ltb at (place order k) (subst (λ n. at < place order n) e behind)) (ap not (ap (is_frozen g) (sym e) ∙ thawed)))) ∙ sym is ∙ off)
+        (and_from (nat_lt at (place order k)) (not (is_frozen g k)) (lt-ltb at (place order k) (subst (λ n. at < place order n) e behind)) (ap not (ap (is_frozen g) (sym e) ∙ thawed)))) ∙ sym is ∙
+        off)
 
 -- one more item is none that goes by when slots are free
 pub none_goes_by : (g : Graph) (order : List ℕ) (node at k : ℕ) (b : Bool) → ((y : ℕ) → y < k → is_sent g y ≡ true → home g y ≡ node → at ≤ place order (producer g y) → is_frozen g y ≡ false → ⊥) →
-    b ≡ ((is_sent g k && not (is_frozen g k)) && ((home g k == node) && nat_le at (place order (producer g k)))) → b ≡ false → (y : ℕ) → y < k + 1 → is_sent g y ≡ true → home g y ≡ node → at ≤ place order (producer g y) → is_frozen g y ≡ false → ⊥
+    b ≡ ((is_sent g k && not (is_frozen g k)) && ((home g k == node) && nat_le at (place order (producer g k)))) → b ≡ false → (y : ℕ) → y < k + 1 → is_sent g y ≡ true → home g y ≡ node →
+    at ≤ place order (producer g y) → is_frozen g y ≡ false → ⊥
 none_goes_by g order node at k b before is off y below sent there behind thawed = elim (cases_lt y k) [
   | inl less ↦ before y less sent there behind thawed
   | inr more ↦ by (let e : y ≡ k = omega (arith, below, more) in e)
@@ -56,7 +59,8 @@ none_goes_by g order node at k b before is off y below sent there behind thawed 
     by : y ≡ k → ⊥
     by e = apart (sym (and_from (is_sent g k && not (is_frozen g k)) ((home g k == node) && nat_le at (place order (producer g k)))
         (and_from (is_sent g k) (not (is_frozen g k)) (ap (is_sent g) (sym e) ∙ sent) (ap not (ap (is_frozen g) (sym e) ∙ thawed)))
-        (and_from (home g k == node) (nat_le at (place order (producer g k))) (eq-eqb (home g k) node (ap (home g) (sym e) ∙ there)) (le-leb at (place order (producer g k)) (subst (λ n. at ≤ place order (producer g n)) e behind)))) ∙ sym is ∙ off)
+        (and_from (home g k == node) (nat_le at (place order (producer g k))) (eq-eqb (home g k) node (ap (home g) (sym e) ∙ there))
+        (le-leb at (place order (producer g k)) (subst (λ n. at ≤ place order (producer g n)) e behind)))) ∙ sym is ∙ off)
 
 -- one that does
 pub one_goes_by : (g : Graph) (order : List ℕ) (node at y : ℕ) (b : Bool) → y < item_count g →

@@ -10,7 +10,8 @@ use Rattle.cpg_expand.specs.Forest.{no_tree}
 use Rattle.cpg_expand.specs.MadeRows.{IsRowOf, AreFirstRows}
 
 -- one row more
-pub rows_more : (g : Graph) (urgency : List ℕ) (times : List (TreeState (Option ℕ))) (n : ℕ) (rows more : List Row) (row : Row) → AreFirstRows g urgency times n rows → IsRowOf g urgency (get_or times n (no_tree g.faults)) n row →
+pub rows_more : (g : Graph) (urgency : List ℕ) (times : List (TreeState (Option ℕ))) (n : ℕ) (rows more : List Row) (row : Row) → AreFirstRows g urgency times n rows →
+    IsRowOf g urgency (get_or times n (no_tree g.faults)) n row →
     more ≡ rows ++ row ∷ [] → AreFirstRows g urgency times (n + 1) more
 rows_more g urgency times n rows more row a new is = record {
   count = ap length is ∙ length-append rows (row ∷ []) ∙ ap (λ m. m + 1) a.count;
@@ -19,7 +20,8 @@ rows_more g urgency times n rows more row a new is = record {
     | inr h ↦
         let at : x ≡ length rows = omega (arith, a.count) in
         let same : n ≡ x = omega arith in
-        subst (IsRowOf g urgency (get_or times x (no_tree g.faults)) x) (sym (ap₂ (λ rs j. get_or rs j d) is at ∙ get_or-append_seam rows row [] d)) (subst (λ j. IsRowOf g urgency (get_or times j (no_tree g.faults)) j row) same new)
+        subst (IsRowOf g urgency (get_or times x (no_tree g.faults)) x) (sym (ap₂ (λ rs j. get_or rs j d) is at ∙ get_or-append_seam rows row [] d))
+        (subst (λ j. IsRowOf g urgency (get_or times j (no_tree g.faults)) j row) same new)
   ];
 }
 

@@ -29,7 +29,8 @@ module _ (g : Graph) (order : List ℕ) (rows : List (List Column)) (s : Scenari
       by : (f : Bool) → Contains (if f then decided g s p else all) l
       by true = j
       by false = Contains-append_left (flat_map (passed g rows s) (before_on_node g order p) ++ decided g s p ++ heard g rows s p) (received g rows s p) l
-          (Contains-append_left (flat_map (passed g rows s) (before_on_node g order p) ++ decided g s p) (heard g rows s p) l (Contains-append_right (flat_map (passed g rows s) (before_on_node g order p)) (decided g s p) l j))
+          (Contains-append_left (flat_map (passed g rows s) (before_on_node g order p) ++ decided g s p) (heard g rows s p) l
+          (Contains-append_right (flat_map (passed g rows s) (before_on_node g order p)) (decided g s p) l j))
 
   module _ (x : ℕ) (acts : item_active g s.values (item_at g x) ≡ true → active g s.values (producer g x) ≡ true)
       (says : List Literal) (goes : TreeState Bool) (of_goes : Tells s says (item_active g s.values (item_at g x)) goes)
@@ -44,27 +45,33 @@ module _ (g : Graph) (order : List ℕ) (rows : List (List Column)) (s : Scenari
     thawed_says e l j = subst (λ (f : Bool). Contains ((if f then decided g s (producer g x) else unfrozen_says) ++ sent_by_value g s x) l) (sym e) j
 
     -- the line of a send that isn't frozen
-    pub send_line : is_frozen g x ≡ false → (share : ShareState) (end : TreeState (Option ℕ)) (free : TreeState ℕ) (tree : TreeState (Option ℕ)) (ended : Option ℕ) (y : ℕ) → IsSentTree g.faults share goes end free tree →
+    pub send_line : is_frozen g x ≡ false → (share : ShareState) (end : TreeState (Option ℕ)) (free : TreeState ℕ) (tree : TreeState (Option ℕ)) (ended : Option ℕ) (y : ℕ) →
+        IsSentTree g.faults share goes end free tree →
         (item_active g s.values (item_at g x) ≡ true → Tells s (carried_at_end g order rows s (producer g x)) ended end) → Tells s before_it y free →
         Tells s (carried_at_send g order rows s x) (if item_active g s.values (item_at g x) then slot_from share y ended else None) tree
     send_line thawed share end free tree ended y sends ends frees =
         agrees_weaker s tree (says ++ (if item_active g s.values (item_at g x) then carried_at_end g order rows s (producer g x) ++ before_it else [])) (carried_at_send g order rows s x)
-        (λ z. z ≡ (if item_active g s.values (item_at g x) then slot_from share y ended else None)) (λ z. z ≡ (if item_active g s.values (item_at g x) then slot_from share y ended else None)) within (λ z e. e)
+        (λ z. z ≡ (if item_active g s.values (item_at g x) then slot_from share y ended else None)) (λ z. z ≡ (if item_active g s.values (item_at g x) then slot_from share y ended else None)) within
+        (λ z e. e)
         (sends s few (item_active g s.values (item_at g x)) says (carried_at_end g order rows s (producer g x)) before_it ended y of_goes (λ on. (ends on, frees)))
       where
-        of_says : (l : Literal) → Contains (decided g s (producer g x)) l ⊎ ((active g s.values (producer g x) ≡ true) × Contains (sent_by_value g s x) l) → Contains (carried_at_send g order rows s x) l
-        of_says l (inl j) = thawed_says thawed l (Contains-append_left unfrozen_says (sent_by_value g s x) l (Contains-append_right before_it (carried_at_end g order rows s (producer g x)) l (decided_at_end (producer g x) l j)))
+        of_says : (l : Literal) → Contains (decided g s (producer g x)) l ⊎ ((active g s.values (producer g x) ≡ true) × Contains (sent_by_value g s x) l) →
+            Contains (carried_at_send g order rows s x) l
+        of_says l (inl j) = thawed_says thawed l (Contains-append_left unfrozen_says (sent_by_value g s x) l
+            (Contains-append_right before_it (carried_at_end g order rows s (producer g x)) l (decided_at_end (producer g x) l j)))
         of_says l (inr j) = thawed_says thawed l (Contains-append_right unfrozen_says (sent_by_value g s x) l j.1)
 
         of_time : (b : Bool) (l : Literal) → Contains (if b then carried_at_end g order rows s (producer g x) ++ before_it else []) l → Contains (carried_at_send g order rows s x) l
         of_time false l j = absurd (Contains-nil l j)
-        of_time true l j = thawed_says thawed l (Contains-append_left unfrozen_says (sent_by_value g s x) l (swapped l (Contains-append_cases (carried_at_end g order rows s (producer g x)) before_it l j)))
+        of_time true l j = thawed_says thawed l (Contains-append_left unfrozen_says (sent_by_value g s x) l
+            (swapped l (Contains-append_cases (carried_at_end g order rows s (producer g x)) before_it l j)))
           where
             swapped : (l : Literal) → Contains (carried_at_end g order rows s (producer g x)) l ⊎ Contains before_it l → Contains unfrozen_says l
             swapped l (inl i) = Contains-append_right before_it (carried_at_end g order rows s (producer g x)) l i
             swapped l (inr i) = Contains-append_left before_it (carried_at_end g order rows s (producer g x)) l i
 
-        within : (l : Literal) → Contains (says ++ (if item_active g s.values (item_at g x) then carried_at_end g order rows s (producer g x) ++ before_it else [])) l → Contains (carried_at_send g order rows s x) l
+        within : (l : Literal) → Contains (says ++ (if item_active g s.values (item_at g x) then carried_at_end g order rows s (producer g x) ++ before_it else [])) l →
+            Contains (carried_at_send g order rows s x) l
         within l j = elim (Contains-append_cases says (if item_active g s.values (item_at g x) then carried_at_end g order rows s (producer g x) ++ before_it else []) l j) [
           | inl i ↦ of_says l (at_most l i)
           | inr i ↦ of_time (item_active g s.values (item_at g x)) l i
@@ -97,17 +104,20 @@ module _ (g : Graph) (order : List ℕ) (rows : List (List Column)) (s : Scenari
         end_part = if item_active g s.values (item_at g x) && not (is_frozen g x) then carried_at_end g order rows s (producer g x) else []
 
         by_decided : (l : Literal) → Contains (decided g s (producer g x)) l → Contains (before_it ++ queued g order rows s x) l
-        by_decided l j = Contains-append_right before_it (queued g order rows s x) l (Contains-append_left (decided g s (producer g x) ++ value_part) end_part l (Contains-append_left (decided g s (producer g x)) value_part l j))
+        by_decided l j = Contains-append_right before_it (queued g order rows s x) l
+            (Contains-append_left (decided g s (producer g x) ++ value_part) end_part l (Contains-append_left (decided g s (producer g x)) value_part l j))
 
         by_value : active g s.values (producer g x) ≡ true → (l : Literal) → Contains (sent_by_value g s x) l → Contains (before_it ++ queued g order rows s x) l
         by_value on l j = Contains-append_right before_it (queued g order rows s x) l (Contains-append_left (decided g s (producer g x) ++ value_part) end_part l
             (Contains-append_right (decided g s (producer g x)) value_part l (subst (λ (b : Bool). Contains (if b then sent_by_value g s x else []) l) (sym on) j)))
 
-        by_end : item_active g s.values (item_at g x) ≡ true → is_frozen g x ≡ false → (l : Literal) → Contains (carried_at_end g order rows s (producer g x)) l → Contains (before_it ++ queued g order rows s x) l
+        by_end : item_active g s.values (item_at g x) ≡ true → is_frozen g x ≡ false → (l : Literal) → Contains (carried_at_end g order rows s (producer g x)) l →
+            Contains (before_it ++ queued g order rows s x) l
         by_end on thawed l j = Contains-append_right before_it (queued g order rows s x) l (Contains-append_right (decided g s (producer g x) ++ value_part) end_part l
             (subst (λ (b : Bool). Contains (if b then carried_at_end g order rows s (producer g x) else []) l) (sym (ap₂ (λ b c. b && not c) on thawed)) j))
 
-        of_sent : item_active g s.values (item_at g x) ≡ true → (f : Bool) → is_frozen g x ≡ f → (l : Literal) → Contains ((if f then decided g s (producer g x) else unfrozen_says) ++ sent_by_value g s x) l → Contains (before_it ++ queued g order rows s x) l
+        of_sent : item_active g s.values (item_at g x) ≡ true → (f : Bool) → is_frozen g x ≡ f → (l : Literal) →
+            Contains ((if f then decided g s (producer g x) else unfrozen_says) ++ sent_by_value g s x) l → Contains (before_it ++ queued g order rows s x) l
         of_sent on true e l j = elim (Contains-append_cases (decided g s (producer g x)) (sent_by_value g s x) l j) [
           | inl i ↦ by_decided l i
           | inr i ↦ by_value (acts on) l i
@@ -120,11 +130,13 @@ module _ (g : Graph) (order : List ℕ) (rows : List (List Column)) (s : Scenari
           ]
         ]
 
-        of_second : (b : Bool) → item_active g s.values (item_at g x) ≡ b → (l : Literal) → Contains (if b then carried_at_send g order rows s x else before_it) l → Contains (before_it ++ queued g order rows s x) l
+        of_second : (b : Bool) → item_active g s.values (item_at g x) ≡ b → (l : Literal) → Contains (if b then carried_at_send g order rows s x else before_it) l →
+            Contains (before_it ++ queued g order rows s x) l
         of_second true e l j = of_sent e (is_frozen g x) refl l j
         of_second false e l j = Contains-append_left before_it (queued g order rows s x) l j
 
-        of_says : (l : Literal) → Contains (decided g s (producer g x)) l ⊎ ((active g s.values (producer g x) ≡ true) × Contains (sent_by_value g s x) l) → Contains (before_it ++ queued g order rows s x) l
+        of_says : (l : Literal) → Contains (decided g s (producer g x)) l ⊎ ((active g s.values (producer g x) ≡ true) × Contains (sent_by_value g s x) l) →
+            Contains (before_it ++ queued g order rows s x) l
         of_says l (inl j) = by_decided l j
         of_says l (inr j) = by_value j.0 l j.1
 

@@ -34,7 +34,8 @@ module _ (g : Graph) (order : List ℕ) (topological : IsTopological g order) (s
       omega (arith, is, none)
 
   -- the time that the trees tell is the run's
-  pub send_value : AreSmall t → (item_active g s.values (item_at g here) ≡ true → active g s.values p ≡ true) → (if item_active g s.values (item_at g here) then slot_from (share_of g (node_of g p)) free (get_or t.ends p None) else None) ≡ get_or t.times here None
+  pub send_value : AreSmall t → (item_active g s.values (item_at g here) ≡ true → active g s.values p ≡ true) →
+      (if item_active g s.values (item_at g here) then slot_from (share_of g (node_of g p)) free (get_or t.ends p None) else None) ≡ get_or t.times here None
   send_value small acts_by = go (item_active g s.values (item_at g here)) refl
     where
       within : here < item_count g

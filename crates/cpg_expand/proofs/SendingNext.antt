@@ -1,5 +1,6 @@
 -- One item after another is sent, until the process has sent all that it sends.
-use Rattle.std.proofs.Common.{ℕ, ◌+◌, suc, ◌<◌, ◌≡◌, ◌≢◌, ◌&&◌, ◌==◌, nat_lt, Bool, true, false, List, [], ◌∷◌, ◌++◌, length, filter, take, get_or, Option, Some, None, unwrap_or, Contains, ◌⊎◌, arith, ⊎_elim, lt-ltb, ltb-true, refl, sym, ap, ◌∙◌, subst, inl, inr}
+use Rattle.std.proofs.Common.{ℕ, ◌+◌, suc, ◌<◌, ◌≡◌, ◌≢◌, ◌&&◌, ◌==◌, nat_lt, Bool, true, false, List, [], ◌∷◌, ◌++◌, length, filter, take, get_or, Option, Some, None, unwrap_or, Contains, ◌⊎◌, arith}
+use Rattle.std.proofs.Common.{⊎_elim, lt-ltb, ltb-true, refl, sym, ap, ◌∙◌, subst, inl, inr}
 use Rattle.std.proofs.Math.Seq.{take-suc}
 use Rattle.std.proofs.lemmas.List.Elements.{Contains-append_cases}
 use Rattle.cpg_base.specs.Graph.{Graph, process_count, item_count, item_at, node_of, home, producer, is_sent, is_sent_item}
@@ -15,7 +16,8 @@ use Rattle.cpg_base.specs.declared.activation.Activation.{Activation}
 use Rattle.cpg_base.specs.declared.item.Item.{Item}
 use Rattle.cpg_base.specs.declared.item.Item.TheVariants.{Start, Message, Broadcast}
 use Rattle.cpg_base.specs.Limits.{IsWithinLimits}
-use Rattle.cpg_base.proofs.Lists.{greatest_above, numbers-Contains, Contains-cases, Contains-rest, Contains-nil, Contains-filter, Contains-filter_parts, Contains-flat_map_parts, Contains-numbers, Contains-map, Contains-map_parts}
+use Rattle.cpg_base.proofs.Lists.{greatest_above, numbers-Contains, Contains-cases, Contains-rest, Contains-nil, Contains-filter, Contains-filter_parts, Contains-flat_map_parts, Contains-numbers}
+use Rattle.cpg_base.proofs.Lists.{Contains-map, Contains-map_parts}
 use Rattle.cpg_bus.specs.Plan.{queue_of}
 use Rattle.cpg_bus.proofs.Queued.{in_queue}
 use Rattle.cpg_rules.proofs.Ways.{ways_are_deciding}
@@ -60,7 +62,8 @@ use Rattle.cpg_expand.proofs.SentOne.{item_told, free_once}
 use Rattle.cpg_expand.proofs.TreesTold.{ends_tree, times_tree}
 
 -- the tree of a guard tells where its process is active, and no more than what decides it
-pub chosen_told : (g : Graph) (urgency : List ℕ) → IsUrgencyOrder g urgency → IsTopological g urgency → (p : ℕ) (guard : Guard) → IsGuardOf g urgency p guard → (chooser : TreeState Bool) → IsActiveTree g.faults guard chooser →
+pub chosen_told : (g : Graph) (urgency : List ℕ) → IsUrgencyOrder g urgency → IsTopological g urgency → (p : ℕ) (guard : Guard) → IsGuardOf g urgency p guard → (chooser : TreeState Bool) →
+    IsActiveTree g.faults guard chooser →
     (s : Scenario) → IsScenario g s → Tells s (decided g s p) (active g s.values p) chooser
 chosen_told g urgency is_urgency urgent p guard is_guard chooser actives s law =
     agrees_weaker s chooser (values_known s (way guard s.values)) (decided g s p) (λ z. z ≡ is_active (outcome_at guard s.values)) (λ z. z ≡ active g s.values p)
@@ -69,15 +72,18 @@ chosen_told g urgency is_urgency urgent p guard is_guard chooser actives s law =
   where
     decides_it : (c : ℕ) → Contains (way guard s.values) c → Contains (deciding g s.values p) c
     decides_it c j =
-        let r = Contains-filter_parts (decides g s.values p) (conditions_along g urgency) c (subst (λ cs. Contains cs c) (ways_are_deciding g urgency p guard s.values is_urgency urgent is_guard law.values) j) in
+        let r = Contains-filter_parts (decides g s.values p) (conditions_along g urgency) c
+        (subst (λ cs. Contains cs c) (ways_are_deciding g urgency p guard s.values is_urgency urgent is_guard law.values) j) in
         Contains-filter (decides g s.values p) _ c r.1 (Contains-numbers _ c (from_along g urgency c r.0).0)
 
-carried_sent : (g : Graph) (order : List ℕ) (rows : List (List Column)) (s : Scenario) (x : ℕ) (i : Item) → is_sent_item g i ≡ true → carried_by_item g order rows s x i ≡ carried_at_send g order rows s x
+carried_sent : (g : Graph) (order : List ℕ) (rows : List (List Column)) (s : Scenario) (x : ℕ) (i : Item) → is_sent_item g i ≡ true →
+    carried_by_item g order rows s x i ≡ carried_at_send g order rows s x
 carried_sent g order rows s x (Start p) is = cc
 carried_sent g order rows s x (Message e) is = refl
 carried_sent g order rows s x (Broadcast c) is = refl
 
-module _ (g : Graph) (limits : IsWithinLimits g) (order : List ℕ) (topological : IsTopological g order) (p : ℕ) (l : p < process_count g) (on_node : node_of g p < length g.nodes) (chooser : TreeState Bool)
+module _ (g : Graph) (limits : IsWithinLimits g) (order : List ℕ) (topological : IsTopological g order) (p : ℕ) (l : p < process_count g) (on_node : node_of g p < length g.nodes)
+    (chooser : TreeState Bool)
     (chosen : (s : Scenario) → IsScenario g s → Tells s (decided g s p) (active g s.values p) chooser) where
   module _ (k : ℕ) (inside : k < length (queue_of g p)) (old new : ForestState) (before after : List (Option ℕ)) (sending : IsSending g order p k before old)
       (added : IsItemAdded g order chooser (get_or (queue_of g p) k 0) old new before after) where
@@ -140,13 +146,14 @@ module _ (g : Graph) (limits : IsWithinLimits g) (order : List ℕ) (topological
 
     -- what stands before it is done
     done_before : (y : ℕ) → Contains (queued_before g order here) y → IsDone g order p k y
-    done_before y c = elim (Contains-append_cases (sent_before g order (place order p) (node_of g p)) (take k (queue_of g p)) y (queued_so_far g order topological (record { faults = []; values = [] }) p l k inside y c)) [
-      | inl i ↦
-          let r = Contains-flat_map_parts (queue_of g) (before_on_node g order p) y i in
-          let q = in_queue g r.0 y r.2 in
-          inl (omega (arith, (on_node_before g order p r.0 r.1).1, ap (place order) q.by))
-      | inr i ↦ inr (inr i)
-    ]
+    done_before y c = elim (Contains-append_cases (sent_before g order (place order p) (node_of g p)) (take k (queue_of g p)) y
+        (queued_so_far g order topological (record { faults = []; values = [] }) p l k inside y c)) [
+          | inl i ↦
+              let r = Contains-flat_map_parts (queue_of g) (before_on_node g order p) y i in
+              let q = in_queue g r.0 y r.2 in
+              inl (omega (arith, (on_node_before g order p r.0 r.1).1, ap (place order) q.by))
+          | inr i ↦ inr (inr i)
+        ]
 
     within_before : (y : ℕ) → Contains (queued_before g order here) y → y < item_count g
     within_before y c = numbers-Contains (item_count g) y (Contains-filter_parts (λ y. is_queued_before g order y here) (numbers_below (item_count g)) y c).0
@@ -163,7 +170,9 @@ module _ (g : Graph) (limits : IsWithinLimits g) (order : List ℕ) (topological
     from_places y h is =
         let b = and_parts (is_sent g y && (home g y == home g here)) _ is in
         queued_from g order topological here y h (and_from (is_sent g y && (home g y == home g here)) _ b.0 (⊎_elim
-        (λ (e : nat_lt (place order (producer g y)) (place order (producer g here)) ≡ true). or_left _ _ (comes_before_from_places order (producer g y) (producer g here) (Contains-order (process_count g) order topological.all (producer g y) (producer_in_range g order topological y h)) (ltb-true _ _ e)))
+        (λ (e : nat_lt (place order (producer g y)) (place order (producer g here)) ≡ true). or_left _ _
+        (comes_before_from_places order (producer g y) (producer g here) (Contains-order (process_count g) order topological.all (producer g y) (producer_in_range g order topological y h))
+        (ltb-true _ _ e)))
         (λ e. or_right _ _ e)
         (or_cases _ _ b.1)))
 
@@ -179,7 +188,8 @@ module _ (g : Graph) (limits : IsWithinLimits g) (order : List ℕ) (topological
         record {
           acts = λ c on. goes.value c on;
           ends = λ e on. ends.value e on;
-          ended = λ on. subst (λ q. get_or t.ends q None ≡ Some (end_in t q)) (sym by_p) (let is = has_end g order before s t run p l (acts s on) in is ∙ ap (λ n. Some n) (sym (ap (λ o. unwrap_or o 0) is)));
+          ended = λ on. subst (λ q. get_or t.ends q None ≡ Some (end_in t q)) (sym by_p)
+              (let is = has_end g order before s t run p l (acts s on) in is ∙ ap (λ n. Some n) (sym (ap (λ o. unwrap_or o 0) is)));
           early = small.ends (producer g here);
           value = unfrozen_sent g order before s t run here goes_over;
           sent = λ y c a.
@@ -194,7 +204,8 @@ module _ (g : Graph) (limits : IsWithinLimits g) (order : List ℕ) (topological
           came = λ y time h is v.
               let c = from_places y h is in
               let r = time_parts g order before s t run y time (sym ((lines.times y h (done_before y c)).value v.0 v.1) ∙ v.2) in
-              let bound = greatest_above (send_bounds g order s t here) (time_in t y + round g) (Contains-rest _ _ _ (Contains-map (λ z. time_in t z + round g) (filter (λ z. item_active g s.values (item_at g z)) (queued_before g order here)) y
+              let bound = greatest_above (send_bounds g order s t here) (time_in t y + round g)
+              (Contains-rest _ _ _ (Contains-map (λ z. time_in t z + round g) (filter (λ z. item_active g s.values (item_at g z)) (queued_before g order here)) y
               (Contains-filter (λ z. item_active g s.values (item_at g z)) (queued_before g order here) y r.1 c))) in
               omega (arith, r.2, bound);
         }
@@ -260,11 +271,14 @@ module _ (g : Graph) (limits : IsWithinLimits g) (order : List ℕ) (topological
       send_lines : SendLines g order rows s t p (k + 1) new
       send_lines = record {
         times = λ x h done. elim (only x done) [
-          | inl d ↦ subst (λ (tree : TreeState (Option ℕ)). Tells s (carried g order rows s x) (get_or t.times x None) tree) (sym (other_times g order chooser here old new before after added x (apart x h d))) (old_lines.times x h d)
+          | inl d ↦ subst (λ (tree : TreeState (Option ℕ)). Tells s (carried g order rows s x) (get_or t.times x None) tree)
+              (sym (other_times g order chooser here old new before after added x (apart x h d))) (old_lines.times x h d)
           | inr e ↦ subst (λ z. Tells s (carried g order rows s z) (get_or t.times z None) (times_of g new z)) (sym e) told_here
         ];
-        ends = λ q h less. subst (λ (tree : TreeState (Option ℕ)). Tells s (carried_at_end g order rows s q) (get_or t.ends q None) tree) (sym (same_ends g order chooser here old new before after added q)) (old_lines.ends q h less);
-        ready = λ node h w. subst (λ (tree : TreeState ℕ). IsReadyLine g order rows s t (place order p + 1) node tree) (sym (same_ready g order chooser here old new before after added node)) (old_lines.ready node h w);
+        ends = λ q h less. subst (λ (tree : TreeState (Option ℕ)). Tells s (carried_at_end g order rows s q) (get_or t.ends q None) tree)
+            (sym (same_ends g order chooser here old new before after added q)) (old_lines.ends q h less);
+        ready = λ node h w. subst (λ (tree : TreeState ℕ). IsReadyLine g order rows s t (place order p + 1) node tree) (sym (same_ready g order chooser here old new before after added node))
+            (old_lines.ready node h w);
         here = freed;
         free = λ node h other q. subst (λ (tree : TreeState ℕ). IsFreeLine g order rows s t (place order p) node tree)
             (sym (other_free g order chooser here old new before after added node (λ e. other (e ∙ ap (node_of g) by_p)))) (old_lines.free node h other q);
@@ -272,7 +286,8 @@ module _ (g : Graph) (limits : IsWithinLimits g) (order : List ℕ) (topological
 
     unsent_then : LeavesUnsent g new
     unsent_then x big h is =
-        subst (λ (tree : TreeState (Option ℕ)). IsConstant None g.faults tree) (sym (other_times g order chooser here old new before after added x (λ e. absurd (not_both (sym (ap (is_sent g) e ∙ goes_over) ∙ is))))) (sending.unsent x big h is)
+        subst (λ (tree : TreeState (Option ℕ)). IsConstant None g.faults tree)
+        (sym (other_times g order chooser here old new before after added x (λ e. absurd (not_both (sym (ap (is_sent g) e ∙ goes_over) ∙ is))))) (sending.unsent x big h is)
       where
         not_both : true ≡ false → ⊥
         not_both e = cc
@@ -282,7 +297,8 @@ module _ (g : Graph) (limits : IsWithinLimits g) (order : List ℕ) (topological
     next_sent = record { trees = trees; unsent = unsent_then; settled = settled_then; lines = λ rows hold s law t run. send_lines rows hold s law t run }
 
   -- all items that are left are sent
-  rest_sent : (xs : List ℕ) (k : ℕ) → k + length xs ≡ length (queue_of g p) → ((i : ℕ) → i < length xs → get_or xs i 0 ≡ get_or (queue_of g p) (k + i) 0) → (old new : ForestState) (before after : List (Option ℕ)) →
+  rest_sent : (xs : List ℕ) (k : ℕ) → k + length xs ≡ length (queue_of g p) → ((i : ℕ) → i < length xs → get_or xs i 0 ≡ get_or (queue_of g p) (k + i) 0) →
+      (old new : ForestState) (before after : List (Option ℕ)) →
       IsSending g order p k before old → AreItemsAdded g order chooser xs old new before after → IsSending g order p (length (queue_of g p)) after new
   rest_sent [] k count is old new before after sending none =
       let all : k ≡ length (queue_of g p) = omega (arith, count) in
@@ -290,8 +306,11 @@ module _ (g : Graph) (limits : IsWithinLimits g) (order : List ℕ) (topological
   rest_sent (x ∷ xs) k count is old new before after sending more =
       let inside : k < length (queue_of g p) = omega (arith, count) in
       let first : x ≡ get_or (queue_of g p) k 0 = is 0 (omega arith) ∙ ap (λ n. get_or (queue_of g p) n 0) (let e : k + 0 ≡ k = omega arith in e) in
-      rest_sent xs (k + 1) (omega (arith, count)) (λ i h. is (suc i) (omega (arith, h)) ∙ ap (λ n. get_or (queue_of g p) n 0) (let e : k + suc i ≡ k + 1 + i = omega arith in e)) more.0 new more.1 after
+      rest_sent xs (k + 1) (omega (arith, count)) (λ i h. is (suc i) (omega (arith, h)) ∙ ap (λ n. get_or (queue_of g p) n 0) (let e : k + suc i ≡ k + 1 + i = omega arith in e)) more.0 new more.1
+      after
       (next_sent k inside old more.0 before more.1 sending (subst (λ y. IsItemAdded g order chooser y old more.0 before more.1) first more.2)) more.3
 
-  pub all_sent : (old new : ForestState) (before after : List (Option ℕ)) → IsSending g order p 0 before old → AreItemsAdded g order chooser (queue_of g p) old new before after → IsSending g order p (length (queue_of g p)) after new
-  all_sent old new before after sending added = rest_sent (queue_of g p) 0 (omega arith) (λ i h. let first : ℕ = 0 in ap (λ n. get_or (queue_of g p) n 0) (let e : i ≡ first + i = omega arith in e)) old new before after sending added
+  pub all_sent : (old new : ForestState) (before after : List (Option ℕ)) → IsSending g order p 0 before old → AreItemsAdded g order chooser (queue_of g p) old new before after →
+      IsSending g order p (length (queue_of g p)) after new
+  all_sent old new before after sending added = rest_sent (queue_of g p) 0 (omega arith) (λ i h. let first : ℕ = 0 in ap (λ n. get_or (queue_of g p) n 0) (let e : i ≡ first + i = omega arith in e))
+      old new before after sending added

@@ -81,7 +81,8 @@ module _ (g : Graph) (order : List ℕ) (topological : IsTopological g order) (p
     ready_over node v r = record {
       ends = λ q h less on acts. subst (λ n. n ≤ v) (end_over q h less) (r.ends q h less on acts);
       heard = λ q c h less on k d. subst (λ n. n ≤ v) (heard_over node q c less k d) (r.heard q c h less on k d);
-      least = λ b x y. r.least b (λ q h less on acts. subst (λ n. n ≤ b) (sym (end_over q h less)) (x q h less on acts)) (λ q c h less on k d. subst (λ n. n ≤ b) (sym (heard_over node q c less k d)) (y q c h less on k d));
+      least = λ b x y. r.least b (λ q h less on acts. subst (λ n. n ≤ b) (sym (end_over q h less)) (x q h less on acts))
+          (λ q c h less on k d. subst (λ n. n ≤ b) (sym (heard_over node q c less k d)) (y q c h less on k d));
     }
 
     after_over : (y : ℕ) → IsSentBy g order s p k y → free_after g t y ≡ free_after g u y

@@ -1,5 +1,6 @@
 -- What stands before an item in its node's queue is what the node has sent so far.
-use Rattle.std.proofs.Common.{ℕ, ◌+◌, ◌<◌, ◌≡◌, ◌&&◌, ◌==◌, ltb, true, List, ◌++◌, length, flat_map, take, get_or, Contains, ⊎_elim, arith, eq-eqb, eqb-true, lt-ltb, ltb-true, refl, sym, ap, ◌∙◌, inl, inr}
+use Rattle.std.proofs.Common.{ℕ, ◌+◌, ◌<◌, ◌≡◌, ◌&&◌, ◌==◌, ltb, true, List, ◌++◌, length, flat_map, take, get_or, Contains, ⊎_elim, arith, eq-eqb, eqb-true, lt-ltb, ltb-true, refl, sym, ap, ◌∙◌, inl}
+use Rattle.std.proofs.Common.{inr}
 use Rattle.std.proofs.lemmas.Bool.{and_parts, and_from, or_cases, or_left, or_right}
 use Rattle.std.proofs.lemmas.List.Elements.{Contains-append_cases, Contains-append_left, Contains-append_right}
 use Rattle.cpg_base.specs.Numbers.{numbers_below}
@@ -42,12 +43,14 @@ module _ (g : Graph) (order : List ℕ) (topological : IsTopological g order) (s
             let same : (home g y == home g here) ≡ true = eq-eqb _ _ (ap (node_of g) q.by ∙ on ∙ sym (ap (node_of g) x.by)) in
             queued_from g order topological here y q.within
             (and_from _ _ (and_from _ _ q.sent same) (or_left _ _ (comes_before_from_places order (producer g y) (producer g here)
-            (Contains-order (process_count g) order topological.all (producer g y) (producer_in_range g order topological y q.within)) (omega (arith, o.1, ap (place order) q.by, ap (place order) x.by)))))
+            (Contains-order (process_count g) order topological.all (producer g y) (producer_in_range g order topological y q.within))
+            (omega (arith, o.1, ap (place order) q.by, ap (place order) x.by)))))
         | inr first ↦
             let q = in_queue g p y (Contains-take k (queue_of g p) y first) in
             let same : (home g y == home g here) ≡ true = eq-eqb _ _ (ap (node_of g) (q.by ∙ sym x.by)) in
             queued_from g order topological here y q.within
-            (and_from _ _ (and_from _ _ q.sent same) (or_right _ _ (and_from _ _ (eq-eqb _ _ (q.by ∙ sym x.by)) (lt-ltb _ _ (below_first (rank_at g) (queue_of g p) (queue_rises g p) k inside y first)))))
+            (and_from _ _ (and_from _ _ q.sent same) (or_right _ _
+            (and_from _ _ (eq-eqb _ _ (q.by ∙ sym x.by)) (lt-ltb _ _ (below_first (rank_at g) (queue_of g p) (queue_rises g p) k inside y first)))))
       ]
 
   pub queued_so_far : (y : ℕ) → Contains (queued_before g order here) y → Contains (sent_so_far g order p k) y
@@ -77,13 +80,16 @@ module _ (g : Graph) (order : List ℕ) (topological : IsTopological g order) (s
     told = flat_map (queued g order rows s)
 
     -- a tree that tells what is carried from all that the node has sent tells no more than what the next item carries on
-    pub tells_before : (y : ℕ) (tree : TreeState ℕ) → Tells s (flat_map (queued g order rows s) (sent_so_far g order p k)) y tree → Tells s (flat_map (queued g order rows s) (queued_before g order here)) y tree
+    pub tells_before : (y : ℕ) (tree : TreeState ℕ) → Tells s (flat_map (queued g order rows s) (sent_so_far g order p k)) y tree →
+        Tells s (flat_map (queued g order rows s) (queued_before g order here)) y tree
     tells_before y tree = agrees_weaker s tree (told (sent_so_far g order p k)) (told (queued_before g order here)) (λ z. z ≡ y) (λ z. z ≡ y)
-        (λ m j. let r = Contains-flat_map_parts (queued g order rows s) (sent_so_far g order p k) m j in Contains-flat_map (queued g order rows s) (queued_before g order here) r.0 m (so_far_queued r.0 r.1) r.2)
+        (λ m j. let r = Contains-flat_map_parts (queued g order rows s) (sent_so_far g order p k) m j in
+        Contains-flat_map (queued g order rows s) (queued_before g order here) r.0 m (so_far_queued r.0 r.1) r.2)
         (λ z e. e)
 
     -- a tree that tells what the next item carries on, and that item, tells no more than all that the node has sent then
-    pub tells_after : (y : ℕ) (tree : TreeState ℕ) → Tells s (flat_map (queued g order rows s) (queued_before g order here) ++ queued g order rows s here) y tree → Tells s (flat_map (queued g order rows s) (sent_so_far g order p (k + 1))) y tree
+    pub tells_after : (y : ℕ) (tree : TreeState ℕ) → Tells s (flat_map (queued g order rows s) (queued_before g order here) ++ queued g order rows s here) y tree →
+        Tells s (flat_map (queued g order rows s) (sent_so_far g order p (k + 1))) y tree
     tells_after y tree = agrees_weaker s tree (told (queued_before g order here) ++ queued g order rows s here) (told (sent_so_far g order p (k + 1))) (λ z. z ≡ y) (λ z. z ≡ y) within (λ z e. e)
       where
         grown : (z : ℕ) → Contains (sent_so_far g order p k) z → Contains (sent_so_far g order p (k + 1)) z

@@ -1,5 +1,6 @@
 -- The trees of an item that is added tell its time in the run, and from when on the slots of its node are free then.
-use Rattle.std.proofs.Common.{ℕ, ◌+◌, ◌<◌, ◌≡◌, Bool, true, false, if◌then◌else◌, List, [], ◌++◌, length, flat_map, get_or, set, Option, Some, None, unwrap_or, Contains, ◌⊎◌, arith, refl, sym, ap, ◌∙◌, subst, inl, inr, get_or-set_same}
+use Rattle.std.proofs.Common.{ℕ, ◌+◌, ◌<◌, ◌≡◌, Bool, true, false, if◌then◌else◌, List, [], ◌++◌, length, flat_map, get_or, set, Option, Some, None, unwrap_or, Contains, ◌⊎◌, arith, refl, sym, ap}
+use Rattle.std.proofs.Common.{◌∙◌, subst, inl, inr, get_or-set_same}
 use Rattle.std.proofs.lemmas.Bool.{cond-false, cases_Bool}
 use Rattle.std.proofs.lemmas.List.Elements.{Contains-append_cases}
 use Rattle.cpg_base.specs.Bus.{round}
@@ -86,7 +87,8 @@ module _ (g : Graph) (limits : IsWithinLimits g) (order : List ℕ) (topological
       | inr i ↦ inr (of_value (active g s.values (producer g here)) refl i)
     ]
       where
-        of_value : (b : Bool) → active g s.values (producer g here) ≡ b → Contains (if b then sent_by_value g s here else []) m → (active g s.values (producer g here) ≡ true) × Contains (sent_by_value g s here) m
+        of_value : (b : Bool) → active g s.values (producer g here) ≡ b → Contains (if b then sent_by_value g s here else []) m → (active g s.values (producer g here) ≡ true) ×
+            Contains (sent_by_value g s here) m
         of_value true e i = (e, i)
         of_value false e i = absurd (Contains-nil m i)
 
@@ -99,19 +101,23 @@ module _ (g : Graph) (limits : IsWithinLimits g) (order : List ℕ) (topological
 
     -- ---- its times
 
-    of_thawed : IsFreeOnce g order rows s t p k old → is_frozen g here ≡ false → after ≡ before → IsSentTree g.faults (share_of g (home g here)) added.goes (ends_of g old (producer g here)) (free_of g old (home g here)) added.sent → Tells s (carried_at_send g order rows s here) (get_or t.times here None) added.sent
+    of_thawed : IsFreeOnce g order rows s t p k old → is_frozen g here ≡ false → after ≡ before →
+        IsSentTree g.faults (share_of g (home g here)) added.goes (ends_of g old (producer g here)) (free_of g old (home g here)) added.sent →
+        Tells s (carried_at_send g order rows s here) (get_or t.times here None) added.sent
     of_thawed o thawed kept slots =
         let share = ap (λ q. share_of g (node_of g q)) by in
         let value = ap (λ h. if item_active g s.values (item_at g here) then slot_from h o.time (get_or t.ends p None) else None) share
         ∙ send_value g order topological s p l frozen t run k inside o.time o.is (same ∙ ap (λ f. get_or f here None) kept ∙ unset) small (λ on. ap (active g s.values) (sym by) ∙ acts on) in
         subst (λ (o : Option ℕ). Tells s (carried_at_send g order rows s here) o added.sent) value
-        (send_line g order rows s few here acts says added.goes of_goes at_most thawed (share_of g (home g here)) (ends_of g old (producer g here)) (free_of g old (home g here)) added.sent (get_or t.ends p None) o.time slots ends_told (waits o))
+        (send_line g order rows s few here acts says added.goes of_goes at_most thawed (share_of g (home g here)) (ends_of g old (producer g here)) (free_of g old (home g here)) added.sent
+        (get_or t.ends p None) o.time slots ends_told (waits o))
 
     would : item_active g s.values (item_at g here) ≡ true → WouldHave g order frozen here (unfrozen_time g order s t here)
     would on = record { scenario = s; lawful = law; times = t; run = run; active = on; has = refl }
 
     -- the frozen time is the run's
-    frozen_time : is_frozen g here ≡ true → (latest : Option ℕ) → get_or frozen here None ≡ latest → (if item_active g s.values (item_at g here) then Some (unwrap_or latest 0) else None) ≡ get_or t.times here None
+    frozen_time : is_frozen g here ≡ true → (latest : Option ℕ) → get_or frozen here None ≡ latest →
+        (if item_active g s.values (item_at g here) then Some (unwrap_or latest 0) else None) ≡ get_or t.times here None
     frozen_time e (Some time) is = frozen_send_value g order frozen s t run here within time is (λ on. (settled e).greatest time (unfrozen_time g order s t here) is (would on))
     frozen_time e None is = elim (cases_Bool (item_active g s.values (item_at g here))) [
       | inl on ↦ absurd ((settled e).none is (unfrozen_time g order s t here) (would on))
@@ -120,7 +126,14 @@ module _ (g : Graph) (limits : IsWithinLimits g) (order : List ℕ) (topological
 
     -- the item itself goes by when its slots are free, if it isn't frozen
     queued_here : is_frozen g here ≡ false → IsQueuedFor g order (place order p) (node_of g p)
-    queued_here thawed = record { other = here; within = within; sent = (in_queue g p here in_here).sent; there = ap (node_of g) by; later = (let e = ap (place order) by in omega (arith, e)); thawed = thawed }
+    queued_here thawed = record {
+      other = here;
+      within = within;
+      sent = (in_queue g p here in_here).sent;
+      there = ap (node_of g) by;
+      later = (let e = ap (place order) by in omega (arith, e));
+      thawed = thawed;
+    }
 
     sends_told : Tells s (carried_at_send g order rows s here) (get_or t.times here None) added.sent
     sends_told = by added.sends
@@ -151,11 +164,14 @@ module _ (g : Graph) (limits : IsWithinLimits g) (order : List ℕ) (topological
     frees_here : IsQueuedFor g order (place order p) (node_of g p) → IsFreeTree g.faults (round g) added.goes added.sent (free_of g old (home g here)) added.freed
     frees_here q = added.frees (subst (λ r. IsQueuedFor g order (place order r) (node_of g r)) (sym by) q)
 
-    free_tells : (o : IsFreeOnce g order rows s t p k old) → IsQueuedFor g order (place order p) (node_of g p) → Tells s (flat_map (queued g order rows s) (sent_so_far g order p (k + 1))) (free_then o) added.freed
+    free_tells : (o : IsFreeOnce g order rows s t p k old) → IsQueuedFor g order (place order p) (node_of g p) →
+        Tells s (flat_map (queued g order rows s) (sent_so_far g order p (k + 1))) (free_then o) added.freed
     free_tells o q = tells_after g order topological s p l k inside rows (free_then o) added.freed
-        (free_line g order rows s few here acts says added.goes of_goes at_most (round g) added.sent (free_of g old (home g here)) added.freed (get_or t.times here None) o.time (frees_here q) sends_told (waits o))
+        (free_line g order rows s few here acts says added.goes of_goes at_most (round g) added.sent (free_of g old (home g here)) added.freed (get_or t.times here None) o.time
+        (frees_here q) sends_told (waits o))
 
-    most_then : (o : IsFreeOnce g order rows s t p k old) (b : Bool) → item_active g s.values (item_at g here) ≡ b → IsMost (IsSentBy g order s p (k + 1)) (free_after g t) (if b then time_later (round g) (get_or t.times here None) else o.time)
+    most_then : (o : IsFreeOnce g order rows s t p k old) (b : Bool) → item_active g s.values (item_at g here) ≡ b →
+        IsMost (IsSentBy g order s p (k + 1)) (free_after g t) (if b then time_later (round g) (get_or t.times here None) else o.time)
     most_then o true on = subst (IsMost (IsSentBy g order s p (k + 1)) (free_after g t)) (sym (later_exact (get_or t.times here None) (round g) (small.times here) (round-le g limits)))
         (free_next g order topological s p l k inside frozen t run o.time o.is on)
     most_then o false off = free_same g order topological s p l k inside t o.time off o.is

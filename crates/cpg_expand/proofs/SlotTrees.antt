@@ -23,7 +23,8 @@ wide_through k x y a b z of_a of_b of_z = record {
   high = λ v. omega (arith, of_a.high v, of_b.high v, of_z.high v);
 }
 
-module _ (share : ShareState) (end : TreeState (Option ℕ)) (free asked both : TreeState ℕ) (each_asked : HasOnePathEach asked.faults asked.paths) (each_both : HasOnePathEach both.faults both.paths) (r : TreeState (Option ℕ))
+module _ (share : ShareState) (end : TreeState (Option ℕ)) (free asked both : TreeState ℕ) (each_asked : HasOnePathEach asked.faults asked.paths) (each_both : HasOnePathEach both.faults both.paths)
+    (r : TreeState (Option ℕ))
     (first : IsMap (λ x z. z ≡ slot_at share x) end asked) (second : IsJoin (λ x y z. z ≡ max x y) asked free both) (third : IsJoin (λ x y z. z ≡ slot_if y x) end both r) where
   module _ (s : Scenario) (few : HasFew end.faults s) (x : Path (Option ℕ)) (on_x : IsOn end.paths s x) (y : Path ℕ) (on_y : IsOn free.paths s y) (z : Path (Option ℕ)) (on_z : IsOn r.paths s z) where
     few_asked : HasFew asked.faults s

@@ -1,5 +1,6 @@
 -- The tree of a start agrees with what is carried beside it.
-use Rattle.std.proofs.Common.{ℕ, ◌<◌, ◌≤◌, ◌≡◌, ◌==◌, nat_lt, not, max, Bool, true, false, if◌then◌else◌, List, [], ◌++◌, length, map, flat_map, get_or, Option, Some, None, Contains, ◌⊎◌, arith, eq-eqb, lt-ltb, refl, sym, ap, ◌∙◌, subst, inl, inr}
+use Rattle.std.proofs.Common.{ℕ, ◌<◌, ◌≤◌, ◌≡◌, ◌==◌, nat_lt, not, max, Bool, true, false, if◌then◌else◌, List, [], ◌++◌, length, map, flat_map, get_or, Option, Some, None, Contains, ◌⊎◌, arith}
+use Rattle.std.proofs.Common.{eq-eqb, lt-ltb, refl, sym, ap, ◌∙◌, subst, inl, inr}
 use Rattle.std.proofs.lemmas.Bool.{and_parts, and_from, cases_eq, ne_eqb}
 use Rattle.std.proofs.lemmas.List.Elements.{Contains-append_cases, Contains-append_left, Contains-append_right}
 use Rattle.cpg_base.specs.Numbers.{greatest}
@@ -58,25 +59,31 @@ pub message_at : (g : Graph) (p e : ℕ) → target g e ≡ p → (node_of g (so
 message_at g p e to other = ap not (ne_eqb (node_of g (source g e)) (node_of g (target g e)) (λ same. other (same ∙ ap (node_of g) to)))
 
 -- a condition of an active process is sent to the other nodes
-pub frame_sent : (g : Graph) (s : Scenario) (p : ℕ) → p < process_count g → ((q : ℕ) → q < process_count g → node_of g q < length g.nodes) → (c : ℕ) → c < condition_count g → active g s.values (process_of g c) ≡ true →
+pub frame_sent : (g : Graph) (s : Scenario) (p : ℕ) → p < process_count g → ((q : ℕ) → q < process_count g → node_of g q < length g.nodes) → (c : ℕ) → c < condition_count g →
+    active g s.values (process_of g c) ≡ true →
     (node_of g (process_of g c) == node_of g p) ≡ false → item_active g s.values (item_at g (broadcast_item g c)) ≡ true
 frame_sent g s p l nodes c low acts e = subst (λ x. item_active g s.values x ≡ true) (sym (item_at-broadcast g c)) (and_from (nat_lt 1 (length g.nodes)) (active g s.values (process_of g c))
-    (lt-ltb 1 (length g.nodes) (many_nodes (node_of g (process_of g c)) (node_of g p) (length g.nodes) (nodes (process_of g c) (process_of_below g c low)) (nodes p l) (λ i. apart (sym (eq-eqb (node_of g (process_of g c)) (node_of g p) i) ∙ e)))) acts)
+    (lt-ltb 1 (length g.nodes) (many_nodes (node_of g (process_of g c)) (node_of g p) (length g.nodes) (nodes (process_of g c) (process_of_below g c low)) (nodes p l)
+    (λ i. apart (sym (eq-eqb (node_of g (process_of g c)) (node_of g p) i) ∙ e)))) acts)
   where
     apart : true ≡ false → ⊥
     apart e = cc
 
-module _ (g : Graph) (limits : IsWithinLimits g) (order : List ℕ) (topological : IsTopological g order) (joins : HasSingleJoins g) (urgency : List ℕ) (is_urgency : IsUrgencyOrder g urgency) (urgent : IsTopological g urgency)
+module _ (g : Graph) (limits : IsWithinLimits g) (order : List ℕ) (topological : IsTopological g order) (joins : HasSingleJoins g) (urgency : List ℕ) (is_urgency : IsUrgencyOrder g urgency)
+    (urgent : IsTopological g urgency)
     (rows : List (List Column)) (s : Scenario) (long : length s.values ≡ condition_count g) (few : HasFew g.faults s) (t : Times) (small : AreSmall t) (f : ForestState)
-    (p : ℕ) (l : p < process_count g) (nodes : (q : ℕ) → q < process_count g → node_of g q < length g.nodes) (told : HasTold g order rows s t (place order p) f) (guard : Guard) (is_guard : IsGuardOf g urgency p guard) where
+    (p : ℕ) (l : p < process_count g) (nodes : (q : ℕ) → q < process_count g → node_of g q < length g.nodes) (told : HasTold g order rows s t (place order p) f) (guard : Guard)
+    (is_guard : IsGuardOf g urgency p guard) where
   -- the conditions on the way are those that decide the process
   pub on_way : (c : ℕ) → Contains (way guard s.values) c → Contains (deciding g s.values p) c
   on_way c j =
-      let r = Contains-filter_parts (decides g s.values p) (conditions_along g urgency) c (subst (λ cs. Contains cs c) (ways_are_deciding g urgency p guard s.values is_urgency urgent is_guard long) j) in
+      let r = Contains-filter_parts (decides g s.values p) (conditions_along g urgency) c
+      (subst (λ cs. Contains cs c) (ways_are_deciding g urgency p guard s.values is_urgency urgent is_guard long) j) in
       Contains-filter (decides g s.values p) _ c r.1 (Contains-numbers (condition_count g) c (from_along g urgency c r.0).0)
 
   -- what tells when the node hears one of them
-  pub heard_told : (c : ℕ) → Contains (way guard s.values) c → Tells s (heard_tell g order topological rows s (node_of g p) c) (heard_time g limits t small (node_of g p) c) (heard_tree g f (node_of g p) c)
+  pub heard_told : (c : ℕ) → Contains (way guard s.values) c → Tells s (heard_tell g order topological rows s (node_of g p) c) (heard_time g limits t small (node_of g p) c)
+      (heard_tree g f (node_of g p) c)
   heard_told c j = by (node_of g (process_of g c) == node_of g p) refl
     where
       decides_it : Contains (deciding g s.values p) c
@@ -94,7 +101,8 @@ module _ (g : Graph) (limits : IsWithinLimits g) (order : List ℕ) (topological
       sent_at : (node_of g (process_of g c) == node_of g p) ≡ false → item_active g s.values (item_at g (broadcast_item g c)) ≡ true
       sent_at e = frame_sent g s p l nodes c low acts e
 
-      by : (b : Bool) → (node_of g (process_of g c) == node_of g p) ≡ b → Tells s (if b then carried_at_end g order rows s (process_of g c) else told_by rows s (broadcast_item g c)) (if b then get_or t.ends (process_of g c) None else get_or t.times (broadcast_item g c) None)
+      by : (b : Bool) → (node_of g (process_of g c) == node_of g p) ≡ b → Tells s (if b then carried_at_end g order rows s (process_of g c) else told_by rows s (broadcast_item g c))
+          (if b then get_or t.ends (process_of g c) None else get_or t.times (broadcast_item g c) None)
           (if b then ends_of g f (process_of g c) else times_of g f (broadcast_item g c))
       by true e = told.ends (process_of g c) (process_of_below g c low) (decides_earlier g order topological s.values p c low decided_true) acts
       by false e = let r = hears_earlier g order topological s p c decides_it in told.sends (broadcast_item g c) r.0 (omega arith) r.1 (sent_at e)
@@ -109,13 +117,15 @@ module _ (g : Graph) (limits : IsWithinLimits g) (order : List ℕ) (topological
       earlier : place order (source g e) < place order p
       earlier = input_goes_up g order topological p e j
 
-      by : (b : Bool) → is_message g e ≡ b → Tells s (if b then told_by rows s (message_item g e) else carried_at_end g order rows s (source g e)) (if b then get_or t.times (message_item g e) None else get_or t.ends (source g e) None)
+      by : (b : Bool) → is_message g e ≡ b → Tells s (if b then told_by rows s (message_item g e) else carried_at_end g order rows s (source g e))
+          (if b then get_or t.times (message_item g e) None else get_or t.ends (source g e) None)
           (if b then times_of g f (message_item g e) else ends_of g f (source g e))
       by true m = told.sends (message_item g e) (let n = parts.0 in omega arith) (omega arith) (let n = ap (place order) (producer_of_message g e parts.0) in omega (arith, n, earlier))
           (subst (λ x. item_active g s.values x ≡ true) (sym (item_at-message g e parts.0)) (and_from (is_message g e) (live g s.values e) m on))
       by false m = told.ends (source g e) (source_in_order g order topological e parts.0) earlier (and_parts _ _ on).0
 
-  module _ (wait : TreeState ℕ) (waits : IsWaitTree g f (node_of g p) guard wait) (r : ℕ) (is_ready : IsReady g order s t (place order p) (node_of g p) r) (ready : Tells s (flat_map (passed g rows s) (before_on_node g order p)) r (ready_of g f (node_of g p))) where
+  module _ (wait : TreeState ℕ) (waits : IsWaitTree g f (node_of g p) guard wait) (r : ℕ) (is_ready : IsReady g order s t (place order p) (node_of g p) r)
+      (ready : Tells s (flat_map (passed g rows s) (before_on_node g order p)) r (ready_of g f (node_of g p))) where
     abbrev waited : ℕ
     waited = max r (greatest (map (heard_there g t (node_of g p)) (way guard s.values)))
 
@@ -129,9 +139,11 @@ module _ (g : Graph) (limits : IsWithinLimits g) (order : List ℕ) (topological
         (λ z e. e ∙ ap (max r) (latest_heard g limits t small (node_of g p) (way guard s.values)))
         (waits s few (flat_map (passed g rows s) (before_on_node g order p)) r ready (heard_tell g order topological rows s (node_of g p)) (heard_time g limits t small (node_of g p)) heard_told)
       where
-        within : (x : Literal) → Contains (flat_map (passed g rows s) (before_on_node g order p) ++ told_of s (heard_tell g order topological rows s (node_of g p)) (way guard s.values)) x → Contains wait_says x
+        within : (x : Literal) → Contains (flat_map (passed g rows s) (before_on_node g order p) ++ told_of s (heard_tell g order topological rows s (node_of g p)) (way guard s.values)) x →
+            Contains wait_says x
         within x j = elim (Contains-append_cases (flat_map (passed g rows s) (before_on_node g order p)) (told_of s (heard_tell g order topological rows s (node_of g p)) (way guard s.values)) x j) [
-          | inl i ↦ Contains-append_left (flat_map (passed g rows s) (before_on_node g order p) ++ decided g s p) (heard g rows s p) x (Contains-append_left (flat_map (passed g rows s) (before_on_node g order p)) (decided g s p) x i)
+          | inl i ↦ Contains-append_left (flat_map (passed g rows s) (before_on_node g order p) ++ decided g s p) (heard g rows s p) x
+              (Contains-append_left (flat_map (passed g rows s) (before_on_node g order p)) (decided g s p) x i)
           | inr i ↦ tests_carried g order topological rows s urgency is_urgency urgent p (way guard s.values) on_way x i
         ]
 
@@ -158,7 +170,8 @@ module _ (g : Graph) (limits : IsWithinLimits g) (order : List ℕ) (topological
     there : AreThere g (input_time g limits t small) waited (awaited (inputs g p) (outcome_at guard s.values))
     there e j own =
         let k = live_input e j in
-        let ended : end_in t (source g e) ≤ r = is_ready.ends (source g e) (source_in_order g order topological e (inputs_parts g p e k.0).0) (input_goes_up g order topological p e k.0) (same_node (ends_there e k.0)) (and_parts _ _ k.1).0 in
+        let ended : end_in t (source g e) ≤ r = is_ready.ends (source g e) (source_in_order g order topological e (inputs_parts g p e k.0).0) (input_goes_up g order topological p e k.0)
+        (same_node (ends_there e k.0)) (and_parts _ _ k.1).0 in
         subst (λ (b : Bool). time_later 0 (if b then get_or t.times (message_item g e) None else get_or t.ends (source g e) None) ≤ waited) (sym own)
         (omega (arith, later_exact (get_or t.ends (source g e) None) 0 (small.ends (source g e)) (omega arith), ended))
       where
@@ -172,8 +185,10 @@ module _ (g : Graph) (limits : IsWithinLimits g) (order : List ℕ) (topological
     -- the line of a start that isn't frozen
     pub start_line : (start : TreeState (Option ℕ)) → IsStartTree g f wait (process_at g p).release (inputs g p) guard start → (process_at g p).frozen ≡ false →
         Tells s (carried_at_start g order rows s p) (if active g s.values p then Some (max (max waited (process_at g p).release) (greatest (input_bounds g s t p))) else None) start
-    start_line start starts thawed = agrees_weaker s start says (carried_at_start g order rows s p) (λ z. z ≡ at) (λ z. z ≡ (if active g s.values p then Some (max (max waited (process_at g p).release) (greatest (input_bounds g s t p))) else None)) within
-        (λ z e. e ∙ ap (λ (a : Activation). start_at waited (process_at g p).release (input_delay g) (input_time g limits t small) (inputs g p) a) leads ∙ start_exact g limits order topological joins s long t small p l waited)
+    start_line start starts thawed = agrees_weaker s start says (carried_at_start g order rows s p) (λ z. z ≡ at)
+        (λ z. z ≡ (if active g s.values p then Some (max (max waited (process_at g p).release) (greatest (input_bounds g s t p))) else None)) within
+        (λ z e. e ∙ ap (λ (a : Activation). start_at waited (process_at g p).release (input_delay g) (input_time g limits t small) (inputs g p) a) leads ∙
+        start_exact g limits order topological joins s long t small p l waited)
         (starts s few wait_says waited wait_line (input_tell g order topological rows s) (input_time g limits t small) there (λ e j. let k = live_input e j in input_told e k.0 k.1))
       where
         says : List Literal
@@ -182,19 +197,22 @@ module _ (g : Graph) (limits : IsWithinLimits g) (order : List ℕ) (topological
         at : Option ℕ
         at = start_at waited (process_at g p).release (input_delay g) (input_time g limits t small) (inputs g p) (outcome_at guard s.values)
 
-        of_start : (b : Bool) (x : Literal) → Contains (if b then wait_says ++ flat_map (input_tell g order topological rows s) (awaited (inputs g p) (outcome_at guard s.values)) else []) x → Contains (carried_at_start g order rows s p) x
+        of_start : (b : Bool) (x : Literal) → Contains (if b then wait_says ++ flat_map (input_tell g order topological rows s) (awaited (inputs g p) (outcome_at guard s.values)) else []) x →
+            Contains (carried_at_start g order rows s p) x
         of_start false x j = absurd (Contains-nil x j)
         of_start true x j = elim (Contains-append_cases wait_says (flat_map (input_tell g order topological rows s) (awaited (inputs g p) (outcome_at guard s.values))) x j) [
           | inl i ↦ start_carried g order topological rows s p thawed x (inl i)
           | inr i ↦ let r = Contains-flat_map_parts (input_tell g order topological rows s) (awaited (inputs g p) (outcome_at guard s.values)) x i in
               let k = live_input r.0 r.1 in
-              start_carried g order topological rows s p thawed x (inr (input_carried g order topological rows s p r.0 k.0 (ends_there r.0 k.0) (source_in_order g order topological r.0 (inputs_parts g p r.0 k.0).0) (and_parts _ _ k.1).0 x r.2))
+              start_carried g order topological rows s p thawed x
+              (inr (input_carried g order topological rows s p r.0 k.0 (ends_there r.0 k.0) (source_in_order g order topological r.0 (inputs_parts g p r.0 k.0).0) (and_parts _ _ k.1).0 x r.2))
         ]
 
         within : (x : Literal) → Contains says x → Contains (carried_at_start g order rows s p) x
         within x j = elim (Contains-append_cases (values_known s (way guard s.values)) (start_says wait_says (input_tell g order topological rows s) (inputs g p) (outcome_at guard s.values)) x j) [
           | inl i ↦ let r = Contains-map_parts (value_known s) (way guard s.values) x i in
               start_carried g order topological rows s p thawed x (inl (Contains-append_left (flat_map (passed g rows s) (before_on_node g order p) ++ decided g s p) (heard g rows s p) x
-              (Contains-append_right (flat_map (passed g rows s) (before_on_node g order p)) (decided g s p) x (subst (Contains (decided g s p)) r.2 (Contains-map (value_known s) (deciding g s.values p) r.0 (on_way r.0 r.1))))))
+              (Contains-append_right (flat_map (passed g rows s) (before_on_node g order p)) (decided g s p) x
+              (subst (Contains (decided g s p)) r.2 (Contains-map (value_known s) (deciding g s.values p) r.0 (on_way r.0 r.1))))))
           | inr i ↦ of_start (is_active (outcome_at guard s.values)) x i
         ]

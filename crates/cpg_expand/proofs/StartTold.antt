@@ -1,11 +1,13 @@
 -- What the trees tell of a start in one scenario with its run.
-use Rattle.std.proofs.Common.{ℕ, ◌+◌, ◌<◌, ◌≤◌, ◌≡◌, ◌⊎◌, ◌==◌, Bool, true, false, if◌then◌else◌, List, [], ◌∷◌, ◌++◌, length, flat_map, get_or, Option, Some, None, unwrap_or, option_map, Contains, arith, refl, sym, ap, ◌∙◌, subst, inl, inr}
+use Rattle.std.proofs.Common.{ℕ, ◌+◌, ◌<◌, ◌≤◌, ◌≡◌, ◌⊎◌, ◌==◌, Bool, true, false, if◌then◌else◌, List, [], ◌∷◌, ◌++◌, length, flat_map, get_or, Option, Some, None, unwrap_or, option_map, Contains}
+use Rattle.std.proofs.Common.{arith, refl, sym, ap, ◌∙◌, subst, inl, inr}
 use Rattle.std.proofs.lemmas.Bool.{and_from, and_parts, cases_eq, cases_lt}
 use Rattle.std.proofs.lemmas.List.Elements.{Contains-append_cases, Contains-append_left, Contains-append_right}
 use Rattle.std.proofs.lemmas.Option.{none-some}
 use Rattle.cpg_base.specs.Numbers.{greatest, numbers_below}
 use Rattle.cpg_base.specs.Duration.{duration}
-use Rattle.cpg_base.specs.Graph.{Graph, process_count, condition_count, item_count, item_at, node_of, source, edge_count, target, inputs, is_message, message_item, process_of, broadcast_item, producer}
+use Rattle.cpg_base.specs.Graph.{Graph, process_count, condition_count, item_count, item_at, node_of, source, edge_count, target, inputs, is_message, message_item, process_of, broadcast_item}
+use Rattle.cpg_base.specs.Graph.{producer}
 use Rattle.cpg_base.specs.Activity.{active, is_active, live, item_active}
 use Rattle.cpg_base.specs.Limits.{IsWithinLimits}
 use Rattle.cpg_base.specs.WellFormed.{HasSingleJoins}
@@ -29,7 +31,7 @@ use Rattle.cpg_cube.specs.Column.{Column}
 use Rattle.cpg_run.specs.Run.{Times, IsRun, end_in, time_in, frame_there, input_there, heard_there, start_bounds}
 use Rattle.cpg_run.specs.Known.{AreSmall}
 use Rattle.cpg_run.proofs.Runs.{acts_start, before_below, end_active, end_is, has_end, has_time, hearing_below, time_parts}
-use Rattle.cpg_paths.specs.Greatest.{HasValue}
+use Rattle.cpg_tree_columns.specs.Greatest.{HasValue}
 use Rattle.cpg_tree.specs.Space.{HasFew}
 use Rattle.cpg_tree.specs.Tree.{Path, TreeState, IsOn, HasOnePathEach}
 use Rattle.cpg_tree.proofs.OnePath.{scenario_few, the_path}
@@ -70,9 +72,12 @@ always_acts (Test c off on) o e =
     by true high low = high
     by false high low = low
 
-module _ (g : Graph) (limits : IsWithinLimits g) (order : List ℕ) (topological : IsTopological g order) (joins : HasSingleJoins g) (urgency : List ℕ) (is_urgency : IsUrgencyOrder g urgency) (urgent : IsTopological g urgency)
-    (rows : List (List Column)) (s : Scenario) (law : IsScenario g s) (frozen : List (Option ℕ)) (t : Times) (run : IsRun g order frozen s t) (small : AreSmall t) (f : ForestState) (has : HasTrees g f)
-    (p : ℕ) (l : p < process_count g) (nodes : (q : ℕ) → q < process_count g → node_of g q < length g.nodes) (told : HasTold g order rows s t (place order p) f) (lines : Lines g order rows s t (place order p) f)
+module _ (g : Graph) (limits : IsWithinLimits g) (order : List ℕ) (topological : IsTopological g order) (joins : HasSingleJoins g) (urgency : List ℕ) (is_urgency : IsUrgencyOrder g urgency)
+    (urgent : IsTopological g urgency)
+    (rows : List (List Column)) (s : Scenario) (law : IsScenario g s) (frozen : List (Option ℕ)) (t : Times) (run : IsRun g order frozen s t) (small : AreSmall t) (f : ForestState)
+    (has : HasTrees g f)
+    (p : ℕ) (l : p < process_count g) (nodes : (q : ℕ) → q < process_count g → node_of g q < length g.nodes) (told : HasTold g order rows s t (place order p) f)
+    (lines : Lines g order rows s t (place order p) f)
     (guards : Guards) (are : (q : ℕ) → q < process_count g → IsGuardOf g urgency q (tree_of guards q)) (chooser : TreeState Bool) (actives : IsActiveTree g.faults (tree_of guards p) chooser)
     (from : ℕ) (cut : IsCut g order guards (node_of g p) (place order p) from) where
   few : HasFew g.faults s
@@ -179,7 +184,8 @@ module _ (g : Graph) (limits : IsWithinLimits g) (order : List ℕ) (topological
       own_there : HasEndAt g order f from p s (input_there g t e)
       own_there =
           let is : input_there g t e ≡ end_in t (source g e) = ap (λ (b : Bool). if b then frame_there g t (message_item g e) else end_in t (source g e)) own in
-          subst (HasEndAt g order f from p s) (sym is) (before_ended (source g e) (source_in_order g order topological e parts.0) (input_goes_up g order topological p e c) same_node (and_parts _ _ lives).0)
+          subst (HasEndAt g order f from p s) (sym is)
+          (before_ended (source g e) (source_in_order g order topological e parts.0) (input_goes_up g order topological p e c) same_node (and_parts _ _ lives).0)
 
   -- a condition on the way of a process at its place or before it
   module _ (q : ℕ) (k : q < process_count g) (no_later : place order q ≤ place order p) where
@@ -222,7 +228,8 @@ module _ (g : Graph) (limits : IsWithinLimits g) (order : List ℕ) (topological
     heard_value time h = sym (heard_exact g limits t small (node_of g q) c) ∙ ap (time_later (heard_delay g (node_of g q) c)) (sym (line_of.value h.0 h.1) ∙ h.2)
 
   -- what decides one of them has been heard
-  module _ (q : ℕ) (k : q < process_count g) (there : node_of g q ≡ node_of g p) (no_later : place order q ≤ place order p) (c : ℕ) (low : c < condition_count g) (d : decides g s.values q c ≡ true) where
+  module _ (q : ℕ) (k : q < process_count g) (there : node_of g q ≡ node_of g p) (no_later : place order q ≤ place order p) (c : ℕ) (low : c < condition_count g)
+      (d : decides g s.values q c ≡ true) where
     abbrev Heard : ℕ → Type 0
     Heard node = (time : ℕ) × HasValue (heard_tree g f node c).paths (Some time) s × (heard_there g t node c ≡ time_later (heard_delay g node c) (Some time))
 
@@ -232,7 +239,13 @@ module _ (g : Graph) (limits : IsWithinLimits g) (order : List ℕ) (topological
         let r : Heard (node_of g p) = subst Heard there (heard_path q k no_later c j) in
         record {
           below = low;
-          asked = record { process = q; below = k; between = record { within = k; there = there; after = after; sooner = omega (arith, no_later) }; tested = tested_from (tree_of guards q) s.values c j };
+          asked = record {
+            process = q;
+            below = k;
+            between = record { within = k; there = there; after = after; sooner = omega (arith, no_later) };
+            tested =
+                tested_from (tree_of guards q) s.values c j;
+          };
           time = r.0;
           has = r.1;
           is = r.2;
@@ -257,7 +270,8 @@ module _ (g : Graph) (limits : IsWithinLimits g) (order : List ℕ) (topological
       | inr after ↦ inr (heard_at after)
     ]
 
-  what_hears : (c : ℕ) → Contains (flat_map (deciding g s.values) (before_on_node g order p ++ p ∷ [])) c → HasEndAt g order f from p s (heard_there g t (node_of g p) c) ⊎ IsHeardAt g order guards f from p s t c
+  what_hears : (c : ℕ) → Contains (flat_map (deciding g s.values) (before_on_node g order p ++ p ∷ [])) c → HasEndAt g order f from p s (heard_there g t (node_of g p) c) ⊎
+      IsHeardAt g order guards f from p s t c
   what_hears c j =
       let q = Contains-flat_map_parts (deciding g s.values) (before_on_node g order p ++ p ∷ []) c j in
       let r = Contains-filter_parts (decides g s.values q.0) (numbers_below (condition_count g)) c q.2 in
@@ -275,7 +289,8 @@ module _ (g : Graph) (limits : IsWithinLimits g) (order : List ℕ) (topological
   among q k there sooner = elim (cases_lt (place order q) (place order p)) [
     | inl less ↦ Contains-append_left (before_on_node g order p) (p ∷ []) q (before_in g order topological s t p q k less there)
     | inr more ↦ subst (Contains (before_on_node g order p ++ p ∷ []))
-        (same_place order p q (Contains-order (process_count g) order topological.all p l) (Contains-order (process_count g) order topological.all q k) (let e : place order p ≡ place order q = omega (arith, sooner, more) in e))
+        (same_place order p q (Contains-order (process_count g) order topological.all p l) (Contains-order (process_count g) order topological.all q k)
+        (let e : place order p ≡ place order q = omega (arith, sooner, more) in e))
         (Contains-append_right (before_on_node g order p) (p ∷ []) p (Contains-first p []))
   ]
 

@@ -1,5 +1,6 @@
 -- The time of a start that isn't frozen, and the end after it, are the run's.
-use Rattle.std.proofs.Common.{ℕ, ◌+◌, ◌^◌, ◌<◌, ◌≤◌, ◌≡◌, nat_lt, max, Bool, true, false, if◌then◌else◌, List, ◌∷◌, length, map, filter, get_or, Option, Some, None, unwrap_or, option_map, option_to_list, Contains, arith, le-ltb, lt-ltb, refl, sym, ap, ◌∙◌, subst}
+use Rattle.std.proofs.Common.{ℕ, ◌+◌, ◌^◌, ◌<◌, ◌≤◌, ◌≡◌, nat_lt, max, Bool, true, false, if◌then◌else◌, List, ◌∷◌, length, map, filter, get_or, Option, Some, None, unwrap_or, option_map}
+use Rattle.std.proofs.Common.{option_to_list, Contains, arith, le-ltb, lt-ltb, refl, sym, ap, ◌∙◌, subst}
 use Rattle.std.proofs.lemmas.Bool.{cond-true, cond-false}
 use Rattle.cpg_base.specs.Numbers.{greatest, numbers_below}
 use Rattle.cpg_base.specs.Limits.{IsWithinLimits}
@@ -41,10 +42,14 @@ settled g order t i = record {
 settled_knows : (g : Graph) (order : List ℕ) (t : Times) (i : ℕ) → Knows g order t i (settled g order t i)
 unfolding settled
 settled_knows g order t i = record {
-  times = λ x l h. get_or-map-below (λ x. if nat_lt (place order (producer g x)) i then get_or t.times x None else None) (item_count g) x None l ∙ cond-true _ (get_or t.times x None) None (lt-ltb (place order (producer g x)) i h);
-  later = λ x l h. get_or-map-below (λ x. if nat_lt (place order (producer g x)) i then get_or t.times x None else None) (item_count g) x None l ∙ cond-false _ (get_or t.times x None) None (le-ltb (place order (producer g x)) i h);
-  ends = λ p l h. get_or-map-below (λ p. if nat_lt (place order p) i then get_or t.ends p None else None) (process_count g) p None l ∙ cond-true _ (get_or t.ends p None) None (lt-ltb (place order p) i h);
-  no_ends = λ p l h. get_or-map-below (λ p. if nat_lt (place order p) i then get_or t.ends p None else None) (process_count g) p None l ∙ cond-false _ (get_or t.ends p None) None (le-ltb (place order p) i h);
+  times = λ x l h. get_or-map-below (λ x. if nat_lt (place order (producer g x)) i then get_or t.times x None else None) (item_count g) x None l ∙
+      cond-true _ (get_or t.times x None) None (lt-ltb (place order (producer g x)) i h);
+  later = λ x l h. get_or-map-below (λ x. if nat_lt (place order (producer g x)) i then get_or t.times x None else None) (item_count g) x None l ∙
+      cond-false _ (get_or t.times x None) None (le-ltb (place order (producer g x)) i h);
+  ends = λ p l h. get_or-map-below (λ p. if nat_lt (place order p) i then get_or t.ends p None else None) (process_count g) p None l ∙
+      cond-true _ (get_or t.ends p None) None (lt-ltb (place order p) i h);
+  no_ends = λ p l h. get_or-map-below (λ p. if nat_lt (place order p) i then get_or t.ends p None else None) (process_count g) p None l ∙
+      cond-false _ (get_or t.ends p None) None (le-ltb (place order p) i h);
 }
 
 -- an option that is there by a test
@@ -53,7 +58,8 @@ by_test true n m o is e = ap (λ k. Some k) (e refl ∙ ap (λ p. unwrap_or p 0)
 by_test false n m o is e = sym is
 
 module _ (g : Graph) (order : List ℕ) (topological : IsTopological g order) (urgency : List ℕ) (is_urgency : IsUrgencyOrder g urgency) (urgent : IsTopological g urgency) (frozen : List (Option ℕ))
-    (s : Scenario) (long : length s.values ≡ condition_count g) (t : Times) (run : IsRun g order frozen s t) (p : ℕ) (l : p < process_count g) (guard : Guard) (is_guard : IsGuardOf g urgency p guard) (r : ℕ) (ready : IsReady g order s t (place order p) (node_of g p) r) where
+    (s : Scenario) (long : length s.values ≡ condition_count g) (t : Times) (run : IsRun g order frozen s t) (p : ℕ) (l : p < process_count g) (guard : Guard) (is_guard : IsGuardOf g urgency p guard)
+    (r : ℕ) (ready : IsReady g order s t (place order p) (node_of g p) r) where
   known : Times
   known = settled g order t (place order p)
 
@@ -77,7 +83,8 @@ module _ (g : Graph) (order : List ℕ) (topological : IsTopological g order) (u
 
   same_inputs : greatest (input_bounds g s known p) ≡ greatest (input_bounds g s t p)
   same_inputs =
-      let same = λ (e : ℕ) (j : Contains (filter (live g s.values) (inputs g p)) e). known_input g order t (place order p) known knows topological s p l refl e (Contains-filter_parts (live g s.values) (inputs g p) e j).0 in
+      let same = λ (e : ℕ) (j : Contains (filter (live g s.values) (inputs g p)) e). known_input g order t (place order p) known knows topological s p l refl e
+      (Contains-filter_parts (live g s.values) (inputs g p) e j).0 in
       omega (
         arith,
         greatest-map-le (input_there g known) (input_there g t) (filter (live g s.values) (inputs g p)) (λ e j. omega (arith, same e j)),
@@ -99,7 +106,8 @@ module _ (g : Graph) (order : List ℕ) (topological : IsTopological g order) (u
 
   -- the start that the trees tell is the run's
   pub start_value : get_or frozen p None ≡ None → (if active g s.values p then Some (max (max waited (process_at g p).release) (greatest (input_bounds g s t p))) else None) ≡ get_or t.times p None
-  start_value thawed = by_test (active g s.values p) (greatest (unfrozen_time g order s t p ∷ option_to_list (get_or frozen p None))) (max (max waited (process_at g p).release) (greatest (input_bounds g s t p))) (get_or t.times p None)
+  start_value thawed = by_test (active g s.values p) (greatest (unfrozen_time g order s t p ∷ option_to_list (get_or frozen p None)))
+      (max (max waited (process_at g p).release) (greatest (input_bounds g s t p))) (get_or t.times p None)
       (time_at ∙ ap (λ (b : Bool). if b then Some (greatest (unfrozen_time g order s t p ∷ option_to_list (get_or frozen p None))) else None) (ap (item_active g s.values) (item_at-start g p l)))
       (λ on.
       let found = start_is g order t (place order p) known knows topological s p l refl frozen run on r (greatest (map (heard_there g t (node_of g p)) (way guard s.values))) ready most_known in
@@ -111,16 +119,20 @@ ended_by : (ds : List ℕ) (n d : ℕ) (o : Option ℕ) → get_or ds n 0 ≡ d 
 ended_by ds n d None e h k = refl
 ended_by ds n d (Some start) e h k = ap (λ m. Some m) (omega (arith, e, h, k))
 
-module _ (g : Graph) (limits : IsWithinLimits g) (order : List ℕ) (frozen : List (Option ℕ)) (s : Scenario) (law : IsScenario g s) (t : Times) (run : IsRun g order frozen s t) (small : AreSmall t) (p : ℕ) (l : p < process_count g) (few : fault_of s p ≤ g.faults) where
+module _ (g : Graph) (limits : IsWithinLimits g) (order : List ℕ) (frozen : List (Option ℕ)) (s : Scenario) (law : IsScenario g s) (t : Times) (run : IsRun g order frozen s t) (small : AreSmall t)
+    (p : ℕ) (l : p < process_count g) (few : fault_of s p ≤ g.faults) where
   count_is : number_of s p ≡ fault_of s p
   count_is = cond-true _ (fault_of s p) _ (lt-ltb p 128 (let m = limits.few_processes in omega arith))
 
   -- the end that the trees tell is the run's
   pub end_value : ended (durations_of g p) (number_of s p) (get_or t.times p None) ≡ get_or t.ends p None
   end_value = ap (λ n. ended (durations_of g p) n (get_or t.times p None)) count_is
-      ∙ ended_by (durations_of g p) (fault_of s p) (duration g p (fault_of s p)) (get_or t.times p None) (get_or-map-below (duration g p) (g.faults + 1) (fault_of s p) 0 (omega (arith, few))) (duration_short g limits p (fault_of s p) l few) (small.times p)
+      ∙ ended_by (durations_of g p) (fault_of s p) (duration g p (fault_of s p)) (get_or t.times p None) (get_or-map-below (duration g p) (g.faults + 1) (fault_of s p) 0 (omega (arith, few)))
+      (duration_short g limits p (fault_of s p) l few) (small.times p)
       ∙ sym (ap (λ es. get_or es p None) run.ends ∙ get_or-map-below (end_by g s t) (process_count g) p None l)
 
   -- the line of an end
-  pub end_line : (rows : List (List Column)) (start end : TreeState (Option ℕ)) → HasFew g.faults s → IsEndTree g p start end → Tells s (carried_at_start g order rows s p) (get_or t.times p None) start → Tells s (carried_at_end g order rows s p) (get_or t.ends p None) end
-  end_line rows start end few ends starts = subst (λ (o : Option ℕ). Tells s (carried_at_end g order rows s p) o end) end_value (ends s few (carried_at_start g order rows s p) (get_or t.times p None) starts)
+  pub end_line : (rows : List (List Column)) (start end : TreeState (Option ℕ)) → HasFew g.faults s → IsEndTree g p start end →
+      Tells s (carried_at_start g order rows s p) (get_or t.times p None) start → Tells s (carried_at_end g order rows s p) (get_or t.ends p None) end
+  end_line rows start end few ends starts = subst (λ (o : Option ℕ). Tells s (carried_at_end g order rows s p) o end) end_value
+      (ends s few (carried_at_start g order rows s p) (get_or t.times p None) starts)

@@ -27,7 +27,8 @@ use Rattle.cpg_expand.proofs.TreesTold.{as_read, each_of, few_of, from_ends, las
 module _ {T U V : Type 0} (g : Graph) (number : T → ℕ) (other_number : U → ℕ) (makes : ℕ → V) (none : V) (chooser : TreeState Bool) (a : TreeState T) (b : TreeState U) (t : TreeState V)
     (of_chooser : IsTree g chooser) (of_a : IsTree g a) (of_b : IsTree g b) (made : IsJoinWhere (λ x y z. z ≡ makes (max (number x) (other_number y))) none chooser a b t)
     (s : Scenario) (few : HasFew g.faults s) (told : List Literal) where
-  made_where : (first second : List Literal) (x y : ℕ) → Tells s told true chooser → Agrees s first (λ v. number v ≡ x) a → Agrees s second (λ w. other_number w ≡ y) b → Tells s (told ++ (first ++ second)) (makes (max x y)) t
+  made_where : (first second : List Literal) (x y : ℕ) → Tells s told true chooser → Agrees s first (λ v. number v ≡ x) a → Agrees s second (λ w. other_number w ≡ y) b →
+      Tells s (told ++ (first ++ second)) (makes (max x y)) t
   made_where first second x y on tells other =
       agrees_where s (λ v w z. z ≡ makes (max (number v) (other_number w))) none chooser a b t told first second (λ v. number v ≡ x) (λ w. other_number w ≡ y) (λ z. z ≡ makes (max x y))
       (few_of g.faults chooser.faults s of_chooser.faults few) (of_a.faults ∙ sym of_chooser.faults) (of_b.faults ∙ sym of_chooser.faults)
@@ -35,10 +36,12 @@ module _ {T U V : Type 0} (g : Graph) (number : T → ℕ) (other_number : U →
       made (λ v w z d e i. i ∙ ap₂ (λ m n. makes (max m n)) d e) on tells other
 
   -- what the second tells stands first
-  made_where_turned : (first second : List Literal) (x y : ℕ) → Tells s told true chooser → Agrees s first (λ v. number v ≡ x) a → Agrees s second (λ w. other_number w ≡ y) b → Tells s (told ++ (second ++ first)) (makes (max y x)) t
+  made_where_turned : (first second : List Literal) (x y : ℕ) → Tells s told true chooser → Agrees s first (λ v. number v ≡ x) a → Agrees s second (λ w. other_number w ≡ y) b →
+      Tells s (told ++ (second ++ first)) (makes (max y x)) t
   made_where_turned first second x y on tells other =
       agrees_weaker s t (told ++ (first ++ second)) (told ++ (second ++ first)) (λ z. z ≡ makes (max x y)) (λ z. z ≡ makes (max y x))
-      (told_as_first told (first ++ second) (second ++ first) (λ l j. elim (Contains-append_cases first second l j) [ inl i ↦ Contains-append_right second first l i | inr i ↦ Contains-append_left second first l i ]))
+      (told_as_first told (first ++ second) (second ++ first)
+      (λ l j. elim (Contains-append_cases first second l j) [ inl i ↦ Contains-append_right second first l i | inr i ↦ Contains-append_left second first l i ]))
       (λ z e. e ∙ ap makes (let same : max x y ≡ max y x = omega arith in same)) (made_where first second x y on tells other)
 
   made_elsewhere : Tells s told false chooser → Tells s told none t
@@ -46,7 +49,8 @@ module _ {T U V : Type 0} (g : Graph) (number : T → ℕ) (other_number : U →
       (few_of g.faults chooser.faults s of_chooser.faults few) (each_of g chooser.faults chooser of_chooser.faults of_chooser) made off
 
 -- what is told of a tree that is read of a forest
-module _ (g : Graph) (release delay d : ℕ) (same_delay : delay ≡ d) (times read : TreeState (Option ℕ)) (is : times ≡ read) (of_times : IsTree g times) (chooser : TreeState Bool) (of_chooser : IsTree g chooser) where
+module _ (g : Graph) (release delay d : ℕ) (same_delay : delay ≡ d) (times read : TreeState (Option ℕ)) (is : times ≡ read) (of_times : IsTree g times) (chooser : TreeState Bool)
+    (of_chooser : IsTree g chooser) where
   abbrev start_of : ℕ → Option ℕ
   start_of n = Some (max n release)
 
@@ -55,12 +59,14 @@ module _ (g : Graph) (release delay d : ℕ) (same_delay : delay ≡ d) (times r
       IsReleasedWhere g.faults chooser wait (later_by d read) release t
   read_where wait t of_wait made = record {
     on = λ s few told first second x y on tells there.
-        made_where g (λ n. n) (time_later delay) start_of None chooser wait times t of_chooser of_wait of_times made s few told first second x y on tells (as_read g start_of delay d same_delay times read is of_times s second y there);
+        made_where g (λ n. n) (time_later delay) start_of None chooser wait times t of_chooser of_wait of_times made s few told first second x y on tells
+        (as_read g start_of delay d same_delay times read is of_times s second y there);
     off = λ s few told off. made_elsewhere g (λ n. n) (time_later delay) start_of None chooser wait times t of_chooser of_wait of_times made s few told off;
   }
 
   -- what is told of a tree that is read of a forest and of ends
-  pub ends_where : (end read_end t : TreeState (Option ℕ)) → end ≡ read_end → IsTree g end → IsJoinWhere (λ x y z. z ≡ Some (max (max (time_later delay x) (time_later 0 y)) release)) None chooser times end t →
+  pub ends_where : (end read_end t : TreeState (Option ℕ)) → end ≡ read_end → IsTree g end →
+      IsJoinWhere (λ x y z. z ≡ Some (max (max (time_later delay x) (time_later 0 y)) release)) None chooser times end t →
       IsReleasedWhere g.faults chooser (later_tree read_end) (later_by d read) release t
   ends_where end read_end t is_end of_end made = record {
     on = λ s few told first second x y on tells there.
@@ -75,13 +81,15 @@ pub input_where : (g : Graph) (f : ForestState) (e release : ℕ) (chooser : Tre
     IsReleasedWhere g.faults chooser wait (later_by (slot_length g (home g (message_item g e))) (times_of g f (message_item g e))) release t →
     IsReleasedWhere g.faults chooser wait (later_by (input_delay g e) (input_tree g f e)) release t
 input_where g f e release chooser wait t message starts =
-    subst (λ (d : Bool). IsReleasedWhere g.faults chooser wait (later_by (if d then slot_length g (home g (message_item g e)) else 0) (if d then times_of g f (message_item g e) else ends_of g f (source g e))) release t) (sym message) starts
+    subst (λ (d : Bool). IsReleasedWhere g.faults chooser wait
+    (later_by (if d then slot_length g (home g (message_item g e)) else 0) (if d then times_of g f (message_item g e) else ends_of g f (source g e))) release t) (sym message) starts
 
 -- ---- starts after inputs
 
 module _ (g : Graph) (f : ForestState) (chooser : TreeState Bool) (wait : TreeState ℕ) (t : TreeState (Option ℕ)) (release : ℕ) where
   -- none
-  pub picked_where : (start never : TreeState (Option ℕ)) → IsTree g chooser → IsTree g start → IsTree g never → IsStartAfter g f wait release [] start → IsConstant None g.faults never → IsPick chooser start never t →
+  pub picked_where : (start never : TreeState (Option ℕ)) → IsTree g chooser → IsTree g start → IsTree g never → IsStartAfter g f wait release [] start → IsConstant None g.faults never →
+      IsPick chooser start never t →
       IsStartWhere g f chooser wait release [] t
   picked_where start never of_chooser of_start of_never starts none made = record {
     on = λ s few told of_c base x tells tell time there heard. picked s few true told (base ++ []) (Some (max (max x release) 0)) of_c (starts s few base x tells tell time there heard);
@@ -90,10 +98,13 @@ module _ (g : Graph) (f : ForestState) (chooser : TreeState Bool) (wait : TreeSt
         (picked s few false told [] None of_c (agrees_constant s None g.faults never (λ y. y ≡ None) refl none));
   }
     where
-      picked : (s : Scenario) → HasFew g.faults s → (b : Bool) (told second : List Literal) (y : Option ℕ) → Tells s told b chooser → Tells s second y (if b then start else never) → Tells s (told ++ second) y t
+      picked : (s : Scenario) → HasFew g.faults s → (b : Bool) (told second : List Literal) (y : Option ℕ) → Tells s told b chooser → Tells s second y (if b then start else never) →
+          Tells s (told ++ second) y t
       picked s few b told second y of_c of_picked =
-          agrees_pick s chooser start never t b told second (λ z. z ≡ y) (few_of g.faults chooser.faults s of_chooser.faults few) (of_start.faults ∙ sym of_chooser.faults) (of_never.faults ∙ sym of_chooser.faults)
-          (each_of g chooser.faults chooser of_chooser.faults of_chooser) (each_of g chooser.faults start of_chooser.faults of_start) (each_of g chooser.faults never of_chooser.faults of_never) made of_c of_picked
+          agrees_pick s chooser start never t b told second (λ z. z ≡ y) (few_of g.faults chooser.faults s of_chooser.faults few) (of_start.faults ∙ sym of_chooser.faults)
+          (of_never.faults ∙ sym of_chooser.faults)
+          (each_of g chooser.faults chooser of_chooser.faults of_chooser) (each_of g chooser.faults start of_chooser.faults of_start)
+          (each_of g chooser.faults never of_chooser.faults of_never) made of_c of_picked
 
   -- one that the node sends itself
   pub own_where : (e : ℕ) (es : List ℕ) → is_message g e ≡ false → IsStartWhere g f chooser wait release es t → IsStartWhere g f chooser wait release (e ∷ es) t
@@ -106,7 +117,8 @@ module _ (g : Graph) (f : ForestState) (chooser : TreeState Bool) (wait : TreeSt
       record { on = λ s few told of_c. one_input g f s told few wait there both t release e es later latest (starts.on s few told of_c); off = starts.off }
 
   -- the last that another node sends
-  pub last_where : (e : ℕ) (es : List ℕ) → All (λ d. is_message g d ≡ false) es → IsReleasedWhere g.faults chooser wait (later_by (input_delay g e) (input_tree g f e)) release t → IsStartWhere g f chooser wait release (e ∷ es) t
+  pub last_where : (e : ℕ) (es : List ℕ) → All (λ d. is_message g d ≡ false) es → IsReleasedWhere g.faults chooser wait (later_by (input_delay g e) (input_tree g f e)) release t →
+      IsStartWhere g f chooser wait release (e ∷ es) t
   last_where e es own starts = record {
     on = λ s few told of_c. last_input g f s told wait t release e es own (λ base second x y tells there. starts.on s few told base second x y of_c tells there);
     off = starts.off;
@@ -123,14 +135,17 @@ outcome_waits (Test c off on) o all = by (get_or o c false) (outcome_waits off o
     by true low high = high
     by false low high = low
 
-pub active_starts : (g : Graph) (f : ForestState) (chooser : TreeState Bool) (wait : TreeState ℕ) (release : ℕ) (inputs : List ℕ) (guard : Guard) (t : TreeState (Option ℕ)) → AreLeaves WaitsForAll guard → IsActiveTree g.faults guard chooser →
+pub active_starts : (g : Graph) (f : ForestState) (chooser : TreeState Bool) (wait : TreeState ℕ) (release : ℕ) (inputs : List ℕ) (guard : Guard) (t : TreeState (Option ℕ)) →
+    AreLeaves WaitsForAll guard → IsActiveTree g.faults guard chooser →
     IsStartWhere g f chooser wait release inputs t → IsStartTree g f wait release inputs guard t
-active_starts g f chooser wait release inputs guard t all actives starts s few base x tells tell time there told = by (outcome_at guard s.values) (outcome_waits guard s.values all) (actives s few) there told
+active_starts g f chooser wait release inputs guard t all actives starts s few base x tells tell time there told =
+    by (outcome_at guard s.values) (outcome_waits guard s.values all) (actives s few) there told
   where
     values : List Literal
     values = values_known s (way guard s.values)
 
-    by : (a : Activation) → WaitsForAll a → Tells s values (is_active a) chooser → AreThere g time x (awaited inputs a) → ((e : ℕ) → Contains (awaited inputs a) e → Tells s (tell e) (time e) (input_tree g f e)) →
+    by : (a : Activation) → WaitsForAll a → Tells s values (is_active a) chooser → AreThere g time x (awaited inputs a) →
+        ((e : ℕ) → Contains (awaited inputs a) e → Tells s (tell e) (time e) (input_tree g f e)) →
         Tells s (values ++ start_says base tell inputs a) (start_at x release (input_delay g) time inputs a) t
     by Plain w active ready heard = starts.on s few values active base x tells tell time ready heard
     by Inactive w active ready heard = agrees_weaker s t values (values ++ []) (λ y. y ≡ None) (λ y. y ≡ None) (λ l j. Contains-append_left values [] l j) (λ y e. e) (starts.off s few values active)

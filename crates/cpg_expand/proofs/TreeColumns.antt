@@ -1,12 +1,14 @@
 -- The row of a tree that agrees with what is carried beside an item's time is a carrying row.
-use Rattle.std.proofs.Common.{ℕ, ◌≤◌, ◌≡◌, ◌+◌, Bool, true, false, cond, List, [], ◌∷◌, length, map, filter, get_or, Option, Some, None, option_to_list, All, Contains, IsPermutation, arith, refl, sym, ap, ◌∙◌, subst, inl, inr, length-append}
+use Rattle.std.proofs.Common.{ℕ, ◌≤◌, ◌≡◌, ◌+◌, Bool, true, false, cond, List, [], ◌∷◌, length, map, filter, get_or, Option, Some, None, option_to_list, All, Contains, IsPermutation, arith, refl, sym}
+use Rattle.std.proofs.Common.{ap, ◌∙◌, subst, inl, inr, length-append}
 use Rattle.std.proofs.lemmas.Bool.{cond-true, cond-false, false_from_ne_true}
 use Rattle.std.proofs.lemmas.List.{length-map}
 use Rattle.std.proofs.lemmas.List.Elements.{All-contains, filter-append}
 use Rattle.std.proofs.lemmas.List.Sorted.{IsPermutation-sym, Contains-permutation}
 use Rattle.cpg_base.specs.Graph.{Graph, process_count}
 use Rattle.cpg_base.specs.Numbers.{numbers_below}
-use Rattle.cpg_base.proofs.Lists.{Contains-first, Contains-cases, Contains-nil, Contains-map, Contains-map_parts, Contains-filter, Contains-filter_parts, Contains-flat_map, Contains-flat_map_parts, filter_none}
+use Rattle.cpg_base.proofs.Lists.{Contains-first, Contains-cases, Contains-nil, Contains-map, Contains-map_parts, Contains-filter, Contains-filter_parts, Contains-flat_map, Contains-flat_map_parts}
+use Rattle.cpg_base.proofs.Lists.{filter_none}
 use Rattle.cpg_base.specs.Scenario.{Scenario, IsScenario}
 use Rattle.cpg_cube.specs.declared.literal.Literal.{Literal}
 use Rattle.cpg_cube.specs.Cube.{matches, is_whole}
@@ -23,7 +25,7 @@ use Rattle.cpg_run.proofs.RunExists.{a_run}
 use Rattle.cpg_run.specs.Carried.{row_at, carried}
 use Rattle.cpg_run.specs.RowLaws.{IsTimed}
 use Rattle.cpg_run.proofs.EntriesMerge.{the_one, every}
-use Rattle.cpg_paths.specs.Columns.{column_of, columns_of_paths, IsTidyColumn}
+use Rattle.cpg_tree_columns.specs.Columns.{column_of, columns_of_paths, IsTidyColumn}
 use Rattle.cpg_cube.specs.Keys.{AreByLows}
 use Rattle.cpg_cube.proofs.KeyOrder.{permutation_of_equal}
 use Rattle.cpg_tree.specs.Tree.{HasOnePathEach, Path, TreeState, is_on}
@@ -33,7 +35,8 @@ use Rattle.cpg_expand.specs.TreeRows.{AreListedOf, IsTreeOf}
 use Rattle.cpg_tree.proofs.OnePath.{scenario_few, the_path}
 
 -- what is listed as it is found
-pub listed_all : (g : Graph) (t : TreeState (Option ℕ)) (columns : List Column) → HasOnePathEach g.faults t.paths → columns ≡ columns_of_paths t.paths → All (IsTidyColumn g) columns → AreListedOf g t columns
+pub listed_all : (g : Graph) (t : TreeState (Option ℕ)) (columns : List Column) → HasOnePathEach g.faults t.paths → columns ≡ columns_of_paths t.paths → All (IsTidyColumn g) columns →
+    AreListedOf g t columns
 listed_all g t columns each is tidy = record { each = each; all = permutation_of_equal (columns_of_paths t.paths) columns (sym is); tidy = tidy }
 
 -- ---- no more columns match than paths
@@ -109,7 +112,8 @@ module _ (g : Graph) (few : process_count g ≤ 128) (urgency : List ℕ) (all :
       Contains-permutation (columns_of_paths t.paths) columns column are.all
       (Contains-flat_map (λ (p : Path (Option ℕ)). column_of p.0 p.1) t.paths x column j (subst (λ o. Contains (column_of x.0 o) column) (sym e) (Contains-first column [])))
 
-  module _ (order : List ℕ) (frozen : List (Option ℕ)) (timed : IsTimed g urgency order frozen) (rows : List (List Column)) (x : ℕ) (tree : IsTreeOf g order frozen rows x t) (same_faults : t.faults ≡ g.faults) where
+  module _ (order : List ℕ) (frozen : List (Option ℕ)) (timed : IsTimed g urgency order frozen) (rows : List (List Column)) (x : ℕ) (tree : IsTreeOf g order frozen rows x t)
+      (same_faults : t.faults ≡ g.faults) where
     pub times : (s : Scenario) (run : Times) → IsScenario g s → IsRun g order frozen s run → times_in columns s ≡ option_to_list (get_or run.times x None)
     times s run law ran = by_time (get_or run.times x None) refl
       where
@@ -143,8 +147,10 @@ module _ (g : Graph) (few : process_count g ≤ 128) (urgency : List ℕ) (all :
       times = λ s run law ran. subst (λ (cs : List Column). times_in cs s ≡ option_to_list (get_or run.times x None)) (sym is) (times s run law ran);
       carries = λ s c law j m. columns_carry s c law (subst (λ (cs : List Column). Contains cs c) is j) m;
       cubes = subst (All (λ (c : Column). IsCube g c.cube)) (sym is) (every (λ (c : Column). IsCube g c.cube) columns (λ c j. (tidy_at c j).cube));
-      within = subst (All (λ (c : Column). All (λ (l : Literal). l.high ≤ top g.faults l.variable) c.cube)) (sym is) (every (λ (c : Column). All (λ (l : Literal). l.high ≤ top g.faults l.variable) c.cube) columns (λ c j. (tidy_at c j).within));
-      not_whole = subst (All (λ (c : Column). All (λ (l : Literal). is_whole g.faults l ≡ false) c.cube)) (sym is) (every (λ (c : Column). All (λ (l : Literal). is_whole g.faults l ≡ false) c.cube) columns (λ c j. (tidy_at c j).not_whole));
+      within = subst (All (λ (c : Column). All (λ (l : Literal). l.high ≤ top g.faults l.variable) c.cube)) (sym is)
+          (every (λ (c : Column). All (λ (l : Literal). l.high ≤ top g.faults l.variable) c.cube) columns (λ c j. (tidy_at c j).within));
+      not_whole = subst (All (λ (c : Column). All (λ (l : Literal). is_whole g.faults l ≡ false) c.cube)) (sym is)
+          (every (λ (c : Column). All (λ (l : Literal). is_whole g.faults l ≡ false) c.cube) columns (λ c j. (tidy_at c j).not_whole));
       met = subst (AreMet g urgency) (sym is) (are_met g few urgency all columns good single);
       ordered = subst (AreOrdered g urgency) (sym is) (are_ordered g few urgency all columns good single by_lows);
     }

@@ -1,5 +1,6 @@
 -- What the trees down guards tell.
-use Rattle.std.proofs.Common.{ℕ, ◌+◌, ◌-◌, ◌<◌, ◌≡◌, ◌==◌, ◌&&◌, ◌||◌, nat_lt, max, length, Bool, true, false, if◌then◌else◌, List, [], ◌∷◌, ◌++◌, map, flat_map, get_or, Option, Some, None, All, Contains, ◌⊎◌, arith, le-ltb, lt-ltb, eq-eqb, refl, sym, ap, ap₂, ◌∙◌, subst, inl, inr}
+use Rattle.std.proofs.Common.{ℕ, ◌+◌, ◌-◌, ◌<◌, ◌≡◌, ◌==◌, ◌&&◌, ◌||◌, nat_lt, max, length, Bool, true, false, if◌then◌else◌, List, [], ◌∷◌, ◌++◌, map, flat_map, get_or, Option, Some, None, All}
+use Rattle.std.proofs.Common.{Contains, ◌⊎◌, arith, le-ltb, lt-ltb, eq-eqb, refl, sym, ap, ap₂, ◌∙◌, subst, inl, inr}
 use Rattle.std.proofs.lemmas.Bool.{cond-false, ne_eqb, and_from, or_right, le-leb}
 use Rattle.std.specs.Prelude.{nat_le, IsTrue, ◌≤◌}
 use Rattle.std.proofs.lemmas.List.{get_or_read_under}
@@ -33,7 +34,8 @@ use Rattle.cpg_expand.specs.Later.{IsLaterTree, IsNoMore, IsLatest, IsReleased}
 use Rattle.cpg_expand.specs.Forest.{ForestState, HasTrees, IsWait, no_tree, times_of, ends_of, later_tree, ready_at, heard_tree, heard_delay, input_tree, input_delay}
 use Rattle.cpg_expand.specs.declared.forest.Ready.{Ready}
 use Rattle.cpg_expand.specs.declared.forest.Ready.TheVariants.{At}
-use Rattle.cpg_expand.specs.Guarded.{value_known, values_known, PicksByValue, IsActiveTree, told_of, latest_of, AreThere, IsHeardTree, StartsAfter, IsStartAfter, awaited, start_says, start_at, IsStartBy, IsStartTree}
+use Rattle.cpg_expand.specs.Guarded.{value_known, values_known, PicksByValue, IsActiveTree, told_of, latest_of, AreThere, IsHeardTree, StartsAfter, IsStartAfter, awaited, start_says, start_at}
+use Rattle.cpg_expand.specs.Guarded.{IsStartBy, IsStartTree}
 use Rattle.cpg_expand.proofs.AgreeingTrees.{agrees_weaker, agrees_constant, agrees_number, agrees_map, agrees_join, agrees_pick}
 
 -- ---- trees of at most k faults
@@ -43,7 +45,8 @@ constant_tree g x k t e each is known =
     let same = ap (λ (u : TreeState _). u.faults) is ∙ e in
     record { faults = same; each = subst (λ n. HasOnePathEach n t.paths) same each; known = known }
 
-pub same_tree : {T U : Type 0} (g : Graph) (a : TreeState T) (t : TreeState U) → a.faults ≡ g.faults → t.faults ≡ a.faults → HasOnePathEach t.faults t.paths → DoPathsPass (is_variable g) t.paths → IsTree g t
+pub same_tree : {T U : Type 0} (g : Graph) (a : TreeState T) (t : TreeState U) → a.faults ≡ g.faults → t.faults ≡ a.faults → HasOnePathEach t.faults t.paths → DoPathsPass (is_variable g) t.paths →
+    IsTree g t
 same_tree g a t is same each known = record { faults = same ∙ is; each = subst (λ n. HasOnePathEach n t.paths) (same ∙ is) each; known = known }
 
 pub each_of : {T : Type 0} (g : Graph) (m : ℕ) (t : TreeState T) → m ≡ g.faults → IsTree g t → HasOnePathEach m t.paths
@@ -56,7 +59,8 @@ count_passes g p l = ap (λ b. b || (nat_le 128 p && nat_lt p (value_variable (c
 
 pub value_passes : (g : Graph) (c : ℕ) → c < condition_count g → is_variable g (128 + c) ≡ true
 value_passes g c l = or_right (nat_lt (128 + c) (process_count g)) (nat_le 128 (128 + c) && nat_lt (128 + c) (value_variable (condition_count g)))
-    (and_from (nat_le 128 (128 + c)) (nat_lt (128 + c) (value_variable (condition_count g))) (le-leb 128 (128 + c) (omega arith)) (lt-ltb (128 + c) (value_variable (condition_count g)) (omega (arith, l))))
+    (and_from (nat_le 128 (128 + c)) (nat_lt (128 + c) (value_variable (condition_count g))) (le-leb 128 (128 + c) (omega arith))
+    (lt-ltb (128 + c) (value_variable (condition_count g)) (omega (arith, l))))
 
 pub few_of : (k m : ℕ) (s : Scenario) → m ≡ k → HasFew k s → HasFew m s
 few_of k m s e few = subst (λ n. HasFew n s) (sym e) few
@@ -115,7 +119,8 @@ module _ {T U V : Type 0} (g : Graph) (number : T → ℕ) (other_number : U →
     (made : IsJoin (λ x y z. z ≡ makes (max (number x) (other_number y))) a b t) (s : Scenario) (few : HasFew g.faults s) (first second : List Literal) (x y : ℕ) where
   pub made_told : Agrees s first (λ v. number v ≡ x) a → Agrees s second (λ w. other_number w ≡ y) b → Tells s (first ++ second) (makes (max x y)) t
   made_told tells other =
-      agrees_join s (λ v w z. z ≡ makes (max (number v) (other_number w))) a b t first second (λ v. number v ≡ x) (λ w. other_number w ≡ y) (λ z. z ≡ makes (max x y)) (few_of g.faults a.faults s of_a.faults few) (of_b.faults ∙ sym of_a.faults)
+      agrees_join s (λ v w z. z ≡ makes (max (number v) (other_number w))) a b t first second (λ v. number v ≡ x) (λ w. other_number w ≡ y) (λ z. z ≡ makes (max x y))
+      (few_of g.faults a.faults s of_a.faults few) (of_b.faults ∙ sym of_a.faults)
       (each_of g a.faults a of_a.faults of_a) (each_of g a.faults b of_a.faults of_b) made (λ v w z d e i. i ∙ ap₂ (λ m n. makes (max m n)) d e) tells other
 
   -- what the second tells stands first
@@ -129,7 +134,8 @@ pub latest_told : (g : Graph) (one two t : TreeState ℕ) → IsTree g one → I
 latest_told g one two t of_one of_two made s few first second x y tells other = made_told g (λ n. n) (λ n. n) (λ n. n) one two t of_one of_two made s few first second x y tells other
 
 -- where one are ends
-pub latest_ends : (g : Graph) (end : TreeState (Option ℕ)) (there t : TreeState ℕ) → IsTree g end → IsTree g there → IsJoin (λ x y z. z ≡ max x (time_later 0 y)) there end t → IsLatest g.faults (later_tree end) there t
+pub latest_ends : (g : Graph) (end : TreeState (Option ℕ)) (there t : TreeState ℕ) → IsTree g end → IsTree g there → IsJoin (λ x y z. z ≡ max x (time_later 0 y)) there end t →
+    IsLatest g.faults (later_tree end) there t
 latest_ends g end there t of_end of_there made s few first second x y tells other =
     made_turned g (λ n. n) (time_later 0) (λ n. n) there end t of_there of_end made s few second first y x other (from_ends s end first x tells)
 
@@ -151,7 +157,8 @@ module _ {V : Type 0} (g : Graph) (makes : ℕ → V) (delay d : ℕ) (same_dela
 
   -- what is told of a tree that is read of a forest and of ends
   pub ends_and_read : (end read_end : TreeState (Option ℕ)) (t : TreeState V) → end ≡ read_end → IsTree g end → IsJoin (λ x y z. z ≡ makes (max (time_later delay x) (time_later 0 y))) times end t →
-      (s : Scenario) → HasFew g.faults s → (first second : List Literal) (x y : ℕ) → Tells s first x (later_tree read_end) → Tells s second y (later_by d read) → Tells s (first ++ second) (makes (max x y)) t
+      (s : Scenario) → HasFew g.faults s → (first second : List Literal) (x y : ℕ) → Tells s first x (later_tree read_end) → Tells s second y (later_by d read) →
+      Tells s (first ++ second) (makes (max x y)) t
   ends_and_read end read_end t is_end of_end made s few first second x y tells there =
       made_turned g (time_later delay) (time_later 0) makes times end t of_times of_end made s few second first y x (as_read s second y there)
       (from_ends s end first x (subst (λ (u : TreeState (Option ℕ)). Tells s first x (later_tree u)) (sym is_end) tells))
@@ -162,14 +169,16 @@ number_at : (s : Scenario) (c : ℕ) → number_of s (128 + c) ≡ number_of_val
 number_at s c = cond-false _ (fault_of s (128 + c)) (number_of_value (get_or s.values (128 + c - 128) false)) (le-ltb (128 + c) 128 (omega arith))
     ∙ ap (λ d. number_of_value (get_or s.values d false)) (let e : 128 + c - 128 ≡ c = omega arith in e)
 
-pub value_picks : {T : Type 0} (g : Graph) (c : ℕ) (value : TreeState Bool) (yes_tree off_tree t : TreeState T) → IsNumber (128 + c) g.faults number_of_value value → HasOnePathEach value.faults value.paths →
+pub value_picks : {T : Type 0} (g : Graph) (c : ℕ) (value : TreeState Bool) (yes_tree off_tree t : TreeState T) → IsNumber (128 + c) g.faults number_of_value value →
+    HasOnePathEach value.faults value.paths →
     IsTree g yes_tree → IsTree g off_tree → IsPick value yes_tree off_tree t → PicksByValue g.faults c yes_tree off_tree t
 value_picks g c value y f t is each of_y of_f made s few ls x tells =
     let b : Bool = get_or s.values c false in
     let told : Agrees s (exactly (128 + c) (number_of s (128 + c)) ∷ []) (λ (d : Bool). number_of_value d ≡ number_of s (128 + c)) value =
     agrees_number s (128 + c) g.faults number_of_value value few (number_le_top g.faults s few (128 + c)) is in
     let chosen : Agrees s (exactly (128 + c) (number_of s (128 + c)) ∷ []) (λ (d : Bool). d ≡ b) value =
-    agrees_weaker s value (exactly (128 + c) (number_of s (128 + c)) ∷ []) (exactly (128 + c) (number_of s (128 + c)) ∷ []) (λ (d : Bool). number_of_value d ≡ number_of s (128 + c)) (λ (d : Bool). d ≡ b)
+    agrees_weaker s value (exactly (128 + c) (number_of s (128 + c)) ∷ []) (exactly (128 + c) (number_of s (128 + c)) ∷ []) (λ (d : Bool). number_of_value d ≡ number_of s (128 + c))
+    (λ (d : Bool). d ≡ b)
     (λ l j. j) (λ d e. one_value d b (e ∙ number_at s c)) told in
     agrees_pick s value y f t b (exactly (128 + c) (number_of s (128 + c)) ∷ []) ls (λ z. z ≡ x) (few_of g.faults value.faults s is.faults few)
     (of_y.faults ∙ sym is.faults) (of_f.faults ∙ sym is.faults) each (each_of g value.faults y is.faults of_y) (each_of g value.faults f is.faults of_f) made chosen tells
@@ -182,9 +191,12 @@ active_leaf k a t is s few = agrees_constant s (is_active a) k t (λ y. y ≡ is
 pub active_test : (k c : ℕ) (off on : Guard) (f y t : TreeState Bool) → IsActiveTree k off f → IsActiveTree k on y → PicksByValue k c y f t → IsActiveTree k (Test c off on) t
 active_test k c off on f y t of_off of_on picks s few = go (get_or s.values c false) refl
   where
-    go : (d : Bool) → get_or s.values c false ≡ d → Tells s (values_known s (c ∷ (if d then way on s.values else way off s.values))) (is_active (if d then outcome_at on s.values else outcome_at off s.values)) t
-    go true e = picks s few (values_known s (way on s.values)) (is_active (outcome_at on s.values)) (subst (λ (d : Bool). Tells s (values_known s (way on s.values)) (is_active (outcome_at on s.values)) (if d then y else f)) (sym e) (of_on s few))
-    go false e = picks s few (values_known s (way off s.values)) (is_active (outcome_at off s.values)) (subst (λ (d : Bool). Tells s (values_known s (way off s.values)) (is_active (outcome_at off s.values)) (if d then y else f)) (sym e) (of_off s few))
+    go : (d : Bool) → get_or s.values c false ≡ d → Tells s (values_known s (c ∷ (if d then way on s.values else way off s.values)))
+        (is_active (if d then outcome_at on s.values else outcome_at off s.values)) t
+    go true e = picks s few (values_known s (way on s.values)) (is_active (outcome_at on s.values))
+        (subst (λ (d : Bool). Tells s (values_known s (way on s.values)) (is_active (outcome_at on s.values)) (if d then y else f)) (sym e) (of_on s few))
+    go false e = picks s few (values_known s (way off s.values)) (is_active (outcome_at off s.values))
+        (subst (λ (d : Bool). Tells s (values_known s (way off s.values)) (is_active (outcome_at off s.values)) (if d then y else f)) (sym e) (of_off s few))
 
 -- ---- when a node has heard what a guard tests
 
@@ -196,7 +208,8 @@ told_first : (s : Scenario) (tell : ℕ → List Literal) (c : ℕ) (ws : List �
 told_first s tell c ws l j = elim (Contains-append_cases (tell c) (value_known s c ∷ told_of s tell ws) l j) [
   | inl i ↦ Contains-append_left (tell c ++ value_known s c ∷ []) (told_of s tell ws) l (Contains-append_left (tell c) (value_known s c ∷ []) l i)
   | inr i ↦ elim (Contains-cases (value_known s c) (told_of s tell ws) l i) [
-    | inl e ↦ Contains-append_left (tell c ++ value_known s c ∷ []) (told_of s tell ws) l (Contains-append_right (tell c) (value_known s c ∷ []) l (subst (Contains (value_known s c ∷ [])) e (Contains-first (value_known s c) [])))
+    | inl e ↦ Contains-append_left (tell c ++ value_known s c ∷ []) (told_of s tell ws) l
+        (Contains-append_right (tell c) (value_known s c ∷ []) l (subst (Contains (value_known s c ∷ [])) e (Contains-first (value_known s c) [])))
     | inr more ↦ Contains-append_right (tell c ++ value_known s c ∷ []) (told_of s tell ws) l more
   ]
 ]
@@ -204,7 +217,8 @@ told_first s tell c ws l j = elim (Contains-append_cases (tell c) (value_known s
 pub latest-cons : (delay : ℕ → ℕ) (time : ℕ → Option ℕ) (x : ℕ) (xs : List ℕ) → latest_of delay time (x ∷ xs) ≡ max (time_later (delay x) (time x)) (latest_of delay time xs)
 latest-cons delay time x xs = greatest-cons (time_later (delay x) (time x)) (map (λ y. time_later (delay y) (time y)) xs)
 
-pub heard_test : (g : Graph) (f : ForestState) (node c : ℕ) (off on : Guard) (a b further t : TreeState ℕ) → IsHeardTree g f node off a → IsHeardTree g f node on b → PicksByValue g.faults c b a further →
+pub heard_test : (g : Graph) (f : ForestState) (node c : ℕ) (off on : Guard) (a b further t : TreeState ℕ) → IsHeardTree g f node off a → IsHeardTree g f node on b →
+    PicksByValue g.faults c b a further →
     IsLatest g.faults (later_by (heard_delay g node c) (heard_tree g f node c)) further t → IsHeardTree g f node (Test c off on) t
 heard_test g f node c off on a b further t of_off of_on picks latest s few tell time told = go (get_or s.values c false) refl
   where
@@ -216,10 +230,12 @@ heard_test g f node c off on a b further t of_off of_on picks latest s few tell 
 
     joined : (ws : List ℕ) → Tells s (value_known s c ∷ told_of s tell ws) (latest_of delay time ws) further → Tells s (told_of s tell (c ∷ ws)) (latest_of delay time (c ∷ ws)) t
     joined ws second = agrees_weaker s t (tell c ++ value_known s c ∷ told_of s tell ws) (told_of s tell (c ∷ ws))
-        (λ z. z ≡ max (time_later (delay c) (time c)) (latest_of delay time ws)) (λ z. z ≡ latest_of delay time (c ∷ ws)) (λ l j. told_first s tell c ws l j) (λ z e. e ∙ sym (latest-cons delay time c ws))
+        (λ z. z ≡ max (time_later (delay c) (time c)) (latest_of delay time ws)) (λ z. z ≡ latest_of delay time (c ∷ ws)) (λ l j. told_first s tell c ws l j)
+        (λ z e. e ∙ sym (latest-cons delay time c ws))
         (latest s few (tell c) (value_known s c ∷ told_of s tell ws) (time_later (delay c) (time c)) (latest_of delay time ws) first second)
 
-    go : (d : Bool) → get_or s.values c false ≡ d → Tells s (told_of s tell (c ∷ (if d then way on s.values else way off s.values))) (latest_of delay time (c ∷ (if d then way on s.values else way off s.values))) t
+    go : (d : Bool) → get_or s.values c false ≡ d → Tells s (told_of s tell (c ∷ (if d then way on s.values else way off s.values)))
+        (latest_of delay time (c ∷ (if d then way on s.values else way off s.values))) t
     go true e = joined (way on s.values) (picks s few (told_of s tell (way on s.values)) (latest_of delay time (way on s.values))
         (subst (λ (d : Bool). Tells s (told_of s tell (way on s.values)) (latest_of delay time (way on s.values)) (if d then b else a)) (sym e)
         (of_on s few tell time (λ x j. told x (Contains-rest c _ x (subst (λ (d : Bool). Contains (if d then way on s.values else way off s.values) x) (sym e) j))))))
@@ -254,12 +270,16 @@ told_as_first first some more within l j = elim (Contains-append_cases first som
 ]
 
 module _ (g : Graph) (f : ForestState) (s : Scenario) (first : List Literal) where
-  pub own_input : (wait : TreeState ℕ) (t : TreeState (Option ℕ)) (release e : ℕ) (es : List ℕ) → is_message g e ≡ false → StartsAfter g f s first wait release es t → StartsAfter g f s first wait release (e ∷ es) t
+  pub own_input : (wait : TreeState ℕ) (t : TreeState (Option ℕ)) (release e : ℕ) (es : List ℕ) → is_message g e ≡ false → StartsAfter g f s first wait release es t →
+      StartsAfter g f s first wait release (e ∷ es) t
   own_input wait t release e es own starts base x tells tell time there told =
       let latest = latest_of (input_delay g) time es in
-      agrees_weaker s t (first ++ (base ++ flat_map tell es)) (first ++ (base ++ flat_map tell (e ∷ es))) (λ y. y ≡ Some (max (max x release) latest)) (λ y. y ≡ Some (max (max x release) (latest_of (input_delay g) time (e ∷ es))))
-      (told_as_first first (base ++ flat_map tell es) (base ++ flat_map tell (e ∷ es)) (told_as_first base (flat_map tell es) (flat_map tell (e ∷ es)) (λ l j. Contains-append_right (tell e) (flat_map tell es) l j)))
-      (λ y d. d ∙ ap Some (let same : max (max x release) latest ≡ max (max x release) (latest_of (input_delay g) time (e ∷ es)) = omega (arith, own_early g time x e es own there, latest-cons (input_delay g) time e es) in same))
+      agrees_weaker s t (first ++ (base ++ flat_map tell es)) (first ++ (base ++ flat_map tell (e ∷ es))) (λ y. y ≡ Some (max (max x release) latest))
+      (λ y. y ≡ Some (max (max x release) (latest_of (input_delay g) time (e ∷ es))))
+      (told_as_first first (base ++ flat_map tell es) (base ++ flat_map tell (e ∷ es))
+      (told_as_first base (flat_map tell es) (flat_map tell (e ∷ es)) (λ l j. Contains-append_right (tell e) (flat_map tell es) l j)))
+      (λ y d. d ∙ ap Some (let same : max (max x release) latest ≡ max (max x release) (latest_of (input_delay g) time (e ∷ es)) =
+      omega (arith, own_early g time x e es own there, latest-cons (input_delay g) time e es) in same))
       (starts base x tells tell time (λ d j. there d (Contains-rest e es d j)) (λ d j. told d (Contains-rest e es d j)))
 
   -- one that another node sends
@@ -269,9 +289,11 @@ module _ (g : Graph) (f : ForestState) (s : Scenario) (first : List Literal) whe
       let at = time_later (input_delay g e) (time e) in
       let others = latest_of (input_delay g) time es in
       let joined : Tells s (base ++ tell e) (max x at) both = latest s few base (tell e) x at tells (later s few (tell e) (time e) (told e (Contains-first e es))) in
-      agrees_weaker s t (first ++ ((base ++ tell e) ++ flat_map tell es)) (first ++ (base ++ flat_map tell (e ∷ es))) (λ y. y ≡ Some (max (max (max x at) release) others)) (λ y. y ≡ Some (max (max x release) (latest_of (input_delay g) time (e ∷ es))))
+      agrees_weaker s t (first ++ ((base ++ tell e) ++ flat_map tell es)) (first ++ (base ++ flat_map tell (e ∷ es))) (λ y. y ≡ Some (max (max (max x at) release) others))
+      (λ y. y ≡ Some (max (max x release) (latest_of (input_delay g) time (e ∷ es))))
       (told_as_first first ((base ++ tell e) ++ flat_map tell es) (base ++ flat_map tell (e ∷ es)) (λ l j. within l (Contains-append_cases (base ++ tell e) (flat_map tell es) l j)))
-      (λ y d. d ∙ ap Some (let same : max (max (max x at) release) others ≡ max (max x release) (latest_of (input_delay g) time (e ∷ es)) = omega (arith, latest-cons (input_delay g) time e es) in same))
+      (λ y d. d ∙ ap Some (let same : max (max (max x at) release) others ≡ max (max x release) (latest_of (input_delay g) time (e ∷ es)) = omega (arith, latest-cons (input_delay g) time e es) in
+      same))
       (starts (base ++ tell e) (max x at) joined tell time (λ d j own. let h = ready d (Contains-rest e es d j) own in omega (arith, h)) (λ d j. told d (Contains-rest e es d j)))
     where
       within : (l : Literal) → Contains (base ++ tell e) l ⊎ Contains (flat_map tell es) l → Contains (base ++ flat_map tell (e ∷ es)) l
@@ -280,12 +302,14 @@ module _ (g : Graph) (f : ForestState) (s : Scenario) (first : List Literal) whe
 
   -- the last that another node sends
   pub last_input : (wait : TreeState ℕ) (t : TreeState (Option ℕ)) (release e : ℕ) (es : List ℕ) → All (λ d. is_message g d ≡ false) es →
-      ((base second : List Literal) (x y : ℕ) → Tells s base x wait → Tells s second y (later_by (input_delay g e) (input_tree g f e)) → Tells s (first ++ (base ++ second)) (Some (max (max x y) release)) t) →
+      ((base second : List Literal) (x y : ℕ) → Tells s base x wait → Tells s second y (later_by (input_delay g e) (input_tree g f e)) →
+      Tells s (first ++ (base ++ second)) (Some (max (max x y) release)) t) →
       StartsAfter g f s first wait release (e ∷ es) t
   last_input wait t release e es own starts base x tells tell time there told =
       let at = time_later (input_delay g e) (time e) in
       let late : latest_of (input_delay g) time es ≤ x = own_latest g time x es own (λ d j. there d (Contains-rest e es d j)) in
-      agrees_weaker s t (first ++ (base ++ tell e)) (first ++ (base ++ flat_map tell (e ∷ es))) (λ y. y ≡ Some (max (max x at) release)) (λ y. y ≡ Some (max (max x release) (latest_of (input_delay g) time (e ∷ es))))
+      agrees_weaker s t (first ++ (base ++ tell e)) (first ++ (base ++ flat_map tell (e ∷ es))) (λ y. y ≡ Some (max (max x at) release))
+      (λ y. y ≡ Some (max (max x release) (latest_of (input_delay g) time (e ∷ es))))
       (told_as_first first (base ++ tell e) (base ++ flat_map tell (e ∷ es)) (told_as_first base (tell e) (flat_map tell (e ∷ es)) (λ l j. Contains-append_left (tell e) (flat_map tell es) l j)))
       (λ y d. d ∙ ap Some (let same : max (max x at) release ≡ max (max x release) (latest_of (input_delay g) time (e ∷ es)) = omega (arith, late, latest-cons (input_delay g) time e es) in same))
       (starts base (tell e) x at tells (to_times (input_delay g e) s (input_tree g f e) (tell e) (time e) (told e (Contains-first e es))))
@@ -295,29 +319,38 @@ module _ (g : Graph) (f : ForestState) (s : Scenario) (first : List Literal) whe
 pub no_start : (g : Graph) (f : ForestState) (wait : TreeState ℕ) (release : ℕ) (inputs : List ℕ) (t : TreeState (Option ℕ)) → IsConstant None g.faults t → IsStartBy g f wait release inputs Inactive t
 no_start g f wait release inputs t is s few base x tells tell time there told = agrees_constant s None g.faults t (λ y. y ≡ None) refl is
 
-started_none : (g : Graph) (s : Scenario) (t : TreeState (Option ℕ)) (base : List Literal) (x release : ℕ) → Tells s base (Some (max x release)) t → Tells s (base ++ []) (Some (max (max x release) 0)) t
+started_none : (g : Graph) (s : Scenario) (t : TreeState (Option ℕ)) (base : List Literal) (x release : ℕ) → Tells s base (Some (max x release)) t →
+    Tells s (base ++ []) (Some (max (max x release) 0)) t
 started_none g s t base x release tells = agrees_weaker s t base (base ++ []) (λ y. y ≡ Some (max x release)) (λ y. y ≡ Some (max (max x release) 0)) (λ l j. Contains-append_left base [] l j)
     (λ y e. e ∙ ap Some (let same : max x release ≡ max (max x release) 0 = omega arith in same)) tells
 
-pub start_told : (g : Graph) (f : ForestState) (wait : TreeState ℕ) (t : TreeState (Option ℕ)) (release : ℕ) → IsTree g wait → IsMap (λ x z. z ≡ Some (max x release)) wait t → IsStartAfter g f wait release [] t
+pub start_told : (g : Graph) (f : ForestState) (wait : TreeState ℕ) (t : TreeState (Option ℕ)) (release : ℕ) → IsTree g wait → IsMap (λ x z. z ≡ Some (max x release)) wait t →
+    IsStartAfter g f wait release [] t
 start_told g f wait t release of_wait made s few base x tells tell time there told = started_none g s t base x release
-    (agrees_map s (λ y z. z ≡ Some (max y release)) wait t base (λ y. y ≡ x) (λ y. y ≡ Some (max x release)) (few_of g.faults wait.faults s of_wait.faults few) (each_of g wait.faults wait of_wait.faults of_wait) made
+    (agrees_map s (λ y z. z ≡ Some (max y release)) wait t base (λ y. y ≡ x) (λ y. y ≡ Some (max x release)) (few_of g.faults wait.faults s of_wait.faults few)
+    (each_of g wait.faults wait of_wait.faults of_wait) made
     (λ y z e i. i ∙ ap (λ n. Some (max n release)) e) tells)
 
-pub start_after_ends : (g : Graph) (f : ForestState) (end t : TreeState (Option ℕ)) (release : ℕ) → IsTree g end → IsMap (λ x z. z ≡ Some (max (time_later 0 x) release)) end t → IsStartAfter g f (later_tree end) release [] t
+pub start_after_ends : (g : Graph) (f : ForestState) (end t : TreeState (Option ℕ)) (release : ℕ) → IsTree g end → IsMap (λ x z. z ≡ Some (max (time_later 0 x) release)) end t →
+    IsStartAfter g f (later_tree end) release [] t
 start_after_ends g f end t release of_end made s few base x tells tell time there told = started_none g s t base x release
-    (agrees_map s (λ y z. z ≡ Some (max (time_later 0 y) release)) end t base (λ y. time_later 0 y ≡ x) (λ y. y ≡ Some (max x release)) (few_of g.faults end.faults s of_end.faults few) (each_of g end.faults end of_end.faults of_end) made
+    (agrees_map s (λ y z. z ≡ Some (max (time_later 0 y) release)) end t base (λ y. time_later 0 y ≡ x) (λ y. y ≡ Some (max x release)) (few_of g.faults end.faults s of_end.faults few)
+    (each_of g end.faults end of_end.faults of_end) made
     (λ y z e i. i ∙ ap (λ n. Some (max n release)) e) (from_ends s end base x tells))
 
-pub start_active : (g : Graph) (f : ForestState) (wait : TreeState ℕ) (t : TreeState (Option ℕ)) (release : ℕ) (inputs : List ℕ) (a : Activation) → is_active a ≡ true → IsStartAfter g f wait release (awaited inputs a) t → IsStartBy g f wait release inputs a t
+pub start_active : (g : Graph) (f : ForestState) (wait : TreeState ℕ) (t : TreeState (Option ℕ)) (release : ℕ) (inputs : List ℕ) (a : Activation) → is_active a ≡ true →
+    IsStartAfter g f wait release (awaited inputs a) t → IsStartBy g f wait release inputs a t
 start_active g f wait t release inputs a active is s few base x tells tell time there told =
-    subst (λ (d : Bool). Tells s (if d then base ++ flat_map tell (awaited inputs a) else []) (if d then Some (max (max x release) (latest_of (input_delay g) time (awaited inputs a))) else None) t) (sym active)
+    subst (λ (d : Bool). Tells s (if d then base ++ flat_map tell (awaited inputs a) else []) (if d then Some (max (max x release) (latest_of (input_delay g) time (awaited inputs a))) else None) t)
+    (sym active)
     (is s few base x tells tell time there told)
 
-pub start_leaf : (g : Graph) (f : ForestState) (wait : TreeState ℕ) (release : ℕ) (inputs : List ℕ) (a : Activation) (t : TreeState (Option ℕ)) → IsStartBy g f wait release inputs a t → IsStartTree g f wait release inputs (Leaf a) t
+pub start_leaf : (g : Graph) (f : ForestState) (wait : TreeState ℕ) (release : ℕ) (inputs : List ℕ) (a : Activation) (t : TreeState (Option ℕ)) → IsStartBy g f wait release inputs a t →
+    IsStartTree g f wait release inputs (Leaf a) t
 start_leaf g f wait release inputs a t is s few base x tells tell time there told = is s few base x tells tell time there told
 
-pub start_test : (g : Graph) (f : ForestState) (wait : TreeState ℕ) (release : ℕ) (inputs : List ℕ) (c : ℕ) (off on : Guard) (a b t : TreeState (Option ℕ)) → IsStartTree g f wait release inputs off a → IsStartTree g f wait release inputs on b → PicksByValue g.faults c b a t →
+pub start_test : (g : Graph) (f : ForestState) (wait : TreeState ℕ) (release : ℕ) (inputs : List ℕ) (c : ℕ) (off on : Guard) (a b t : TreeState (Option ℕ)) →
+    IsStartTree g f wait release inputs off a → IsStartTree g f wait release inputs on b → PicksByValue g.faults c b a t →
     IsStartTree g f wait release inputs (Test c off on) t
 start_test g f wait release inputs c off on a b t of_off of_on picks s few base x tells tell time there told = go (get_or s.values c false) refl
   where
@@ -327,20 +360,26 @@ start_test g f wait release inputs c off on a b t of_off of_on picks s few base 
     at : Guard → Option ℕ
     at guard = start_at x release (input_delay g) time inputs (outcome_at guard s.values)
 
-    go : (d : Bool) → get_or s.values c false ≡ d → Tells s (values_known s (c ∷ (if d then way on s.values else way off s.values)) ++ start_says base tell inputs (if d then outcome_at on s.values else outcome_at off s.values)) (start_at x release (input_delay g) time inputs (if d then outcome_at on s.values else outcome_at off s.values)) t
+    go : (d : Bool) → get_or s.values c false ≡ d →
+        Tells s (values_known s (c ∷ (if d then way on s.values else way off s.values)) ++ start_says base tell inputs (if d then outcome_at on s.values else outcome_at off s.values))
+        (start_at x release (input_delay g) time inputs (if d then outcome_at on s.values else outcome_at off s.values)) t
     go true e = picks s few (says on) (at on) (subst (λ (d : Bool). Tells s (says on) (at on) (if d then b else a)) (sym e)
-        (of_on s few base x tells tell time (λ y j. there y (subst (λ (d : Bool). Contains (awaited inputs (if d then outcome_at on s.values else outcome_at off s.values)) y) (sym e) j)) (λ y j. told y (subst (λ (d : Bool). Contains (awaited inputs (if d then outcome_at on s.values else outcome_at off s.values)) y) (sym e) j))))
+        (of_on s few base x tells tell time (λ y j. there y (subst (λ (d : Bool). Contains (awaited inputs (if d then outcome_at on s.values else outcome_at off s.values)) y) (sym e) j))
+        (λ y j. told y (subst (λ (d : Bool). Contains (awaited inputs (if d then outcome_at on s.values else outcome_at off s.values)) y) (sym e) j))))
     go false e = picks s few (says off) (at off) (subst (λ (d : Bool). Tells s (says off) (at off) (if d then b else a)) (sym e)
-        (of_off s few base x tells tell time (λ y j. there y (subst (λ (d : Bool). Contains (awaited inputs (if d then outcome_at on s.values else outcome_at off s.values)) y) (sym e) j)) (λ y j. told y (subst (λ (d : Bool). Contains (awaited inputs (if d then outcome_at on s.values else outcome_at off s.values)) y) (sym e) j))))
+        (of_off s few base x tells tell time (λ y j. there y (subst (λ (d : Bool). Contains (awaited inputs (if d then outcome_at on s.values else outcome_at off s.values)) y) (sym e) j))
+        (λ y j. told y (subst (λ (d : Bool). Contains (awaited inputs (if d then outcome_at on s.values else outcome_at off s.values)) y) (sym e) j))))
 
 -- ---- trees of a forest
 
-pub times_read : (g : Graph) (f : ForestState) → HasTrees g f → (i : ForestState) → i ≡ f → (v : TreeState (Option ℕ)) (at x : ℕ) → v ≡ get_or i.times at v → at ≡ x → x < item_count g → v ≡ times_of g f x
+pub times_read : (g : Graph) (f : ForestState) → HasTrees g f → (i : ForestState) → i ≡ f → (v : TreeState (Option ℕ)) (at x : ℕ) → v ≡ get_or i.times at v → at ≡ x → x < item_count g →
+    v ≡ times_of g f x
 times_read g f has i same v at x is e l =
     let long = ap (λ (h : ForestState). length h.times) same in
     get_or_read_under i.times at (length i.times) v (no_tree g.faults) is (omega (arith, e, l, has.times, long)) refl ∙ ap (λ (h : ForestState). times_of g h at) same ∙ ap (times_of g f) e
 
-pub ends_read : (g : Graph) (f : ForestState) → HasTrees g f → (i : ForestState) → i ≡ f → (v : TreeState (Option ℕ)) (at p : ℕ) → v ≡ get_or i.ends at v → at ≡ p → p < process_count g → v ≡ ends_of g f p
+pub ends_read : (g : Graph) (f : ForestState) → HasTrees g f → (i : ForestState) → i ≡ f → (v : TreeState (Option ℕ)) (at p : ℕ) → v ≡ get_or i.ends at v → at ≡ p → p < process_count g →
+    v ≡ ends_of g f p
 ends_read g f has i same v at p is e l =
     let long = ap (λ (h : ForestState). length h.ends) same in
     get_or_read_under i.ends at (length i.ends) v (no_tree g.faults) is (omega (arith, e, l, has.ends, long)) refl ∙ ap (λ (h : ForestState). ends_of g h at) same ∙ ap (ends_of g f) e
@@ -352,32 +391,42 @@ pub ends_tree : (g : Graph) (f : ForestState) → HasTrees g f → (p : ℕ) →
 ends_tree g f has p l = All-get_or (IsTree g) f.ends p (no_tree g.faults) (omega (arith, l, has.ends)) has.all_ends
 
 -- ends that are read
-pub read_end : (g : Graph) (v tree : TreeState (Option ℕ)) (t : TreeState ℕ) → v ≡ tree → IsTree g tree → IsMap (λ x z. z ≡ time_later 0 x) v t → HasOnePathEach t.faults t.paths → ((test : ℕ → Bool) → DoPathsPass test v.paths → DoPathsPass test t.paths) → IsTree g t × IsNoMore g.faults (later_tree tree) t
+pub read_end : (g : Graph) (v tree : TreeState (Option ℕ)) (t : TreeState ℕ) → v ≡ tree → IsTree g tree → IsMap (λ x z. z ≡ time_later 0 x) v t → HasOnePathEach t.faults t.paths →
+    ((test : ℕ → Bool) → DoPathsPass test v.paths → DoPathsPass test t.paths) → IsTree g t × IsNoMore g.faults (later_tree tree) t
 read_end g v tree t is of made each known =
-    let made_of = subst (λ (u : TreeState (Option ℕ)). IsMap (λ x z. z ≡ time_later 0 x) u t) is made in
-    (same_tree g tree t of.faults made_of.faults each (known (is_variable g) (subst (λ (u : TreeState (Option ℕ)). DoPathsPass (is_variable g) u.paths) (sym is) of.known)), no_more g tree t of made_of)
+    let made_of = subst (λ (u : TreeState (Option ℕ)). IsMap (λ x z. z ≡ time_later 0 x) u t) is made in (
+      same_tree g tree t of.faults made_of.faults each (known (is_variable g) (subst (λ (u : TreeState (Option ℕ)). DoPathsPass (is_variable g) u.paths) (sym is) of.known)),
+      no_more g tree t of made_of,
+    )
 
 module _ (g : Graph) (f : ForestState) (node c : ℕ) (further t : TreeState ℕ) where
-  heard_if : (d : Bool) → (node_of g (process_of g c) == node) ≡ d → IsLatest g.faults (later_by (if d then 0 else slot_length g (home g (broadcast_item g c))) (if d then ends_of g f (process_of g c) else times_of g f (broadcast_item g c))) further t →
+  heard_if : (d : Bool) → (node_of g (process_of g c) == node) ≡ d →
+      IsLatest g.faults (later_by (if d then 0 else slot_length g (home g (broadcast_item g c))) (if d then ends_of g f (process_of g c) else times_of g f (broadcast_item g c))) further t →
       IsLatest g.faults (later_by (heard_delay g node c) (heard_tree g f node c)) further t
-  heard_if d e is = subst (λ (b : Bool). IsLatest g.faults (later_by (if b then 0 else slot_length g (home g (broadcast_item g c))) (if b then ends_of g f (process_of g c) else times_of g f (broadcast_item g c))) further t) (sym e) is
+  heard_if d e is = subst (λ (b : Bool). IsLatest g.faults
+      (later_by (if b then 0 else slot_length g (home g (broadcast_item g c))) (if b then ends_of g f (process_of g c) else times_of g f (broadcast_item g c))) further t) (sym e) is
 
-  pub heard_own : node_of g (process_of g c) ≡ node → IsLatest g.faults (later_tree (ends_of g f (process_of g c))) further t → IsLatest g.faults (later_by (heard_delay g node c) (heard_tree g f node c)) further t
+  pub heard_own : node_of g (process_of g c) ≡ node → IsLatest g.faults (later_tree (ends_of g f (process_of g c))) further t →
+      IsLatest g.faults (later_by (heard_delay g node c) (heard_tree g f node c)) further t
   heard_own e is = heard_if true (eq-eqb (node_of g (process_of g c)) node e) is
 
-  pub heard_other : (node_of g (process_of g c) ≡ node → ⊥) → IsLatest g.faults (later_by (slot_length g (home g (broadcast_item g c))) (times_of g f (broadcast_item g c))) further t → IsLatest g.faults (later_by (heard_delay g node c) (heard_tree g f node c)) further t
+  pub heard_other : (node_of g (process_of g c) ≡ node → ⊥) → IsLatest g.faults (later_by (slot_length g (home g (broadcast_item g c))) (times_of g f (broadcast_item g c))) further t →
+      IsLatest g.faults (later_by (heard_delay g node c) (heard_tree g f node c)) further t
   heard_other e is = heard_if false (ne_eqb (node_of g (process_of g c)) node e) is
 
 -- a frame that brings an input
 pub latest_input : (g : Graph) (f : ForestState) (e : ℕ) (wait t : TreeState ℕ) → is_message g e ≡ true →
     IsLatest g.faults wait (later_by (slot_length g (home g (message_item g e))) (times_of g f (message_item g e))) t → IsLatest g.faults wait (later_by (input_delay g e) (input_tree g f e)) t
 latest_input g f e wait t message latest =
-    subst (λ (d : Bool). IsLatest g.faults wait (later_by (if d then slot_length g (home g (message_item g e)) else 0) (if d then times_of g f (message_item g e) else ends_of g f (source g e))) t) (sym message) latest
+    subst (λ (d : Bool). IsLatest g.faults wait (later_by (if d then slot_length g (home g (message_item g e)) else 0) (if d then times_of g f (message_item g e) else ends_of g f (source g e))) t)
+    (sym message) latest
 
 pub released_input : (g : Graph) (f : ForestState) (e release : ℕ) (wait : TreeState ℕ) (t : TreeState (Option ℕ)) → is_message g e ≡ true →
-    IsReleased g.faults wait (later_by (slot_length g (home g (message_item g e))) (times_of g f (message_item g e))) release t → IsReleased g.faults wait (later_by (input_delay g e) (input_tree g f e)) release t
+    IsReleased g.faults wait (later_by (slot_length g (home g (message_item g e))) (times_of g f (message_item g e))) release t →
+    IsReleased g.faults wait (later_by (input_delay g e) (input_tree g f e)) release t
 released_input g f e release wait t message starts =
-    subst (λ (d : Bool). IsReleased g.faults wait (later_by (if d then slot_length g (home g (message_item g e)) else 0) (if d then times_of g f (message_item g e) else ends_of g f (source g e))) release t) (sym message) starts
+    subst (λ (d : Bool). IsReleased g.faults wait (later_by (if d then slot_length g (home g (message_item g e)) else 0) (if d then times_of g f (message_item g e) else ends_of g f (source g e)))
+    release t) (sym message) starts
 
 -- ---- ends, and what a node waits for
 
@@ -389,12 +438,15 @@ end_told g p start t faults of_start number each made s few ls x tells =
     (subst (λ n. HasOnePathEach n faults.paths) (number.faults ∙ sym of_start.faults) each) made
     (λ y n z e i h. h ∙ ap₂ (λ m o. ended (durations_of g p) m o) i e) tells (agrees_number s p g.faults (λ n. n) faults few (number_le_top g.faults s few p) number)
 
-pub ready_told : (g : Graph) (active : TreeState Bool) (end : TreeState (Option ℕ)) (wait after t : TreeState ℕ) → IsTree g active → IsTree g end → IsTree g wait → IsMap (λ x z. z ≡ time_later 0 x) end after → HasOnePathEach after.faults after.paths → DoPathsPass (is_variable g) after.paths →
+pub ready_told : (g : Graph) (active : TreeState Bool) (end : TreeState (Option ℕ)) (wait after t : TreeState ℕ) → IsTree g active → IsTree g end → IsTree g wait →
+    IsMap (λ x z. z ≡ time_later 0 x) end after → HasOnePathEach after.faults after.paths → DoPathsPass (is_variable g) after.paths →
     IsPick active after wait t → IsReadyTree g.faults active end wait t
 ready_told g active end wait after t of_active of_end of_wait later each known made s few b first second x w v of_b ends waits =
     let of_after = same_tree g end after of_end.faults later.faults each known in
-    agrees_pick s active after wait t b first second (λ z. z ≡ v) (few_of g.faults active.faults s of_active.faults few) (of_after.faults ∙ sym of_active.faults) (of_wait.faults ∙ sym of_active.faults)
-    (each_of g active.faults active of_active.faults of_active) (each_of g active.faults after of_active.faults of_after) (each_of g active.faults wait of_active.faults of_wait) made of_b (picked b refl)
+    agrees_pick s active after wait t b first second (λ z. z ≡ v) (few_of g.faults active.faults s of_active.faults few) (of_after.faults ∙ sym of_active.faults)
+    (of_wait.faults ∙ sym of_active.faults)
+    (each_of g active.faults active of_active.faults of_active) (each_of g active.faults after of_active.faults of_after) (each_of g active.faults wait of_active.faults of_wait) made of_b
+    (picked b refl)
   where
     picked : (d : Bool) → b ≡ d → Agrees s second (λ z. z ≡ v) (if d then after else wait)
     picked true e = let both = ends e in subst (λ n. Agrees s second (λ z. z ≡ n) after) (sym both.1) (later_tells g 0 end after of_end later s few second x both.0)
@@ -406,16 +458,20 @@ always_true active always s b first of_b =
     let there : Contains active.paths ([], true) = subst (λ (t : TreeState Bool). Contains t.paths ([], true)) (sym always) (Contains-first ([], true) []) in
     sym (of_b.value ([], true) (record { stands = there; matched = refl }))
 
-pub ready_always : (g : Graph) (active : TreeState Bool) (end : TreeState (Option ℕ)) (wait : TreeState ℕ) → IsConstant true active.faults active → IsReadyTree g.faults active end wait (later_tree end)
+pub ready_always : (g : Graph) (active : TreeState Bool) (end : TreeState (Option ℕ)) (wait : TreeState ℕ) → IsConstant true active.faults active →
+    IsReadyTree g.faults active end wait (later_tree end)
 ready_always g active end wait always s few b first second x w v of_b ends waits =
     let both = ends (always_true active always s b first of_b) in
-    agrees_weaker s (later_tree end) second (first ++ second) (λ z. z ≡ time_later 0 x) (λ z. z ≡ v) (λ l j. Contains-append_right first second l j) (λ z e. e ∙ sym both.1) (to_ends s end second x both.0)
+    agrees_weaker s (later_tree end) second (first ++ second) (λ z. z ≡ time_later 0 x) (λ z. z ≡ v) (λ l j. Contains-append_right first second l j) (λ z e. e ∙ sym both.1)
+    (to_ends s end second x both.0)
 
 -- if the node was ready after ends
-pub ready_after : (k : ℕ) (active : TreeState Bool) (end : TreeState (Option ℕ)) (tree before t : TreeState ℕ) → IsNoMore k tree before → IsReadyTree k active end before t → IsReadyTree k active end tree t
+pub ready_after : (k : ℕ) (active : TreeState Bool) (end : TreeState (Option ℕ)) (tree before t : TreeState ℕ) → IsNoMore k tree before → IsReadyTree k active end before t →
+    IsReadyTree k active end tree t
 ready_after k active end tree before t none readies s few b first second x w v of_b ends waits = readies s few b first second x w v of_b ends (λ e. let r = waits e in (none s few second w r.0, r.1))
 
-pub wait_told : (g : Graph) (f : ForestState) (node : ℕ) (guard : Guard) (heard t : TreeState ℕ) → IsHeardTree g f node guard heard → IsLatest g.faults (ready_of g f node) heard t → IsWaitTree g f node guard t
+pub wait_told : (g : Graph) (f : ForestState) (node : ℕ) (guard : Guard) (heard t : TreeState ℕ) → IsHeardTree g f node guard heard → IsLatest g.faults (ready_of g f node) heard t →
+    IsWaitTree g f node guard t
 wait_told g f node guard heard t hears latest s few base x tells tell time told =
     latest s few base (told_of s tell (way guard s.values)) x (latest_of (heard_delay g node) time (way guard s.values)) tells (hears s few tell time told)
 
@@ -424,7 +480,8 @@ pub wait_leaf : (g : Graph) (f : ForestState) (node : ℕ) (a : Activation) → 
 wait_leaf g f node a s few base x tells tell time told =
     agrees_weaker s (ready_of g f node) base (base ++ []) (λ y. y ≡ x) (λ y. y ≡ max x 0) (λ l j. Contains-append_left base [] l j) (λ y e. omega (arith, e)) tells
 
-pub ready_read : (g : Graph) (f : ForestState) → HasTrees g f → (i : ForestState) → i ≡ f → (v : Ready) (at node : ℕ) → v ≡ get_or i.ready at v → at ≡ node → node < length g.nodes → v ≡ ready_at g f node
+pub ready_read : (g : Graph) (f : ForestState) → HasTrees g f → (i : ForestState) → i ≡ f → (v : Ready) (at node : ℕ) → v ≡ get_or i.ready at v → at ≡ node → node < length g.nodes →
+    v ≡ ready_at g f node
 ready_read g f has i same v at node is e l =
     let long = ap (λ (h : ForestState). length h.ready) same in
     get_or_read_under i.ready at (length i.ready) v (At (no_tree g.faults)) is (omega (arith, e, l, has.ready, long)) refl ∙ ap (λ (h : ForestState). ready_at g h at) same ∙ ap (ready_at g f) e
@@ -439,7 +496,8 @@ module _ (g : Graph) (active : TreeState Bool) (of_active : IsTree g active) (s 
   picked_tells : {T : Type 0} (yes_tree off_tree t : TreeState T) (second : List Literal) (x y : T) → IsTree g yes_tree → IsTree g off_tree → IsPick active yes_tree off_tree t →
       (b ≡ true → Tells s second x yes_tree) → Tells s [] y off_tree → Tells s (first ++ (if b then second else [])) (if b then x else y) t
   picked_tells {T} y_tree f t second x y of_y of_f made told other =
-      agrees_pick s active y_tree f t b first (if b then second else []) (λ z. z ≡ (if b then x else y)) (few_of g.faults active.faults s of_active.faults few) (of_y.faults ∙ sym of_active.faults) (of_f.faults ∙ sym of_active.faults)
+      agrees_pick s active y_tree f t b first (if b then second else []) (λ z. z ≡ (if b then x else y)) (few_of g.faults active.faults s of_active.faults few) (of_y.faults ∙ sym of_active.faults)
+      (of_f.faults ∙ sym of_active.faults)
       (each_of g active.faults active of_active.faults of_active) (each_of g active.faults y_tree of_active.faults of_y) (each_of g active.faults f of_active.faults of_f) made of_b (by b refl)
     where
       by : (d : Bool) → b ≡ d → Agrees s (if d then second else []) (λ z. z ≡ (if d then x else y)) (if d then y_tree else f)
@@ -450,43 +508,58 @@ and_if : (b v : Bool) → (if b then v else false) ≡ (b && v)
 and_if true v = refl
 and_if false v = refl
 
-pub tested_told : (g : Graph) (c : ℕ) (wanted : Bool) (active value is never t : TreeState Bool) → IsTree g active → IsNumber (128 + c) g.faults number_of_value value → HasOnePathEach value.faults value.paths →
-    IsMap (λ x z. z ≡ same_bool wanted x) value is → HasOnePathEach is.faults is.paths → DoPathsPass (is_variable g) is.paths → IsConstant false g.faults never → HasOnePathEach never.faults never.paths → DoPathsPass (is_variable g) never.paths → IsPick active is never t → IsTestedTree g.faults c wanted active t
+pub tested_told : (g : Graph) (c : ℕ) (wanted : Bool) (active value is never t : TreeState Bool) → IsTree g active → IsNumber (128 + c) g.faults number_of_value value →
+    HasOnePathEach value.faults value.paths →
+    IsMap (λ x z. z ≡ same_bool wanted x) value is → HasOnePathEach is.faults is.paths → DoPathsPass (is_variable g) is.paths → IsConstant false g.faults never →
+    HasOnePathEach never.faults never.paths → DoPathsPass (is_variable g) never.paths → IsPick active is never t → IsTestedTree g.faults c wanted active t
 tested_told g c wanted active value is never t of_active number each same each_is known_is none each_never known_never made s few b first of_b =
     let v : Bool = get_or s.values c false in
     let told : Agrees s (exactly (128 + c) (number_of s (128 + c)) ∷ []) (λ (d : Bool). number_of_value d ≡ number_of s (128 + c)) value =
     agrees_number s (128 + c) g.faults number_of_value value few (number_le_top g.faults s few (128 + c)) number in
     let here : Tells s (value_known s c ∷ []) (same_bool wanted v) is =
-    agrees_map s (λ x z. z ≡ same_bool wanted x) value is (value_known s c ∷ []) (λ (d : Bool). number_of_value d ≡ number_of s (128 + c)) (λ (d : Bool). d ≡ same_bool wanted v) (few_of g.faults value.faults s number.faults few) each same
+    agrees_map s (λ x z. z ≡ same_bool wanted x) value is (value_known s c ∷ []) (λ (d : Bool). number_of_value d ≡ number_of s (128 + c)) (λ (d : Bool). d ≡ same_bool wanted v)
+    (few_of g.faults value.faults s number.faults few) each same
     (λ x z e f. f ∙ ap (same_bool wanted) (one_value x v (e ∙ number_at s c))) told in
     subst (λ (d : Bool). Tells s (first ++ (if b then value_known s c ∷ [] else [])) d t) (and_if b (same_bool wanted v))
-    (picked_tells g active of_active s few b first of_b is never t (value_known s c ∷ []) (same_bool wanted v) false (same_tree g value is number.faults same.faults each_is known_is) (constant_tree g false g.faults never refl each_never none known_never) made
+    (picked_tells g active of_active s few b first of_b is never t (value_known s c ∷ []) (same_bool wanted v) false (same_tree g value is number.faults same.faults each_is known_is)
+    (constant_tree g false g.faults never refl each_never none known_never) made
     (λ e. here) (agrees_constant s false g.faults never (λ y. y ≡ false) refl none))
 
-pub sent_told : (g : Graph) (share : ShareState) (goes : TreeState Bool) (end : TreeState (Option ℕ)) (free : TreeState ℕ) (slots never t : TreeState (Option ℕ)) → IsTree g goes → IsTree g end → IsTree g free →
-    IsJoin (λ x y z. z ≡ slot_from share y x) end free slots → HasOnePathEach slots.faults slots.paths → DoPathsPass (is_variable g) slots.paths → IsConstant None g.faults never → HasOnePathEach never.faults never.paths → DoPathsPass (is_variable g) never.paths → IsPick goes slots never t → IsSentTree g.faults share goes end free t
+pub sent_told : (g : Graph) (share : ShareState) (goes : TreeState Bool) (end : TreeState (Option ℕ)) (free : TreeState ℕ) (slots never t : TreeState (Option ℕ)) → IsTree g goes → IsTree g end →
+    IsTree g free →
+    IsJoin (λ x y z. z ≡ slot_from share y x) end free slots → HasOnePathEach slots.faults slots.paths → DoPathsPass (is_variable g) slots.paths → IsConstant None g.faults never →
+    HasOnePathEach never.faults never.paths → DoPathsPass (is_variable g) never.paths → IsPick goes slots never t → IsSentTree g.faults share goes end free t
 sent_told g share goes end free slots never t of_goes of_end of_free joined each_slots known_slots none each_never known_never made s few b first second third x y of_b told =
-    picked_tells g goes of_goes s few b first of_b slots never t (second ++ third) (slot_from share y x) None (same_tree g end slots of_end.faults joined.faults each_slots known_slots) (constant_tree g None g.faults never refl each_never none known_never) made
-    (λ e. let both = told e in agrees_join s (λ x y z. z ≡ slot_from share y x) end free slots second third (λ z. z ≡ x) (λ z. z ≡ y) (λ z. z ≡ slot_from share y x) (few_of g.faults end.faults s of_end.faults few)
-    (of_free.faults ∙ sym of_end.faults) (each_of g end.faults end of_end.faults of_end) (each_of g end.faults free of_end.faults of_free) joined (λ m n z d f i. i ∙ ap₂ (λ p q. slot_from share q p) d f) both.0 both.1)
+    picked_tells g goes of_goes s few b first of_b slots never t (second ++ third) (slot_from share y x) None (same_tree g end slots of_end.faults joined.faults each_slots known_slots)
+    (constant_tree g None g.faults never refl each_never none known_never) made
+    (λ e. let both = told e in agrees_join s (λ x y z. z ≡ slot_from share y x) end free slots second third (λ z. z ≡ x) (λ z. z ≡ y) (λ z. z ≡ slot_from share y x)
+    (few_of g.faults end.faults s of_end.faults few)
+    (of_free.faults ∙ sym of_end.faults) (each_of g end.faults end of_end.faults of_end) (each_of g end.faults free of_end.faults of_free) joined
+    (λ m n z d f i. i ∙ ap₂ (λ p q. slot_from share q p) d f) both.0 both.1)
     (agrees_constant s None g.faults never (λ z. z ≡ None) refl none)
 
-pub sent_always : (g : Graph) (share : ShareState) (goes : TreeState Bool) (end : TreeState (Option ℕ)) (free : TreeState ℕ) (t : TreeState (Option ℕ)) → IsConstant true goes.faults goes → IsTree g end → IsTree g free →
+pub sent_always : (g : Graph) (share : ShareState) (goes : TreeState Bool) (end : TreeState (Option ℕ)) (free : TreeState ℕ) (t : TreeState (Option ℕ)) → IsConstant true goes.faults goes →
+    IsTree g end → IsTree g free →
     IsJoin (λ x y z. z ≡ slot_from share y x) end free t → IsSentTree g.faults share goes end free t
 sent_always g share goes end free t always of_end of_free joined s few b first second third x y of_b told =
     let on = always_true goes always s b first of_b in
     let both = told on in
     subst (λ (d : Bool). Tells s (first ++ (if d then second ++ third else [])) (if d then slot_from share y x else None) t) (sym on)
-    (agrees_weaker s t (second ++ third) (first ++ (second ++ third)) (λ z. z ≡ slot_from share y x) (λ z. z ≡ slot_from share y x) (λ l j. Contains-append_right first (second ++ third) l j) (λ z e. e)
+    (agrees_weaker s t (second ++ third) (first ++ (second ++ third)) (λ z. z ≡ slot_from share y x) (λ z. z ≡ slot_from share y x) (λ l j. Contains-append_right first (second ++ third) l j)
+    (λ z e. e)
     (agrees_join s (λ x y z. z ≡ slot_from share y x) end free t second third (λ z. z ≡ x) (λ z. z ≡ y) (λ z. z ≡ slot_from share y x) (few_of g.faults end.faults s of_end.faults few)
-    (of_free.faults ∙ sym of_end.faults) (each_of g end.faults end of_end.faults of_end) (each_of g end.faults free of_end.faults of_free) joined (λ m n z d f i. i ∙ ap₂ (λ p q. slot_from share q p) d f) both.0 both.1))
+    (of_free.faults ∙ sym of_end.faults) (each_of g end.faults end of_end.faults of_end) (each_of g end.faults free of_end.faults of_free) joined
+    (λ m n z d f i. i ∙ ap₂ (λ p q. slot_from share q p) d f) both.0 both.1))
 
-pub free_always : (g : Graph) (turn : ℕ) (goes : TreeState Bool) (sent : TreeState (Option ℕ)) (free t : TreeState ℕ) → IsConstant true goes.faults goes → IsTree g sent → IsMap (λ x z. z ≡ time_later turn x) sent t → IsFreeTree g.faults turn goes sent free t
+pub free_always : (g : Graph) (turn : ℕ) (goes : TreeState Bool) (sent : TreeState (Option ℕ)) (free t : TreeState ℕ) → IsConstant true goes.faults goes → IsTree g sent →
+    IsMap (λ x z. z ≡ time_later turn x) sent t → IsFreeTree g.faults turn goes sent free t
 free_always g turn goes sent free t always of_sent later s few b first second x w v of_b sends stays =
     let both = sends (always_true goes always s b first of_b) in
-    agrees_weaker s t second (first ++ second) (λ z. z ≡ time_later turn x) (λ z. z ≡ v) (λ l j. Contains-append_right first second l j) (λ z e. e ∙ sym both.1) (later_tells g turn sent t of_sent later s few second x both.0)
+    agrees_weaker s t second (first ++ second) (λ z. z ≡ time_later turn x) (λ z. z ≡ v) (λ l j. Contains-append_right first second l j) (λ z e. e ∙ sym both.1)
+    (later_tells g turn sent t of_sent later s few second x both.0)
 
-pub free_told : (g : Graph) (turn : ℕ) (goes : TreeState Bool) (sent : TreeState (Option ℕ)) (free after t : TreeState ℕ) → IsTree g goes → IsTree g sent → IsTree g free → IsMap (λ x z. z ≡ time_later turn x) sent after → HasOnePathEach after.faults after.paths → DoPathsPass (is_variable g) after.paths →
+pub free_told : (g : Graph) (turn : ℕ) (goes : TreeState Bool) (sent : TreeState (Option ℕ)) (free after t : TreeState ℕ) → IsTree g goes → IsTree g sent → IsTree g free →
+    IsMap (λ x z. z ≡ time_later turn x) sent after → HasOnePathEach after.faults after.paths → DoPathsPass (is_variable g) after.paths →
     IsPick goes after free t → IsFreeTree g.faults turn goes sent free t
 free_told g turn goes sent free after t of_goes of_sent of_free later each known made s few b first second x w v of_b sends stays =
     let of_after = same_tree g sent after of_sent.faults later.faults each known in

@@ -35,14 +35,17 @@ module _ (g : Graph) (order : List ℕ) (topological : IsTopological g order) (s
 
   pub inputs_in : greatest (input_bounds g s t p) ≤ greatest (start_bounds g order s t p)
   inputs_in = greatest-le (input_bounds g s t p) least_start (λ v k. bound v
-      (Contains-rest _ _ _ (Contains-append_left (input_bounds g s t p ++ processor_bounds g order s t p) (hearing_bounds g order s t p) v (Contains-append_left (input_bounds g s t p) (processor_bounds g order s t p) v k))))
+      (Contains-rest _ _ _ (Contains-append_left (input_bounds g s t p ++ processor_bounds g order s t p) (hearing_bounds g order s t p) v
+      (Contains-append_left (input_bounds g s t p) (processor_bounds g order s t p) v k))))
 
   pub end_in_bounds : (q : ℕ) → Contains (before_on_node g order p) q → active g s.values q ≡ true → end_in t q ≤ greatest (start_bounds g order s t p)
   end_in_bounds q k acts = bound (end_in t q)
-      (Contains-rest _ _ _ (Contains-append_left (input_bounds g s t p ++ processor_bounds g order s t p) (hearing_bounds g order s t p) (end_in t q) (Contains-append_right (input_bounds g s t p) (processor_bounds g order s t p) (end_in t q)
+      (Contains-rest _ _ _ (Contains-append_left (input_bounds g s t p ++ processor_bounds g order s t p) (hearing_bounds g order s t p) (end_in t q)
+      (Contains-append_right (input_bounds g s t p) (processor_bounds g order s t p) (end_in t q)
       (Contains-map (end_in t) (filter (active g s.values) (before_on_node g order p)) q (Contains-filter (active g s.values) (before_on_node g order p) q acts k)))))
 
-  pub heard_in_bounds : (q c : ℕ) → Contains (before_on_node g order p ++ p ∷ []) q → c < condition_count g → decides g s.values q c ≡ true → heard_there g t (node_of g p) c ≤ greatest (start_bounds g order s t p)
+  pub heard_in_bounds : (q c : ℕ) → Contains (before_on_node g order p ++ p ∷ []) q → c < condition_count g → decides g s.values q c ≡ true →
+      heard_there g t (node_of g p) c ≤ greatest (start_bounds g order s t p)
   heard_in_bounds q c k h d = bound (heard_there g t (node_of g p) c)
       (Contains-rest _ _ _ (Contains-append_right (input_bounds g s t p ++ processor_bounds g order s t p) (hearing_bounds g order s t p) (heard_there g t (node_of g p) c)
       (Contains-map (heard_there g t (node_of g p)) (flat_map (deciding g s.values) (before_on_node g order p ++ p ∷ [])) c

@@ -86,7 +86,8 @@ wide_rows g urgency times rows row n item load l made new few (inr many) = inr (
   many = omega (arith, many, few.is, load_more g rows (rows ++ row ∷ []) row n made.count refl);
 })
 
-pub wide_shown : (wide : Option ℕ) (fault : BuildFault) (g : Graph) (urgency : List ℕ) (times : List (TreeState (Option ℕ))) (rows : List Row) (row : Row) (n load : ℕ) → n < item_count g → AreFirstRows g urgency times n rows →
+pub wide_shown : (wide : Option ℕ) (fault : BuildFault) (g : Graph) (urgency : List ℕ) (times : List (TreeState (Option ℕ))) (rows : List Row) (row : Row) (n load : ℕ) → n < item_count g →
+    AreFirstRows g urgency times n rows →
     IsRowOf g urgency (get_or times n (no_tree g.faults)) n row → AreFewIf wide g rows n load →
     ShowsLarge wide ((MOST_COLUMNS < length row.columns) ⊎ (MOST_LOAD < load + length row.columns * rows_of_item g (item_at g n))) fault → ShowsLarge wide (HaveWideRows g urgency times) fault
 wide_shown None fault g urgency times rows row n load l made new few h = none_shown fault h
@@ -94,7 +95,8 @@ wide_shown None fault g urgency times rows row n load l made new few h = none_sh
     no_name : (x : ℕ) → None ≡ Some x → ⊥
     no_name x e = cc
 
-    none_shown : (fault : BuildFault) → ShowsLarge None ((MOST_COLUMNS < length row.columns) ⊎ (MOST_LOAD < load + length row.columns * rows_of_item g (item_at g n))) fault → ShowsLarge None (HaveWideRows g urgency times) fault
+    none_shown : (fault : BuildFault) → ShowsLarge None ((MOST_COLUMNS < length row.columns) ⊎ (MOST_LOAD < load + length row.columns * rows_of_item g (item_at g n))) fault →
+        ShowsLarge None (HaveWideRows g urgency times) fault
     none_shown (TooWide x) h = absurd (no_name x h.0)
     none_shown OutOfMemory h = tt
 wide_shown (Some item) (TooWide x) g urgency times rows row n load l made new few h = (h.0, wide_rows g urgency times rows row n item load l made new few h.1)
@@ -102,7 +104,8 @@ wide_shown (Some item) OutOfMemory g urgency times rows row n load l made new fe
 
 -- ---- tables of rows
 
-module _ (g : Graph) (urgency order : List ℕ) (frozen : List (Option ℕ)) (rows : List Row) (limits : IsWithinLimits g) (admitted : Admitted g urgency order) (found : AreRowsFound g urgency order frozen rows) where
+module _ (g : Graph) (urgency order : List ℕ) (frozen : List (Option ℕ)) (rows : List Row) (limits : IsWithinLimits g) (admitted : Admitted g urgency order)
+    (found : AreRowsFound g urgency order frozen rows) where
   -- if nothing is too wide, they fit
   pub rows_fit : (wide : Option ℕ) → IsWidth g order wide → IfSome wide (λ item. DoRowsFit g rows) → DoRowsFit g rows
   rows_fit None narrow few = found_rows_fit g urgency order frozen rows limits admitted found (none_too_wide g order narrow)
@@ -125,7 +128,8 @@ width_of g order None some none = none
 width_of g order (Some x) some none = some
 
 -- what is named is the least item that is too wide
-pub named_least : (A : Type 0) (g : Graph) (order : List ℕ) (wide : Option ℕ) (fault : BuildFault) → IsWidth g order wide → ShowsLarge wide A fault → ShowsBuildFault (λ x. IsLeastWide g order x × A) fault
+pub named_least : (A : Type 0) (g : Graph) (order : List ℕ) (wide : Option ℕ) (fault : BuildFault) → IsWidth g order wide → ShowsLarge wide A fault →
+    ShowsBuildFault (λ x. IsLeastWide g order x × A) fault
 named_least A g order wide (TooWide x) is h = (subst (IsWidth g order) h.0 is, h.1)
 named_least A g order wide OutOfMemory is h = tt
 

@@ -5,8 +5,8 @@ use Rattle.cpg_base.specs.Bus.{round}
 use Rattle.cpg_base.specs.Scenario.{Scenario, IsScenario}
 use Rattle.cpg_bus.specs.Share.{ShareState}
 use Rattle.cpg_rules.specs.Guards.{Guards}
-use Rattle.cpg_paths.specs.Greatest.{HasValue}
-use Rattle.cpg_paths.specs.Meeting.{HasWhere}
+use Rattle.cpg_tree_columns.specs.Greatest.{HasValue}
+use Rattle.cpg_tree_columns.specs.Meeting.{HasWhere}
 use Rattle.cpg_tree.specs.Tree.{TreeState, HasOnePathEach, IsConstant}
 use Rattle.cpg_expand.specs.Earlier.{IsBetween, IsAskedOf}
 use Rattle.cpg_expand.specs.Forest.{ForestState, ends_of, times_of, heard_tree, heard_delay, input_tree, input_delay}

@@ -6,7 +6,7 @@ use Rattle.cpg_base.specs.Scenario.{zero_scenario, IsLeast, is_before, Scenario,
 use Rattle.cpg_order.specs.Urgency.{IsTopological}
 use Rattle.cpg_run.specs.Finish.{IsWorst, IsExcess}
 use Rattle.cpg_run.specs.Run.{Times, IsRun}
-use Rattle.cpg_paths.specs.Greatest.{HasValue, IsGreatestOf}
+use Rattle.cpg_tree_columns.specs.Greatest.{HasValue, IsGreatestOf}
 use Rattle.cpg_tree.specs.Tree.{Path, TreeState, IsOn, IsMap}
 use Rattle.cpg_expand.specs.Agreeing.{IsTree}
 use Rattle.cpg_expand.specs.Forest.{no_tree}

@@ -5,7 +5,7 @@ use Rattle.cpg_base.specs.Scenario.{Scenario, IsScenario}
 use Rattle.cpg_cube.specs.Column.{Column}
 use Rattle.cpg_run.specs.Run.{Times, IsRun}
 use Rattle.cpg_run.specs.Carried.{carried}
-use Rattle.cpg_paths.specs.Columns.{columns_of_paths, IsTidyColumn}
+use Rattle.cpg_tree_columns.specs.Columns.{columns_of_paths, IsTidyColumn}
 use Rattle.cpg_tree.specs.Tree.{TreeState, HasOnePathEach}
 use Rattle.cpg_expand.specs.Agreeing.{Agrees}
 

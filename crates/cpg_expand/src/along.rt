@@ -17,13 +17,13 @@ use crate::ending::{end, ready};
 use crate::forest::{Forest, Ready};
 use crate::guarded::active;
 use crate::latest::latest_start;
-use crate::sending::{Course, send};
+use crate::sending::{PlannedCourse, send};
 use crate::starting::{freeze, unfrozen_start, wait_for, waiting};
 use crate::waited::is_waited_for;
 use cpg_base::{Order, OutOfMemory, Problem};
 use cpg_bus::Plan;
 use cpg_rules::Admitted;
-use cpg_run::{BuildFault, Frozen};
+use cpg_run::{BuildFault, FrozenTimes};
 use cpg_tree::Tree;
 use std::alloc::Global;
 
@@ -160,7 +160,7 @@ fn begin_frozen(
     admitted: &Admitted,
     plan: &Plan,
     order: &Order,
-    frozen: &mut Frozen,
+    frozen: &mut FrozenTimes,
     forest: &mut Forest,
     process: u32,
 ) -> Result<Tree<bool>, BuildFault>
@@ -194,7 +194,7 @@ fn begin(
     admitted: &Admitted,
     plan: &Plan,
     order: &Order,
-    frozen: &mut Frozen,
+    frozen: &mut FrozenTimes,
     forest: &mut Forest,
     process: u32,
 ) -> Result<Tree<bool>, BuildFault>
@@ -222,7 +222,7 @@ pub(crate) fn step(
     admitted: &Admitted,
     plan: &Plan,
     order: &Order,
-    frozen: &mut Frozen,
+    frozen: &mut FrozenTimes,
     forest: &mut Forest,
     process: u32,
 ) -> Result<(), BuildFault>
@@ -239,7 +239,7 @@ pub(crate) fn step(
 {
     let problem = admitted.problem();
     let active = begin(alloc, admitted, plan, order, frozen, forest, process)?;
-    let course = Course {
+    let course = PlannedCourse {
         problem,
         plan,
         order,

@@ -58,7 +58,7 @@ pub(crate) trait Descent<T> {
 
 /// A guard with its tree.
 #[derive(Drop)]
-struct Known<'a, T> {
+struct KnownGuard<'a, T> {
     guard: &'a GuardTree,
     tree: Tree<T>,
 }
@@ -111,7 +111,7 @@ fn is_same(guard: &GuardTree, other: &GuardTree) -> bool
 }
 
 /// The place of a guard that is equal to another.
-fn place_of<T>(known: &[Known<'_, T>], guard: &GuardTree) -> Option<usize>
+fn guard_index<T>(known: &[KnownGuard<'_, T>], guard: &GuardTree) -> Option<usize>
     ensures { IfSome result (λ i. IsAt known.now i guard.now) }
 {
     for (place, one) in known.iter().enumerate() {
@@ -123,7 +123,7 @@ fn place_of<T>(known: &[Known<'_, T>], guard: &GuardTree) -> Option<usize>
 }
 
 /// The tree that is found.
-fn tree_of<'a, T>(found: &'a Source<T>, known: &'a [Known<'_, T>]) -> &'a Tree<T>
+fn tree_of<'a, T>(found: &'a Source<T>, known: &'a [KnownGuard<'_, T>]) -> &'a Tree<T>
     requires { IsThere known.now found.now }
     ensures { IsTreeOf known.now found.now result.now }
 {
@@ -135,7 +135,7 @@ fn tree_of<'a, T>(found: &'a Source<T>, known: &'a [Known<'_, T>]) -> &'a Tree<T
 
 /// Keeps the tree of a guard, if there are few.
 fn keep<'a, T: Copy>(
-    known: &mut Vec<Known<'a, T>>,
+    known: &mut Vec<KnownGuard<'a, T>>,
     guard: &'a GuardTree,
     tree: Tree<T>,
 ) -> Result<Source<T>, OutOfMemory>
@@ -145,7 +145,7 @@ fn keep<'a, T: Copy>(
     if place >= KEPT {
         return Ok(Source::Alone(tree));
     }
-    known.push(Known { guard, tree })?;
+    known.push(KnownGuard { guard, tree })?;
     Ok(Source::At(place))
 }
 
@@ -153,7 +153,7 @@ fn keep<'a, T: Copy>(
 fn found<'a, T: Copy + Eq, D: Descent<T>>(
     descent: &D,
     guard: &'a GuardTree,
-    known: &mut Vec<Known<'a, T>>,
+    known: &mut Vec<KnownGuard<'a, T>>,
 ) -> Result<Source<T>, BuildFault>
     requires begun { D.begun descent.now }
     requires tests { TestsBelow (D.conditions descent.now) guard.now }
@@ -164,7 +164,7 @@ fn found<'a, T: Copy + Eq, D: Descent<T>>(
     ensures found { IfOk result (IsFound (D.made descent.now) (D.told descent.now) known.new.items guard.now) }
     ensures fault { IfErr result (ShowsLarge (D.wide descent.now) (IsLargeDown (D.large descent.now) (D.told descent.now) guard.now)) }
 {
-    if let Some(place) = place_of(known.as_slice(), guard) {
+    if let Some(place) = guard_index(known.as_slice(), guard) {
         return Ok(Source::At(place));
     }
     match guard.top() {

@@ -13,7 +13,7 @@ use std::alloc::Global;
 
 /// The processes of a node from a place of an order on, with the guards of the graph.
 #[derive(Clone, Copy)]
-pub(crate) struct Span<'a> {
+pub(crate) struct NodeSpan<'a> {
     pub(crate) problem: &'a Problem,
     pub(crate) guards: &'a GuardTrees,
     pub(crate) order: &'a Order,
@@ -22,7 +22,7 @@ pub(crate) struct Span<'a> {
 }
 
 /// Whether a process is on the node of a span, and stands from a place on and before another one.
-pub(crate) fn stands_between(span: &Span<'_>, from: u32, to: u32, other: u32) -> bool
+pub(crate) fn stands_between(span: &NodeSpan<'_>, from: u32, to: u32, other: u32) -> bool
     requires other { other < process_count span.now.problem.now }
     requires order { length span.now.order.now ≡ process_count span.now.problem.now }
     ensures { result ≡ (node_of span.now.problem.now other == span.now.node && (nat_le from (place span.now.order.now other) && nat_lt
@@ -47,7 +47,7 @@ fn is_always(guard: &GuardTree) -> bool
 }
 
 /// The place of a process that is always active, if it is one from a place on and before another one, or else the first of these.
-fn later_cut(span: &Span<'_>, from: u32, to: u32, other: u32) -> u32
+fn later_cut(span: &NodeSpan<'_>, from: u32, to: u32, other: u32) -> u32
     requires along { AreAlong span.now.problem.now span.now.guards.now span.now.order.now }
     requires other { other < process_count span.now.problem.now }
     ensures { IsCut span.now.problem.now span.now.order.now span.now.guards.now span.now.node to from →
@@ -63,7 +63,7 @@ fn later_cut(span: &Span<'_>, from: u32, to: u32, other: u32) -> u32
 }
 
 /// The place before another one from which on the processes of a node need be looked at.
-fn cut(span: &Span<'_>, to: u32) -> u32
+fn cut(span: &NodeSpan<'_>, to: u32) -> u32
     requires along { AreAlong span.now.problem.now span.now.guards.now span.now.order.now }
     ensures { IsCut span.now.problem.now span.now.order.now span.now.guards.now span.now.node to result }
 {
@@ -81,7 +81,7 @@ pub(crate) fn span_before<'a>(
     order: &'a Order,
     node: u32,
     to: u32,
-) -> Span<'a>
+) -> NodeSpan<'a>
     requires along { AreAlong problem.now guards.now order.now }
     ensures problem { result.problem.now ≡ problem.now }
     ensures guards { result.guards.now ≡ guards.now }
@@ -89,14 +89,14 @@ pub(crate) fn span_before<'a>(
     ensures node { result.node ≡ node }
     ensures cut { IsCut problem.now order.now guards.now node to result.from }
 {
-    let span = Span {
+    let span = NodeSpan {
         problem,
         guards,
         order,
         node,
         from: 0,
     };
-    Span {
+    NodeSpan {
         problem,
         guards,
         order,
@@ -108,7 +108,7 @@ pub(crate) fn span_before<'a>(
 /// A tree, or where a process of a span tests a condition too.
 fn or_asked(
     alloc: Global,
-    span: &Span<'_>,
+    span: &NodeSpan<'_>,
     to: u32,
     condition: u32,
     other: u32,
@@ -134,7 +134,7 @@ fn or_asked(
 /// Where a process of a span before a place tests a condition.
 pub(crate) fn asked(
     alloc: Global,
-    span: &Span<'_>,
+    span: &NodeSpan<'_>,
     to: u32,
     condition: u32,
 ) -> Result<Tree<bool>, OutOfMemory>

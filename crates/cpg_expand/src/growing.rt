@@ -14,13 +14,13 @@ use crate::waited::is_queued_from;
 use cpg_base::{Order, Problem};
 use cpg_bus::Plan;
 use cpg_rules::Admitted;
-use cpg_run::{BuildFault, Frozen};
+use cpg_run::{BuildFault, FrozenTimes};
 use std::alloc::Global;
 
 /// Trees, and the frozen times under which they tell the runs.
 #[derive(Drop)]
 pub(crate) struct GrownForest {
-    pub(crate) frozen: Frozen,
+    pub(crate) frozen: FrozenTimes,
     pub(crate) forest: Forest,
 }
 
@@ -94,7 +94,7 @@ pub(crate) fn grown(
 {
     let problem = admitted.problem();
     let plan = Plan::of(alloc, problem)?;
-    let mut frozen = Frozen::none(alloc, problem)?;
+    let mut frozen = FrozenTimes::none(alloc, problem)?;
     let mut forest = Forest::none(alloc, problem, wide)?;
     for process in order.processes() {
         step(

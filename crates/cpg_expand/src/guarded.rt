@@ -97,14 +97,14 @@ pub(crate) fn tested_on(
 
 /// When a node has heard what a guard tests.
 #[derive(Clone, Copy)]
-struct Hearing<'a> {
+struct GuardHearing<'a> {
     alloc: Global,
     problem: &'a Problem,
     forest: &'a Forest,
     node: u32,
 }
 
-impl Descent<u64> for Hearing<'_> {
+impl Descent<u64> for GuardHearing<'_> {
     ghost begun = { λ h. (condition_count h.problem.now ≤ 32) × HasTrees h.problem.now h.forest.now };
 
     ghost conditions = { λ h. condition_count h.problem.now };
@@ -158,7 +158,7 @@ pub(crate) fn heard(
     ensures heard { IfOk result (IsHeardTree problem.now forest.now node guard.now) }
     ensures fault { IfErr result (ShowsLarge forest.now.wide (IsLargeHeard problem.now forest.now node guard.now)) }
 {
-    let hearing = Hearing {
+    let hearing = GuardHearing {
         alloc,
         problem,
         forest,

@@ -9,9 +9,9 @@ ghost use Rattle.cpg_expand.specs.Agreeing.{IsTree};
 ghost use Rattle.cpg_expand.specs.Forest.{HasTrees, ends_of, heard_delay, heard_tree, times_of};
 ghost use Rattle.cpg_expand.specs.Latest.{HasEnded, HasEndedOf, HasHeardOf, HasInput, HasInputOf, HasLater, HasQueued, HasQueuedOf, IsLatestSend, IsLatestStart, IsRaised, or_later};
 ghost use Rattle.cpg_expand.specs.Tops.{IsTop};
-ghost use Rattle.cpg_paths.specs.Meeting.{HasWhere};
+ghost use Rattle.cpg_tree_columns.specs.Meeting.{HasWhere};
 
-use crate::earlier::{Span, asked, stands_between};
+use crate::earlier::{NodeSpan, asked, stands_between};
 use crate::forest::Forest;
 use crate::values::slot_at;
 use crate::waited::stands_before;
@@ -28,7 +28,7 @@ fn most_where(problem: &Problem, tree: &Tree<Option<u64>>, wanted: &Tree<bool>) 
 {
     // its clause tells that the graph is within its limits
     let _processes = problem.processes();
-    cpg_paths::most_where(tree, wanted)
+    cpg_tree_columns::most_where(tree, wanted)
 }
 
 /// A time, or another one later by a delay, whichever is greater.
@@ -107,7 +107,7 @@ fn after_condition(
 /// A time, or when a process has ended at the latest where a tree is true, whichever is greater, if it is one of a span before a
 /// place.
 fn after_one(
-    span: &Span<'_>,
+    span: &NodeSpan<'_>,
     forest: &Forest,
     active: &Tree<bool>,
     to: u32,
@@ -128,7 +128,7 @@ fn after_one(
 }
 
 /// A time, or when the last of the processes of a span before a place has ended at the latest, whichever is greater.
-fn after_ends(span: &Span<'_>, forest: &Forest, active: &Tree<bool>, to: u32, first: u64) -> u64
+fn after_ends(span: &NodeSpan<'_>, forest: &Forest, active: &Tree<bool>, to: u32, first: u64) -> u64
     requires along { AreAlong span.now.problem.now span.now.guards.now span.now.order.now }
     requires forest { HasTrees span.now.problem.now forest.now }
     requires active { IsTree span.now.problem.now active.now }
@@ -164,7 +164,7 @@ fn both(
 /// whichever is greater.
 fn after_hearing(
     alloc: Global,
-    span: &Span<'_>,
+    span: &NodeSpan<'_>,
     forest: &Forest,
     active: &Tree<bool>,
     to: u32,
@@ -231,7 +231,7 @@ fn after_inputs(
 /// guards test and its own, its release and for these inputs; `None` exactly if it is never active.
 pub(crate) fn latest_start(
     alloc: Global,
-    span: &Span<'_>,
+    span: &NodeSpan<'_>,
     forest: &Forest,
     edges: &[u32],
     active: &Tree<bool>,

@@ -10,8 +10,8 @@ ghost use Rattle.cpg_expand.specs.Tops.{AreTops};
 use crate::tops::{bar_of, past_tops, reaches};
 use crate::values::past;
 use cpg_base::{Order, OutOfMemory, Problem, Scenario, is_before};
-use cpg_paths::greatest;
 use cpg_tree::Tree;
+use cpg_tree_columns::greatest;
 use std::alloc::Global;
 
 /// The greatest of a number of time units over all scenarios, the least scenario that has it, and the least process that

@@ -12,11 +12,11 @@ ghost use Rattle.cpg_run.specs.Found.{DoRowsFit};
 use cpg_base::{MOST_COLUMNS, MOST_LOAD, Order, OutOfMemory, Problem};
 use cpg_cube::Entry;
 use cpg_merging::merged_tidy;
-use cpg_paths::{columns, listing_along};
 use cpg_reach::rows_of_item;
 use cpg_run::BuildFault;
 use cpg_table::Row;
 use cpg_tree::Tree;
+use cpg_tree_columns::{columns, listing_along};
 use std::alloc::Global;
 
 /// The columns of a start, merged.

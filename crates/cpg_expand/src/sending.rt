@@ -21,7 +21,7 @@ use crate::values::{later, same_as, slots};
 use crate::waited::is_queued_for;
 use cpg_base::{Item, Order, OutOfMemory, Problem};
 use cpg_bus::{Plan, Share};
-use cpg_run::Frozen;
+use cpg_run::FrozenTimes;
 use cpg_tree::{Tree, value};
 use std::alloc::Global;
 
@@ -242,14 +242,19 @@ fn put(forest: &mut Forest, item: u32, times: Tree<Option<u64>>, node: u32, free
 
 /// A graph, its plan and an order of its processes.
 #[derive(Clone, Copy)]
-pub(crate) struct Course<'a> {
+pub(crate) struct PlannedCourse<'a> {
     pub(crate) problem: &'a Problem,
     pub(crate) plan: &'a Plan,
     pub(crate) order: &'a Order,
 }
 
 /// The latest time at which an item would be sent, its frozen time aside, where it goes.
-fn latest_of(course: &Course<'_>, forest: &Forest, goes: &Tree<bool>, item: u32) -> Option<u64>
+fn latest_of(
+    course: &PlannedCourse<'_>,
+    forest: &Forest,
+    goes: &Tree<bool>,
+    item: u32,
+) -> Option<u64>
     requires plan { course.now.plan.now ≡ plan_of course.now.problem.now }
     requires order { length course.now.order.now ≡ process_count course.now.problem.now }
     requires slots { HasSenderSlots course.now.problem.now }
@@ -275,8 +280,8 @@ fn latest_of(course: &Course<'_>, forest: &Forest, goes: &Tree<bool>, item: u32)
 /// The times of an item that is sent, its frozen time set if it is frozen.
 fn sent_of(
     alloc: Global,
-    course: &Course<'_>,
-    frozen: &mut Frozen,
+    course: &PlannedCourse<'_>,
+    frozen: &mut FrozenTimes,
     forest: &Forest,
     goes: &Tree<bool>,
     item: u32,
@@ -305,8 +310,8 @@ fn sent_of(
 /// Adds the times of an item that a process sends, and when the slots of its node are free then.
 fn add(
     alloc: Global,
-    course: &Course<'_>,
-    frozen: &mut Frozen,
+    course: &PlannedCourse<'_>,
+    frozen: &mut FrozenTimes,
     forest: &mut Forest,
     active: &Tree<bool>,
     item: u32,
@@ -343,8 +348,8 @@ fn add(
 /// Adds what a process sends, in its order.
 pub(crate) fn send(
     alloc: Global,
-    course: &Course<'_>,
-    frozen: &mut Frozen,
+    course: &PlannedCourse<'_>,
+    frozen: &mut FrozenTimes,
     forest: &mut Forest,
     active: &Tree<bool>,
     process: u32,

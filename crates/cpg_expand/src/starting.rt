@@ -15,7 +15,7 @@ use crate::guarded::{heard, start};
 use crate::values::fixed;
 use cpg_base::{OutOfMemory, Problem};
 use cpg_rules::{GuardTop, GuardTree};
-use cpg_run::{BuildFault, Frozen};
+use cpg_run::{BuildFault, FrozenTimes};
 use cpg_tree::Tree;
 use std::alloc::Global;
 
@@ -121,7 +121,7 @@ pub(crate) fn unfrozen_start(
 }
 
 /// Sets the frozen time of an item, if there is one.
-fn set_if(frozen: &mut Frozen, item: u32, latest: Option<u64>)
+fn set_if(frozen: &mut FrozenTimes, item: u32, latest: Option<u64>)
     requires { item < length frozen.old }
     ensures { frozen.new ≡ set_if frozen.old item latest }
 {
@@ -134,7 +134,7 @@ fn set_if(frozen: &mut Frozen, item: u32, latest: Option<u64>)
 /// alone names `problem`.
 pub(crate) fn freeze(
     problem: &Problem,
-    frozen: &mut Frozen,
+    frozen: &mut FrozenTimes,
     item: u32,
     goes: &Tree<bool>,
     latest: Option<u64>,

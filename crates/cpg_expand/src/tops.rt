@@ -5,8 +5,8 @@ ghost use Rattle.cpg_expand.specs.Tops.{AreTops, bar_of, past_tops, reaches};
 
 use crate::values::time_past;
 use cpg_base::{OutOfMemory, Problem};
-use cpg_paths::most;
 use cpg_tree::Tree;
+use cpg_tree_columns::most;
 use std::alloc::Global;
 
 /// The greatest number of each tree, if it has one.

@@ -1,5 +1,6 @@
 -- A play is followed by each of its nodes on the records of what it is told.
-use Rattle.std.proofs.Common.{◌≡◌, ◌≢◌, ℕ, ◌<◌, ◌≤◌, true, false, ◌==◌, List, [], ◌∷◌, ◌++◌, length, map, fold, get_or, Contains, Option, Some, None, refl, sym, ap, ◌∙◌, subst, arith, inl, inr, ◌⊎◌, eq-eqb, ne_eqb}
+use Rattle.std.proofs.Common.{◌≡◌, ◌≢◌, ℕ, ◌<◌, ◌≤◌, true, false, ◌==◌, List, [], ◌∷◌, ◌++◌, length, map, fold, get_or, Contains, Option, Some, None, refl, sym, ap, ◌∙◌, subst, arith, inl, inr, ◌⊎◌}
+use Rattle.std.proofs.Common.{eq-eqb, ne_eqb}
 use Rattle.std.proofs.lemmas.Bool.{cases_eq, cond-true, cond-false}
 use Rattle.std.proofs.lemmas.List.{get_or-set_same, get_or-set_other, get_or-replicate}
 use Rattle.std.proofs.lemmas.List.Sums.{fold-append}
@@ -11,10 +12,12 @@ use Rattle.cpg_cube.specs.Cube.{holds}
 use Rattle.cpg_cube.specs.declared.literal.Literal.{Literal}
 use Rattle.cpg_table.specs.Table.{NodeTable, table_at, empty_table}
 use Rattle.cpg_table.proofs.Told.{Told, told_true}
-use Rattle.cpg_node.specs.Dispatcher.{Dispatcher, Range, Ended, Frame, Act, next, hear, hear_all, hear_frame, frame_literals, turn, acts_of_turn, due_reports, AllFine, EndFits, ValueFits, own_of, opening, finished, is_after}
+use Rattle.cpg_node.specs.Dispatcher.{Dispatcher, Range, Ended, Frame, Act, next, hear, hear_all, hear_frame, frame_literals, turn, acts_of_turn, due_reports, AllFine, EndFits, ValueFits, own_of}
+use Rattle.cpg_node.specs.Dispatcher.{opening, finished, is_after}
 use Rattle.cpg_node.proofs.Kept.{Keeps, keeps_cut_all, keeps_frames, within_kept, ToldBy, IsTrueEnd}
 use Rattle.cpg_node.proofs.Next.{by}
-use Rattle.cpg_cluster.specs.Cluster.{World, Cluster, Answer, Took, Waits, Done as IsDone, own_table, open_cluster, dispatcher_at, answer, reports_now, reported, frames_now, waits_on, take_turn, step_by, step, play}
+use Rattle.cpg_cluster.specs.Cluster.{World, Cluster, Answer, Took, Waits, Done as IsDone, own_table, open_cluster, dispatcher_at, answer, reports_now, reported, frames_now, waits_on, take_turn}
+use Rattle.cpg_cluster.specs.Cluster.{step_by, step, play}
 use Rattle.cpg_cluster.specs.Correct.{IsDue, asked_of, due_key}
 use Rattle.cpg_cluster.proofs.Dues.{precedes, in_order_sorted}
 use Rattle.cpg_cluster.proofs.Nodes.{Played}
@@ -27,7 +30,7 @@ use Rattle.cpg_cluster.proofs.Finishing.{may_finish, table_ready}
 use Rattle.cpg_cluster.proofs.Reached.{Reached, reached_open, reached_step, free_from, coming, ends_are, dispatchers_at}
 use Rattle.cpg_cluster.proofs.Plays.{played_of, done_next, valid_tables_are_correct}
 use Rattle.cpg_live.specs.declared.event.Event.TheVariants.{Close}
-use Rattle.cpg_live.specs.Stream.{Progress, Step, lawful, start}
+use Rattle.cpg_live.specs.Stream.{NodeProgress, Step, lawful, start}
 use Rattle.cpg_live.specs.Told.{follow_one, follow, after_last, HasCome, told_ends, IsFollowed}
 use Rattle.cpg_live.proofs.Told.{turns_are_followed, closes_are_followed}
 use Rattle.cpg_live.proofs.Turns.{floor_after, turned_zero}
@@ -94,7 +97,8 @@ module _ {g : Graph} {tables : List NodeTable} {w : World} (k : Played g tables 
         subst (λ t. EndFits t (hear_all ready frames).heard z) (sym table_is)
         (subst (λ h. EndFits (own_table g a (table_at tables a)) h z) (sym (heard_all frames ready))
         (subst (λ t. EndFits (own_table g a (table_at tables a)) (fold (hear_frame t) ready.heard frames) z) (sym table_is)
-        (fits (fold (hear_frame (own_table g a (table_at tables a))) ready.heard frames) (λ m. ToldBy (own_table g a (table_at tables a)) frames m ⊎ Told g tables w.scenario a (by (r.holds a l).last) m)
+        (fits (fold (hear_frame (own_table g a (table_at tables a))) ready.heard frames)
+        (λ m. ToldBy (own_table g a (table_at tables a)) frames m ⊎ Told g tables w.scenario a (by (r.holds a l).last) m)
         (keeps_frames g.faults (own_table g a (table_at tables a)) frames ready.heard (Told g tables w.scenario a (by (r.holds a l).last)) keeps_ready)
         (λ m q. elim q [
           | inl n ↦ told_true {g = g} {tables = tables} {s = w.scenario} {node = a} {when = λ t. t == time} m (inr (frames_told k c r.holds a l ready table_is time m n))
@@ -102,7 +106,7 @@ module _ {g : Graph} {tables : List NodeTable} {w : World} (k : Played g tables 
         ]) z known)))
 
     -- the turn of a play is followed
-    followed : (p : Progress) → HasCome p (dispatcher_at c a) (get_or c.acts a []) →
+    followed : (p : NodeProgress) → HasCome p (dispatcher_at c a) (get_or c.acts a []) →
         IsFollowed p (dispatcher_at c a) (get_or c.acts a []) time (by_time (reports_now g w (dispatcher_at c a) time)) frames
     followed p h =
         let d : Dispatcher = dispatcher_at c a in
@@ -119,7 +123,7 @@ module _ {g : Graph} {tables : List NodeTable} {w : World} (k : Played g tables 
         after_is (Some last) moment h = floor_after (Some last) moment h
 
     -- if a turn of a play is followed, the stream comes to the cluster's next state
-    turn_followed : (p : Progress) → HasCome p (dispatcher_at c a) (get_or c.acts a []) →
+    turn_followed : (p : NodeProgress) → HasCome p (dispatcher_at c a) (get_or c.acts a []) →
         let s = follow (lawful p) (told_at g w c a time) in (s.fault ≡ None) × HasCome s.progress (dispatcher_at (take_turn g w c a time) a) (get_or (take_turn g w c a time).acts a [])
     turn_followed p h =
         let d : Dispatcher = dispatcher_at c a in
@@ -143,11 +147,12 @@ whole : (s : Step) → s.fault ≡ None → lawful s.progress ≡ s
 whole s e = ap (λ o. record { progress = s.progress; fault = o }) (sym e)
 
 module _ {g : Graph} {tables : List NodeTable} {w : World} (k : Played g tables w) (node : ℕ) (l : node < length g.nodes) where
-  step_followed : (c : Cluster) → Reached g tables w c → (a : ℕ) (p : Progress) → HasCome p (dispatcher_at c node) (get_or c.acts node []) →
+  step_followed : (c : Cluster) → Reached g tables w c → (a : ℕ) (p : NodeProgress) → HasCome p (dispatcher_at c node) (get_or c.acts node []) →
       Comes g (step g w c a) node (follow (lawful p) (told_in_step g w c a node))
   step_followed c r a p h = elim (cases_eq a node) [
     | inl is ↦ subst (λ es. Comes g (step g w c a) node (follow (lawful p) es)) (sym (cond-true (a == node) _ _ (eq-eqb a node is)))
-        (subst (λ a. Comes g (step g w c a) node (follow (lawful p) (told_by g w c a (answer g c a) (next (dispatcher_at c a))))) (sym is) (here (answer g c node) (next (dispatcher_at c node)) refl refl))
+        (subst (λ a. Comes g (step g w c a) node (follow (lawful p) (told_by g w c a (answer g c a) (next (dispatcher_at c a))))) (sym is)
+        (here (answer g c node) (next (dispatcher_at c node)) refl refl))
     | inr ne ↦
         subst (λ es. Comes g (step g w c a) node (follow (lawful p) es)) (sym (cond-false (a == node) _ _ (ne_eqb a node ne))) (other (answer g c a) (next (dispatcher_at c a)) (λ s. ne (sym s)))
   ]
@@ -169,7 +174,7 @@ module _ {g : Graph} {tables : List NodeTable} {w : World} (k : Played g tables 
       other (Waits b) o ne = (refl, h)
       other IsDone o ne = (refl, h)
 
-  play_followed : (turns : List ℕ) (c : Cluster) → Reached g tables w c → (p : Progress) → HasCome p (dispatcher_at c node) (get_or c.acts node []) →
+  play_followed : (turns : List ℕ) (c : Cluster) → Reached g tables w c → (p : NodeProgress) → HasCome p (dispatcher_at c node) (get_or c.acts node []) →
       Comes g (play g w c turns) node (follow (lawful p) (told_in g w c node turns))
   play_followed [] c r p h = (refl, h)
   play_followed (a ∷ rest) c r p h =
@@ -178,7 +183,8 @@ module _ {g : Graph} {tables : List NodeTable} {w : World} (k : Played g tables 
       let joined : follow (lawful p) (told_in g w c node (a ∷ rest)) ≡ follow s (told_in g w (step g w c a) node rest) =
       fold-append follow_one (lawful p) (told_in_step g w c a node) (told_in g w (step g w c a) node rest) in
       subst (Comes g (play g w (step g w c a) rest) node) (sym joined)
-      (subst (λ s. Comes g (play g w (step g w c a) rest) node (follow s (told_in g w (step g w c a) node rest))) (whole s one.0) (play_followed rest (step g w c a) (reached_step k c r a) s.progress one.1))
+      (subst (λ s. Comes g (play g w (step g w c a) rest) node (follow s (told_in g w (step g w c a) node rest))) (whole s one.0)
+      (play_followed rest (step g w c a) (reached_step k c r a) s.progress one.1))
 
   open_come : HasCome (start (own_table g node (table_at tables node))) (dispatcher_at (open_cluster g tables) node) (get_or (open_cluster g tables).acts node [])
   open_come =

@@ -1,5 +1,6 @@
 -- No range that a live node holds is empty, since a frame that would leave an empty one is refused.
-use Rattle.std.proofs.Common.{◌≡◌, ◌≢◌, ℕ, zero, suc, ◌+◌, Bool, true, false, not, ◌&&◌, ◌||◌, ◌==◌, List, [], ◌∷◌, length, fold, get_or, Contains, All, Option, Some, None, refl, sym, ap, ◌∙◌, arith, inl, inr, true≢false, eq-eqb, eqb-true, ltb-true, ltb-false}
+use Rattle.std.proofs.Common.{◌≡◌, ◌≢◌, ℕ, zero, suc, ◌+◌, Bool, true, false, not, ◌&&◌, ◌||◌, ◌==◌, List, [], ◌∷◌, length, fold, get_or, Contains, All, Option, Some, None, refl, sym, ap, ◌∙◌, arith}
+use Rattle.std.proofs.Common.{inl, inr, true≢false, eq-eqb, eqb-true, ltb-true, ltb-false}
 use Rattle.std.specs.Prelude.{is_some, nat_lt}
 use Rattle.std.specs.List.{list_any}
 use Rattle.std.proofs.lemmas.Bool.{cases_Bool, cases_lt, cond_both, or_parts}
@@ -11,13 +12,15 @@ use Rattle.cpg_base.specs.Scenario.{number_of_value}
 use Rattle.cpg_base.proofs.Lists.{Contains-first, Contains-rest, from_any_false, list_any_parts, list_any_true}
 use Rattle.cpg_cube.specs.declared.literal.Literal.{Literal}
 use Rattle.cpg_table.specs.Table.{Row, columns_in}
-use Rattle.cpg_node.specs.Dispatcher.{Dispatcher, Ended, Frame, OwnTable, Range, cut, cut_all, cut_range, due_reports, frame_literals, hear_end, hear_frame, is_contradicted, is_strange, know_value, next, no_column, own_of, range_of, variable_count, whole_range}
+use Rattle.cpg_node.specs.Dispatcher.{Dispatcher, Ended, Frame, OwnTable, Range, cut, cut_all, cut_range, due_reports, frame_literals, hear_end, hear_frame, is_contradicted, is_strange, know_value}
+use Rattle.cpg_node.specs.Dispatcher.{next, no_column, own_of, range_of, variable_count, whole_range}
 use Rattle.cpg_live.specs.declared.event.Event.{Event}
 use Rattle.cpg_live.specs.declared.event.Event.TheVariants.{Frame as Arrival, End as Ending, Close}
 use Rattle.cpg_live.specs.declared.bad.Why.{Why}
 use Rattle.cpg_live.specs.declared.bad.Why.TheVariants.{Length, Order, Frame as StrangeFrame, End as FalseEnd}
 use Rattle.cpg_live.specs.Records.{cut as cut_bytes, event_of, record_of}
-use Rattle.cpg_live.specs.Stream.{LiveState, Progress, Step, faulty, instant_below, judged, lawful, may_end, open_stream, refused, settled, step, stepped, take_record, turn_below, turn_if, turned, turns_below, with_rest}
+use Rattle.cpg_live.specs.Stream.{LiveState, NodeProgress, Step, faulty, instant_below, judged, lawful, may_end, open_stream, refused, settled, step, stepped, take_record, turn_below, turn_if, turned}
+use Rattle.cpg_live.specs.Stream.{turns_below, with_rest}
 use Rattle.cpg_follow_laws.specs.Ranges.{HasNumber, NoRangeIsEmpty, FramesContradictWhereTheyTell}
 
 abbrev AllHave : List Range → Type 0
@@ -36,14 +39,14 @@ ends_have table (e ∷ es) heard h = ends_have table es (hear_end table heard e)
 
 -- ---- turns, in which a live node is told nothing
 
-abbrev Has : Progress → Type 0
+abbrev Has : NodeProgress → Type 0
 Has p = AllHave p.dispatcher.heard
 
-turn_has : (p : Progress) (o : Option ℕ) → Has p → Has (turn_if p o)
+turn_has : (p : NodeProgress) (o : Option ℕ) → Has p → Has (turn_if p o)
 turn_has p None h = h
 turn_has p (Some time) h = ends_have p.dispatcher.table (due_reports p.dispatcher time) p.dispatcher.heard h
 
-turns_have : (count limit : ℕ) (p : Progress) → Has p → Has (turns_below count limit p)
+turns_have : (count limit : ℕ) (p : NodeProgress) → Has p → Has (turns_below count limit p)
 unfolding turns_below
 turns_have zero limit p h = h
 turns_have (suc count) limit p h = turns_have count limit (turn_below limit p) (turn_has p (instant_below limit (next p.dispatcher)) h)
@@ -59,13 +62,13 @@ fine d time f e =
     let q : list_any is_contradicted heard ≡ false = (or_parts (unknown || none || other) (list_any is_contradicted heard) e).1 in
     λ k d l. ltb-false (get_or heard k d).high (get_or heard k d).low (from_any_false is_contradicted heard (get_or heard k d) q (Contains-get_or heard k d l))
 
-step_has : (time : ℕ) (event : Event) (p : Progress) → Has p → Has (step time event p).progress
+step_has : (time : ℕ) (event : Event) (p : NodeProgress) → Has p → Has (step time event p).progress
 step_has time (Arrival f) p h =
-    let q : Progress = turned time p in
+    let q : NodeProgress = turned time p in
     cond_both (is_strange q.dispatcher time f) (faulty q StrangeFrame) (lawful (record q { dispatcher = record q.dispatcher { heard = hear_frame q.dispatcher.table q.dispatcher.heard f } }))
     (λ (s : Step). Has s.progress) (λ e. turns_have time time p h) (λ e. fine q.dispatcher time f e)
 step_has time (Ending process faults value) p h =
-    let q : Progress = turned time p in
+    let q : NodeProgress = turned time p in
     let e : Ended = record { process = process; faults = faults; value = value } in
     let have : Has q = turns_have time time p h in
     cond_both (may_end q.dispatcher time e) _ (faulty q FalseEnd) (λ (s : Step). Has s.progress) (λ _. have) (λ _. have)

@@ -43,7 +43,8 @@ sent_values_are_known g tables f h v w turns node condition a is l m e =
     let item = ap (item_at g) e ∙ item_at-broadcast g condition in
     let made : producer g a.item ≡ process_of g condition = ap (producer_of_item g) item in
     let all : Contains (all_asked g tables s) a = all_asked_in k.setting a (subst (λ n. Asked g tables s n a) (sym asked.row.home) asked) in
-    let given = list_any_parts (gives_end g s (producer g a.item) a.time) (all_asked g tables s) (((valid_tables_are_correct g tables f h v).orderly s k.setting.law).produced a (all, omega (arith, e))) in
+    let given = list_any_parts (gives_end g s (producer g a.item) a.time) (all_asked g tables s)
+    (((valid_tables_are_correct g tables f h v).orderly s k.setting.law).produced a (all, omega (arith, e))) in
     let b : Act = given.0 in
     let parts = and_parts (b.item == producer g a.item) (leb (end_of_act g s b) a.time) given.2 in
     let from : b.item ≡ producer g a.item = eqb-true b.item (producer g a.item) parts.0 in

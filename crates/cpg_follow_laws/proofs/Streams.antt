@@ -16,7 +16,7 @@ use Rattle.cpg_live.specs.declared.event.Event.TheVariants.{Close}
 use Rattle.cpg_live.specs.declared.following.StreamFault.{StreamFault}
 use Rattle.cpg_live.specs.declared.following.StreamFault.TheVariants.{Long}
 use Rattle.cpg_live.specs.declared.following.TheConstants.{STREAM_LIMIT}
-use Rattle.cpg_live.specs.Stream.{Progress, Step, lawful, start, after, outcome}
+use Rattle.cpg_live.specs.Stream.{NodeProgress, Step, lawful, start, after, outcome}
 use Rattle.cpg_live.specs.Streams.{act_lines, closed_line, close_of, end_by, end_of, read_part, stream_end, stream_lines}
 use Rattle.cpg_live.specs.Told.{follow_one, follow}
 use Rattle.cpg_live.specs.Spelling.{HasRoom, closed_at, stream_bytes}
@@ -67,7 +67,7 @@ bytes_give g tables within of f v w turns node close es is l t =
     record {
       ends = ends;
       acts = subst (λ t. IsDue g tables w.scenario node (after t (stream_bytes (closed_at es close))).progress.acts) own
-          (subst (λ (p : Progress). IsDue g tables w.scenario node p.acts) (sym (taken.comes ∙ ap (λ (s : Step). s.progress) closed)) due);
+          (subst (λ (p : NodeProgress). IsDue g tables w.scenario node p.acts) (sym (taken.comes ∙ ap (λ (s : Step). s.progress) closed)) due);
       read = λ short. read_end (table_at tables node) (stream_bytes (closed_at es close)) short close ends;
       lines = λ h short. read_lines (table_at tables node) (stream_bytes (closed_at es close)) short h close (read_end (table_at tables node) (stream_bytes (closed_at es close)) short close ends);
     }

@@ -1,5 +1,6 @@
 -- A generated graph is within the limits of a graph file.
-use Rattle.std.proofs.Common.{ℕ, ◌%◌, ◌/◌, ◌^◌, ◌<◌, ◌≤◌, ◌≡◌, ◌≢◌, ◌==◌, inl, inr, Bool, true, false, cond, ◌||◌, List, [], ◌∷◌, length, get_or, drop, map, filter, Some, None, Contains, All, AllPairs, is_some, refl, sym, ap, ◌∙◌, subst, arith, rules, true≢false, eq-eqb}
+use Rattle.std.proofs.Common.{ℕ, ◌%◌, ◌/◌, ◌^◌, ◌<◌, ◌≤◌, ◌≡◌, ◌≢◌, ◌==◌, inl, inr, Bool, true, false, cond, ◌||◌, List, [], ◌∷◌, length, get_or, drop, map, filter, Some, None, Contains, All}
+use Rattle.std.proofs.Common.{AllPairs, is_some, refl, sym, ap, ◌∙◌, subst, arith, rules, true≢false, eq-eqb}
 use Rattle.std.proofs.Math.Nat.{mod-lt}
 use Rattle.std.proofs.lemmas.Fmt.{decimal_injective}
 use Rattle.std.proofs.lemmas.List.Concat.{length-flat_map}
@@ -100,7 +101,8 @@ inputs_of i = cond (i == 0) 0 (cond (i == 40) 2 1)
 edges_long : (x i : ℕ) → length (edges_by x i) ≡ inputs_of i
 edges_long x i = go (i == 0) (i == 40)
   where
-    go : (root join : Bool) → length (cond root [] (cond join (edge_of 10 40 (Some true) ∷ edge_of 10 40 (Some false) ∷ []) (edge_of (predecessor_by x i) i (when_of (predecessor_by x i) i) ∷ []))) ≡ cond root 0 (cond join 2 1)
+    go : (root join : Bool) → length (cond root [] (cond join (edge_of 10 40 (Some true) ∷ edge_of 10 40 (Some false) ∷ []) (edge_of (predecessor_by x i) i (when_of (predecessor_by x i) i) ∷ []))) ≡
+        cond root 0 (cond join 2 1)
     go true join = refl
     go false true = refl
     go false false = refl
@@ -159,7 +161,8 @@ module _ (number : ℕ) where
     few_conditions = omega (arith, few_conditions);
     slots = all_by (IsSlotWithin 4) slot_of 4 slot_within;
     processes = all_by (IsProcessWithin 4) (generated_process number) 60 (λ i l. process_within (number_before number i) i);
-    edges = All-weaker (Contains (generated number).edges) (IsEdgeWithin (process_count (generated number))) (λ e k. edge_within e (generated_edge e k)) (generated number).edges (All-contains_itself (generated number).edges);
+    edges = All-weaker (Contains (generated number).edges) (IsEdgeWithin (process_count (generated number))) (λ e k. edge_within e (generated_edge e k)) (generated number).edges
+        (All-contains_itself (generated number).edges);
     node_names = pairs_by (λ a b. a ≢ b) node_name 4 (λ i j l m. numbered_differ 78 i j l (omega arith));
     process_names = pairs_by (λ p q. p.name ≢ q.name) (generated_process number) 60 (λ i j l m. numbered_differ 112 i j l m);
     own_slots = pairs_by (λ s t. s.node ≢ t.node) slot_of 4 (λ i j l m e. absurd (omega (arith, e)));

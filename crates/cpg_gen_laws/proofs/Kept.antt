@@ -1,5 +1,6 @@
 -- Generated graphs keep the rules of admission.
-use Rattle.std.proofs.Common.{ℕ, ◌^◌, zero, suc, ◌-◌, ◌<◌, ◌≤◌, ◌≡◌, ◌==◌, Bool, true, false, cond, not, ◌&&◌, List, [], ◌∷◌, length, get_or, filter, map, Some, refl, sym, ap, ap₂, ◌∙◌, subst, arith, eqb-true, eq-eqb, ltb-true, le-ltb}
+use Rattle.std.proofs.Common.{ℕ, ◌^◌, zero, suc, ◌-◌, ◌<◌, ◌≤◌, ◌≡◌, ◌==◌, Bool, true, false, cond, not, ◌&&◌, List, [], ◌∷◌, length, get_or, filter, map, Some, refl, sym, ap, ap₂, ◌∙◌, subst, arith}
+use Rattle.std.proofs.Common.{eqb-true, eq-eqb, ltb-true, le-ltb}
 use Rattle.std.specs.Prelude.{nat_lt}
 use Rattle.std.proofs.lemmas.Bool.{and_parts, and_right, both_ways}
 use Rattle.std.proofs.lemmas.Option.{none-some}
@@ -119,10 +120,12 @@ module _ (number : ℕ) where
   -- ---- slots
 
   slot_there : (node : ℕ) → node < 4 → has_slot (generated number) node ≡ true
-  slot_there node l = list_any_true (λ (s : Slot). s.node == node) (generated number).slots (slot_of node) (Contains-map slot_of (numbers_below 4) node (Contains-numbers 4 node l)) (eq-eqb node node refl)
+  slot_there node l = list_any_true (λ (s : Slot). s.node == node) (generated number).slots (slot_of node) (Contains-map slot_of (numbers_below 4) node (Contains-numbers 4 node l))
+      (eq-eqb node node refl)
 
   slot_holds : (node : ℕ) → node < 4 → bytes_in (map slot_of (numbers_below 4)) node ≡ 8
-  slot_holds node l = eqb-true (bytes_in (map slot_of (numbers_below 4)) node) 8 (from_all (λ n. bytes_in (map slot_of (numbers_below 4)) n == 8) (numbers_below 4) node refl (Contains-numbers 4 node l))
+  slot_holds node l = eqb-true (bytes_in (map slot_of (numbers_below 4)) node) 8
+      (from_all (λ n. bytes_in (map slot_of (numbers_below 4)) n == 8) (numbers_below 4) node refl (Contains-numbers 4 node l))
 
   pub all_fit : AllFit (generated number)
   all_fit e l =

@@ -1,12 +1,14 @@
 -- In generated graphs nothing is too wide.
-use Rattle.std.proofs.Common.{ℕ, zero, suc, ◌+◌, ◌-◌, ◌*◌, ◌^◌, ◌<◌, ◌≤◌, ◌≡◌, ◌==◌, inl, inr, Bool, true, false, cond, ◌&&◌, ◌||◌, List, [], ◌++◌, length, filter, map, sum_by, is_some, option_to_list, Contains, refl, sym, ap, ap₂, ◌∙◌, subst, arith, ne_eqb, ⊎_elim}
+use Rattle.std.proofs.Common.{ℕ, zero, suc, ◌+◌, ◌-◌, ◌*◌, ◌^◌, ◌<◌, ◌≤◌, ◌≡◌, ◌==◌, inl, inr, Bool, true, false, cond, ◌&&◌, ◌||◌, List, [], ◌++◌, length, filter, map, sum_by, is_some}
+use Rattle.std.proofs.Common.{option_to_list, Contains, refl, sym, ap, ap₂, ◌∙◌, subst, arith, ne_eqb, ⊎_elim}
 use Rattle.std.specs.Prelude.{nat_lt}
 use Rattle.std.specs.List.{flat_map}
 use Rattle.std.proofs.lemmas.Bool.{and_from, and_right, both_ways, lt-ltb, le-ltb, cond-true, cond-false}
 use Rattle.std.proofs.lemmas.List.Elements.{Contains-append_cases}
 use Rattle.std.proofs.lemmas.List.Sums.{sum_by_push, length-filter}
 use Rattle.cpg_base.specs.Numbers.{numbers_below}
-use Rattle.cpg_base.specs.Graph.{process_count, edge_count, condition_count, item_count, edge_at, message_item, item_at, source, producer, is_message, is_frozen, is_frozen_item, condition_of, value_variable}
+use Rattle.cpg_base.specs.Graph.{process_count, edge_count, condition_count, item_count, edge_at, message_item, item_at, source, producer, is_message, is_frozen, is_frozen_item, condition_of}
+use Rattle.cpg_base.specs.Graph.{value_variable}
 use Rattle.cpg_base.specs.Activity.{active}
 use Rattle.cpg_base.specs.declared.item.Item.TheVariants.{Message}
 use Rattle.cpg_base.proofs.Lists.{Contains-nil, Contains-map_parts, list_any_false, numbers-Contains, filter_none, below_push}
@@ -128,7 +130,8 @@ module _ (number : ℕ) where
         let os = outcomes (condition_count (generated number)) in
         let quiet = filter (is_quiet (generated number) reached) os in
         let sum : views (generated number) reached ≡ length quiet * 1 =
-        views-sum (generated number) reached (omega (arith, processes_count number)) ∙ same_sum_by (views_of_outcome (generated number) reached) (λ o. 1) quiet (λ o k. one_view o) ∙ sum_by_constant 1 quiet in
+        views-sum (generated number) reached (omega (arith, processes_count number)) ∙ same_sum_by (views_of_outcome (generated number) reached) (λ o. 1) quiet (λ o k. one_view o) ∙
+        sum_by_constant 1 quiet in
         let fewer : length quiet ≤ length os = filter_long (is_quiet (generated number) reached) os in
         let four = outcomes_few (condition_count (generated number)) (few_conditions number) in
         omega (arith, sum, fewer, four)
@@ -141,7 +144,8 @@ module _ (number : ℕ) where
       item = item_at-message (generated number) e l
 
       source_values : AreValues (source_value (generated number) e)
-      source_values = either_values (is_some (edge_at (generated number) e).when) (map value_variable (option_to_list (condition_of (generated number) (source (generated number) e)))) [] (values_values (option_to_list (condition_of (generated number) (source (generated number) e)))) none_values
+      source_values = either_values (is_some (edge_at (generated number) e).when) (map value_variable (option_to_list (condition_of (generated number) (source (generated number) e)))) []
+          (values_values (option_to_list (condition_of (generated number) (source (generated number) e)))) none_values
 
       sent_values : AreValues (sent_value (generated number) (item_at (generated number) (message_item (generated number) e)))
       sent_values = subst (λ i. AreValues (sent_value (generated number) i)) (sym item) source_values
@@ -151,7 +155,8 @@ module _ (number : ℕ) where
           let x = message_item (generated number) e in
           let still = conditions_of (generated number) (producer (generated number) x) in
           let moving = end_reach r (producer (generated number) x) ++ flat_map (reach_of r) (queued_before (generated number) order x) in
-          let frozen : is_frozen (generated number) x ≡ true = ap (is_frozen_item (generated number)) item ∙ and_from (is_message (generated number) e) (edge_at (generated number) e).frozen t (edge_there number e l).frozen in
+          let frozen : is_frozen (generated number) x ≡ true = ap (is_frozen_item (generated number)) item ∙
+          and_from (is_message (generated number) e) (edge_at (generated number) e).frozen t (edge_there number e l).frozen in
           append_values (cond (is_frozen (generated number) x) (map value_variable still) moving) (sent_value (generated number) (item_at (generated number) x))
           (first_values (is_frozen (generated number) x) (map value_variable still) moving frozen (values_values still))
           sent_values
@@ -165,7 +170,8 @@ module _ (number : ℕ) where
 
       pub message_views : views (generated number) (reach_of r (message_item (generated number) e)) ≤ 4
       message_views = views_by_outcome (reach_of r (message_item (generated number) e))
-          (λ p h. is.each (message_item (generated number) e) p (omega (arith, l)) ∙ no_count (reach_by_item (generated number) order r (message_item (generated number) e) (item_at (generated number) (message_item (generated number) e))) reached_values p h)
+          (λ p h. is.each (message_item (generated number) e) p (omega (arith, l)) ∙ no_count
+          (reach_by_item (generated number) order r (message_item (generated number) e) (item_at (generated number) (message_item (generated number) e))) reached_values p h)
 
     -- ---- loads
 
@@ -210,8 +216,10 @@ module _ (number : ℕ) where
     not_wide x l =
         let narrow = few_views (reach_of r x) in
         let light = loads_up_to (x + 1) (omega arith) in
-        and_right (nat_lt 0 (rows_of_item (generated number) (item_at (generated number) x))) (nat_lt most_views (views (generated number) (reach_of r x)) || nat_lt most_loads (sum_by (load (generated number) r) (numbers_below (x + 1))))
-        (ap₂ ◌||◌ (le-ltb most_views (views (generated number) (reach_of r x)) (omega (arith, narrow))) (le-ltb most_loads (sum_by (load (generated number) r) (numbers_below (x + 1))) (omega (arith, light))))
+        and_right (nat_lt 0 (rows_of_item (generated number) (item_at (generated number) x)))
+        (nat_lt most_views (views (generated number) (reach_of r x)) || nat_lt most_loads (sum_by (load (generated number) r) (numbers_below (x + 1))))
+        (ap₂ ◌||◌ (le-ltb most_views (views (generated number) (reach_of r x)) (omega (arith, narrow)))
+        (le-ltb most_loads (sum_by (load (generated number) r) (numbers_below (x + 1))) (omega (arith, light))))
 
   pub small_loads : (order : List ℕ) (r : Reach) → IsReach (generated number) order r → sum_by (load (generated number) r) (numbers_below (item_count (generated number))) ≤ 514832
   small_loads order r is = loads_up_to order r is (item_count (generated number)) (omega arith)

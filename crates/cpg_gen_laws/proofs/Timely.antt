@@ -1,6 +1,7 @@
 -- In generated graphs nothing is late: before each moment the times are no later than an execution for each process that
 -- has ended, and two rounds for each item.
-use Rattle.std.proofs.Common.{◌≡◌, ◌∙◌, ℕ, zero, suc, ◌+◌, ◌*◌, ◌<◌, ◌≤◌, ◌==◌, Bool, true, false, cond, List, [], ◌∷◌, ◌++◌, length, get_or, filter, map, flat_map, Contains, Option, Some, None, option_to_list, option_map, unwrap_or, arith, refl, sym, ap, inl, inr, subst, true≢false, ⊎_elim}
+use Rattle.std.proofs.Common.{◌≡◌, ◌∙◌, ℕ, zero, suc, ◌+◌, ◌*◌, ◌<◌, ◌≤◌, ◌==◌, Bool, true, false, cond, List, [], ◌∷◌, ◌++◌, length, get_or, filter, map, flat_map, Contains, Option, Some, None}
+use Rattle.std.proofs.Common.{option_to_list, option_map, unwrap_or, arith, refl, sym, ap, inl, inr, subst, true≢false, ⊎_elim}
 use Rattle.std.specs.Prelude.{nat_lt}
 use Rattle.std.proofs.lemmas.Bool.{cases_Bool, cases_lt, cond-true, cond-false, lt-ltb, le-ltb, ltb-true}
 use Rattle.std.proofs.lemmas.Grind.{div_ceil_times}
@@ -10,7 +11,8 @@ use Rattle.std.proofs.lemmas.Option.{none-some}
 use Rattle.std.proofs.lemmas.List.FromFn.{length-range_with_len}
 use Rattle.cpg_base.specs.declared.process.Process.{Process}
 use Rattle.cpg_base.specs.Numbers.{numbers_below, greatest}
-use Rattle.cpg_base.specs.Graph.{process_count, condition_count, item_count, message_item, broadcast_item, item_at, producer, process_of, process_at, node_of, home, source, inputs, is_message, is_frozen}
+use Rattle.cpg_base.specs.Graph.{process_count, condition_count, item_count, message_item, broadcast_item, item_at, producer, process_of, process_at, node_of, home, source, inputs, is_message}
+use Rattle.cpg_base.specs.Graph.{is_frozen}
 use Rattle.cpg_base.specs.Activity.{item_active}
 use Rattle.cpg_base.specs.Bus.{round}
 use Rattle.cpg_base.specs.Duration.{duration, duration_of, due, lesser_due}
@@ -19,7 +21,8 @@ use Rattle.cpg_base.proofs.Bounds.{slot_length-le}
 use Rattle.cpg_base.proofs.Inputs.{inputs_parts}
 use Rattle.cpg_base.proofs.Items.{item_cases, ItemCases, process_of_below}
 use Rattle.cpg_base.proofs.Sums.{length-filter-le}
-use Rattle.cpg_base.proofs.Lists.{Contains-nil, greatest-cons, greatest-le, get_or-map-below, Contains-filter_parts, Contains-flat_map_parts, Contains-map_parts, Contains-cases, Contains-numbers, numbers-Contains}
+use Rattle.cpg_base.proofs.Lists.{Contains-nil, greatest-cons, greatest-le, get_or-map-below, Contains-filter_parts, Contains-flat_map_parts, Contains-map_parts, Contains-cases, Contains-numbers}
+use Rattle.cpg_base.proofs.Lists.{numbers-Contains}
 use Rattle.cpg_order.specs.Urgency.{IsTopological}
 use Rattle.cpg_base.specs.Order.{place, before, before_on_node}
 use Rattle.cpg_order.specs.Deciding.{decides, deciding}
@@ -81,12 +84,14 @@ one_more p q (x ∷ xs) y h k f t = ⊎_elim
     (λ (c : Contains xs y). there (p x) refl (q x) refl (one_more p q xs y h c f t))
     (Contains-cases x xs y k)
   where
-    here : (a : Bool) → a ≡ false → (b : Bool) → b ≡ true → length (filter p xs) ≤ length (filter q xs) → length (cond a (x ∷ filter p xs) (filter p xs)) + 1 ≤ length (cond b (x ∷ filter q xs) (filter q xs))
+    here : (a : Bool) → a ≡ false → (b : Bool) → b ≡ true → length (filter p xs) ≤ length (filter q xs) →
+        length (cond a (x ∷ filter p xs) (filter p xs)) + 1 ≤ length (cond b (x ∷ filter q xs) (filter q xs))
     here false e true g ih = omega (arith, ih)
     here true e b g ih = absurd (true≢false e)
     here false e false g ih = absurd (true≢false (sym g))
 
-    there : (a : Bool) → p x ≡ a → (b : Bool) → q x ≡ b → length (filter p xs) + 1 ≤ length (filter q xs) → length (cond a (x ∷ filter p xs) (filter p xs)) + 1 ≤ length (cond b (x ∷ filter q xs) (filter q xs))
+    there : (a : Bool) → p x ≡ a → (b : Bool) → q x ≡ b → length (filter p xs) + 1 ≤ length (filter q xs) →
+        length (cond a (x ∷ filter p xs) (filter p xs)) + 1 ≤ length (cond b (x ∷ filter q xs) (filter q xs))
     there true e true g ih = omega (arith, ih)
     there true e false g ih = absurd (true≢false (sym (h x e) ∙ g))
     there false e true g ih = omega (arith, ih)
@@ -203,7 +208,8 @@ module _ (number : ℕ) where
               let early = a.ends q (from_order (process_count (generated number)) order topological.all q b.0) (omega (arith, sooner, at)) in
               omega (arith, early)
 
-          heard_le : (c : ℕ) → Contains (flat_map (deciding (generated number) s.values) (before_on_node (generated number) order p ++ p ∷ [])) c → heard_there (generated number) t (node_of (generated number) p) c ≤ bound m + 40
+          heard_le : (c : ℕ) → Contains (flat_map (deciding (generated number) s.values) (before_on_node (generated number) order p ++ p ∷ [])) c →
+              heard_there (generated number) t (node_of (generated number) p) c ≤ bound m + 40
           heard_le c d =
               let q = Contains-flat_map_parts (deciding (generated number) s.values) (before_on_node (generated number) order p ++ p ∷ []) c d in
               let r = Contains-filter_parts (decides (generated number) s.values q.0) (numbers_below (condition_count (generated number))) c q.2 in
@@ -224,7 +230,8 @@ module _ (number : ℕ) where
               let release = release_le p l in
               start_bounds_le (generated number) order s t p (bound m + 40) (omega (arith, release)) (λ e c k. input_le e c) (λ q c k. ended_le q c) heard_le
 
-        send_le : (m x : ℕ) → SmallBefore t m → moment (generated number) order x ≤ m → x < item_count (generated number) → phase (item_at (generated number) x) ≡ rank_of_item (item_at (generated number) x) + 2
+        send_le : (m x : ℕ) → SmallBefore t m → moment (generated number) order x ≤ m → x < item_count (generated number) →
+            phase (item_at (generated number) x) ≡ rank_of_item (item_at (generated number) x) + 2
             → moment_of_end (generated number) order (producer (generated number) x) < m → greatest (send_bounds (generated number) order s t x) ≤ bound m + 80
         send_le m x a before l sends made = send_bounds_le (generated number) order s t x (bound m + 80)
             (let next = next_slot-le (generated number) (home (generated number) x) (end_in t (producer (generated number) x)) in
@@ -240,10 +247,12 @@ module _ (number : ℕ) where
             omega (arith, early, turn))
 
         -- what has its producer's end before it
-        send_made : (m x : ℕ) → moment (generated number) order x ≡ m → phase (item_at (generated number) x) ≡ rank_of_item (item_at (generated number) x) + 2 → moment_of_end (generated number) order (producer (generated number) x) < m
+        send_made : (m x : ℕ) → moment (generated number) order x ≡ m → phase (item_at (generated number) x) ≡ rank_of_item (item_at (generated number) x) + 2 →
+            moment_of_end (generated number) order (producer (generated number) x) < m
         send_made m x is sends = omega (arith, is, sends)
 
-        unfrozen_le : (m x : ℕ) → SmallBefore t m → moment (generated number) order x ≡ m → x < item_count (generated number) → ItemCases (generated number) x → unfrozen_time (generated number) order s t x ≤ bound m + 80
+        unfrozen_le : (m x : ℕ) → SmallBefore t m → moment (generated number) order x ≡ m → x < item_count (generated number) → ItemCases (generated number) x →
+            unfrozen_time (generated number) order s t x ≤ bound m + 80
         unfrozen_le m x a is l (inl c) = subst (λ i. greatest (bounds_of_item (generated number) order s t x i) ≤ bound m + 80) (sym c.1)
             (let first = moment_of_start (generated number) order topological x c.0 in
             let most = start_le m x a (omega (arith, is, first)) c.0 in
@@ -257,7 +266,12 @@ module _ (number : ℕ) where
 
         time_le : (x b : ℕ) → x < item_count (generated number) → unfrozen_time (generated number) order s t x ≤ b → ((time : ℕ) → get_or frozen x None ≡ Some time → time ≤ b) → time_in t x ≤ b
         time_le x b l h k = elim (cases_Bool (item_active (generated number) s.values (item_at (generated number) x))) [
-          | inl a ↦ omega (arith, time_in_active (generated number) order frozen s t run x l a, greatest-cons (unfrozen_time (generated number) order s t x) (option_to_list (get_or frozen x None)), frozen_le (get_or frozen x None) b k)
+          | inl a ↦ omega (
+            arith,
+            time_in_active (generated number) order frozen s t run x l a,
+            greatest-cons (unfrozen_time (generated number) order s t x) (option_to_list (get_or frozen x None)),
+            frozen_le (get_or frozen x None) b k,
+          )
           | inr a ↦ let e : time_in t x ≡ 0 = ap (λ o. unwrap_or o 0) (time_is (generated number) order frozen s t run x l ∙ cond-false _ _ _ a) in omega arith
         ]
 

@@ -41,7 +41,8 @@ module _ (g : Graph) (given : Option (List ℕ)) where
   urgency_of_other order is = record { all = is.all; falling = subst (λ f. AllPairs (λ p q. IsTrue (f p q)) order) (sym (same_urgency g given)) is.falling }
 
   same_tracks : track_count (other g given) ≡ track_count g
-  same_tracks = ap (λ f. length (filter (λ o. list_all (λ c. not (get_or o c false) || is_active (f o (process_of g c))) (numbers_below (condition_count g))) (outcomes (condition_count g)))) (same_activations g given)
+  same_tracks = ap (λ f. length (filter (λ o. list_all (λ c. not (get_or o c false) || is_active (f o (process_of g c))) (numbers_below (condition_count g))) (outcomes (condition_count g))))
+      (same_activations g given)
 
   ordered_of_other : (order : List ℕ) (tree : Guard) (k : ℕ) → IsOrderedFrom g order k tree → IsOrderedFrom (other g given) order k tree
   ordered_of_other order (Leaf a) k is = is

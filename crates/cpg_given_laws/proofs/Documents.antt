@@ -9,7 +9,7 @@ use Rattle.cpg_reader.specs.declared.place.Table.TheVariants as tables
 use Rattle.cpg_reader.specs.declared.place.Key.{Key}
 use Rattle.cpg_reader.specs.declared.place.Key.TheVariants.{Faults, Deadline, Node, Slot, Process as Processes, Edge, Order}
 use Rattle.cpg_reader.specs.Reading.{pure, ◌>>=◌}
-use Rattle.cpg_reader.specs.Rows.{Row, text_of, as_names, as_tables, optional_in, optional, required_in, integer_at, tables_at, are_listed, only}
+use Rattle.cpg_reader.specs.Rows.{DocumentRow, text_of, as_names, as_tables, optional_in, optional, required_in, integer_at, tables_at, are_listed, only}
 use Rattle.cpg_reader.specs.Shape.{RawGraph, process_at, rows_at, node_at, slot_at, edge_at, raw_graph_at}
 use Rattle.cpg_reader.specs.WrittenTree.{with_member}
 use Rattle.cpg_reader.proofs.Steps.{same_ok}
@@ -22,7 +22,7 @@ use Rattle.cpg_given_laws.proofs.Members.{Differs, other_key, own_key, still_lis
 abbrev top_keys : List Key
 top_keys = Faults ∷ Deadline ∷ Node ∷ Slot ∷ Processes ∷ Edge ∷ Order ∷ []
 
-abbrev top_of : Members → Row
+abbrev top_of : Members → DocumentRow
 top_of ms = record { table = tables.Top; index = 0; members = ms }
 
 -- a document with other values at the key `order`
@@ -30,7 +30,8 @@ abbrev keyed : Data → Members → Members
 keyed d ms = with_member (codes "order") d ms
 
 module _ (d : Data) (ms : Members) where
-  same_optional : {T : Type 0} (as_type : Data → Option T) (key : Key) → Differs (slice_cmp nat_cmp (text_of key) (codes "order")) → optional as_type (top_of (keyed d ms)) key ≡ optional as_type (top_of ms) key
+  same_optional : {T : Type 0} (as_type : Data → Option T) (key : Key) → Differs (slice_cmp nat_cmp (text_of key) (codes "order")) →
+      optional as_type (top_of (keyed d ms)) key ≡ optional as_type (top_of ms) key
   unfolding optional
   same_optional as_type key h = ap (optional_in (top_of ms) key as_type) (other_key (codes "order") d (text_of key) ms h)
 
@@ -72,7 +73,20 @@ module _ (d : Data) (ms : Members) where
       opened (rows_at tables.Slot slot_at slots) _ r rest λ ss l rest.
       opened (rows_at tables.Process process_at processes) _ r rest λ ps m rest.
       opened (rows_at tables.Edge edge_at edges) _ r rest λ es n rest.
-      rw (same_integer Faults tt ∙ a, same_integer Deadline tt ∙ b, same_tables Node tt ∙ c, same_tables Slot tt ∙ e, same_tables Processes tt ∙ f, same_tables Edge tt ∙ g, read_order names is, still_only done j, k, l, m, n)
+      rw (
+        same_integer Faults tt ∙ a,
+        same_integer Deadline tt ∙ b,
+        same_tables Node tt ∙ c,
+        same_tables Slot tt ∙ e,
+        same_tables Processes tt ∙ f,
+        same_tables Edge tt ∙ g,
+        read_order names is,
+        still_only done j,
+        k,
+        l,
+        m,
+        n,
+      )
       (ap (λ (r : RawGraph). Ok (record r { order = Some names })) (same_ok _ r rest))
 
 -- the names of its processes are read as names

@@ -74,7 +74,8 @@ pub worst_back : (g : Graph) (given : Option (List ℕ)) (order : List ℕ) (fro
     IsWorst (other g given) urgency order frozen worst s by → IsWorst g urgency order frozen worst s by
 worst_back g given = worst_of_other (other g given) g.order
 
-pub measured_of_other : (g : Graph) (given : Option (List ℕ)) (urgency order : List ℕ) (excess worst : ℕ) → IsMeasured g urgency order excess worst → IsMeasured (other g given) urgency order excess worst
+pub measured_of_other : (g : Graph) (given : Option (List ℕ)) (urgency order : List ℕ) (excess worst : ℕ) → IsMeasured g urgency order excess worst →
+    IsMeasured (other g given) urgency order excess worst
 measured_of_other g given urgency order excess worst is = record {
   frozen = is.frozen;
   frozen_times = frozen_of_other g given order is.frozen is.frozen_times;

@@ -1,10 +1,12 @@
 -- No definition of a run looks at the order that a graph gives: with another one, or none, a scenario has the same runs.
-use Rattle.std.proofs.Common.{ℕ, zero, suc, ◌+◌, ◌≡◌, ◌==◌, ◌&&◌, ◌||◌, not, Bool, true, false, List, [], ◌∷◌, ◌++◌, Option, Some, None, if◌then◌else◌, filter, map, get_or, slice_set, option_to_list, refl, sym, ap, ap₂, ◌∙◌}
+use Rattle.std.proofs.Common.{ℕ, zero, suc, ◌+◌, ◌≡◌, ◌==◌, ◌&&◌, ◌||◌, not, Bool, true, false, List, [], ◌∷◌, ◌++◌, Option, Some, None, if◌then◌else◌, filter, map, get_or, slice_set, option_to_list}
+use Rattle.std.proofs.Common.{refl, sym, ap, ap₂, ◌∙◌}
 use Rattle.std.specs.Prelude.{nat_lt}
 use Rattle.std.specs.List.{list_any, flat_map}
 use mathlib.Core.Path.{fun_ext}
 use Rattle.cpg_base.specs.Numbers.{numbers_below, greatest}
-use Rattle.cpg_base.specs.Graph.{Graph, process_count, condition_count, item_count, process_at, edge_at, node_of, source, target, inputs, outputs, is_message, item_at, home, producer, process_of, is_sent_item}
+use Rattle.cpg_base.specs.Graph.{Graph, process_count, condition_count, item_count, process_at, edge_at, node_of, source, target, inputs, outputs, is_message, item_at, home, producer, process_of}
+use Rattle.cpg_base.specs.Graph.{is_sent_item}
 use Rattle.cpg_base.specs.declared.item.Item.{Item}
 use Rattle.cpg_base.specs.declared.item.Item.TheVariants.{Start, Message, Broadcast}
 use Rattle.cpg_base.specs.declared.activation.Activation.{Activation}

@@ -12,7 +12,8 @@ use Rattle.cpg_base.specs.Scenario.{number_of}
 use Rattle.cpg_order.specs.Deciding.{outcomes, conditions_of}
 use Rattle.cpg_order.specs.Queue.{queued_before}
 use Rattle.cpg_order.specs.Scenario.{scenarios}
-use Rattle.cpg_order.specs.Reach.{Reach, IsReach, is_in, reach_of, end_reach, hearing_reach, input_reach, sent_value, start_reach, send_reach, reach_by_item, views, rows_of_item, most_views, most_loads, is_too_wide}
+use Rattle.cpg_order.specs.Reach.{Reach, IsReach, is_in, reach_of, end_reach, hearing_reach, input_reach, sent_value, start_reach, send_reach, reach_by_item, views, rows_of_item, most_views}
+use Rattle.cpg_order.specs.Reach.{most_loads, is_too_wide}
 use Rattle.cpg_reach.specs.Wide.{IsWide, IsNarrow}
 use Rattle.cpg_given_laws.proofs.Runs.{other, same_activations, same_decides}
 

@@ -1,5 +1,6 @@
 -- The head for a graph within its limits keeps those of a head.
-use Rattle.std.proofs.Common.{◌≡◌, ◌≤◌, ◌<◌, ◌+◌, ◌*◌, ◌^◌, IfSome, ℕ, List, [], ◌∷◌, Bool, true, false, Option, Some, None, is_some, All, Contains, cond, length, map, count_by, refl, sym, subst, ap, ◌∙◌, arith, true≢false}
+use Rattle.std.proofs.Common.{◌≡◌, ◌≤◌, ◌<◌, ◌+◌, ◌*◌, ◌^◌, IfSome, ℕ, List, [], ◌∷◌, Bool, true, false, Option, Some, None, is_some, All, Contains, cond, length, map, count_by, refl, sym, subst, ap}
+use Rattle.std.proofs.Common.{◌∙◌, arith, true≢false}
 use Rattle.std.specs.Int.{div_ceil}
 use Rattle.std.specs.List.{list_all}
 use Rattle.std.proofs.Math.Nat.{mul-le-mul, div-le_self}
@@ -22,7 +23,8 @@ short : (n : ℕ) (p : Process) (f : ℕ) → IsProcessWithin n p → f ≤ 8 �
 short n p f w h =
     let parts : p.parts * (p.alpha + p.chi) ≤ 255 * 2000000000 = mul-le-mul w.parts (let e : p.alpha + p.chi ≤ 2000000000 = omega (arith, w.alpha, w.chi) in e) in
     let again : div_ceil p.wcet p.parts ≤ 1000000001 = omega (arith, div-le_self p.wcet p.parts, w.wcet) in
-    let faults : f * (p.mu + div_ceil p.wcet p.parts + p.alpha) ≤ 8 * 3000000001 = mul-le-mul h (let e : p.mu + div_ceil p.wcet p.parts + p.alpha ≤ 3000000001 = omega (arith, w.mu, w.alpha, again) in e) in
+    let faults : f * (p.mu + div_ceil p.wcet p.parts + p.alpha) ≤ 8 * 3000000001 = mul-le-mul h
+    (let e : p.mu + div_ceil p.wcet p.parts + p.alpha ≤ 3000000001 = omega (arith, w.mu, w.alpha, again) in e) in
     omega (arith, parts, faults, w.wcet)
 
 -- what holds of each number below a bound
@@ -60,14 +62,16 @@ module _ (g : Graph) where
         record {
           node = at.node;
           count = length-map-range_with_len (duration g p) 0 (g.faults + 1);
-          times = All-map (λ t. t < 2 ^ 60) (duration g p) (numbers_below (g.faults + 1)) (All-below (λ f. duration g p f < 2 ^ 60) (g.faults + 1) (λ f h. short (length g.nodes) (process_at g p) f at (omega (arith, w.faults))));
+          times = All-map (λ t. t < 2 ^ 60) (duration g p) (numbers_below (g.faults + 1))
+              (All-below (λ f. duration g p f < 2 ^ 60) (g.faults + 1) (λ f h. short (length g.nodes) (process_at g p) f at (omega (arith, w.faults))));
         }
 
     extras_within : (b : Bool) → IfSome (cond b None (Some (map extra_of g.processes))) (AreExtras (length (head_of g).processes))
     extras_within true = tt
     extras_within false = record {
       count = length-map g.processes extra_of ∙ sym (length-map-range_with_len (head_process g) 0 (process_count g));
-      each = All-map IsExtra extra_of g.processes (All-weaker (IsProcessWithin (length g.nodes)) (λ p. IsExtra (extra_of p)) (λ p a. record { release = a.release; deadline = a.deadline }) g.processes w.processes);
+      each = All-map IsExtra extra_of g.processes
+          (All-weaker (IsProcessWithin (length g.nodes)) (λ p. IsExtra (extra_of p)) (λ p a. record { release = a.release; deadline = a.deadline }) g.processes w.processes);
     }
 
     pub head_within : IsHead (head_of g)
@@ -79,7 +83,10 @@ module _ (g : Graph) where
           few_processes = omega (arith, count, w.few_processes);
           few_conditions = omega (arith, conditions_counted, w.few_conditions);
           few_edges = omega (arith, length-map {B = ℕ × ℕ} g.edges (λ e. (e.from, e.to)), w.few_edges);
-          processes = All-map (IsHeadProcess g.faults (length g.nodes)) (head_process g) (numbers_below (process_count g)) (All-below (λ p. IsHeadProcess g.faults (length g.nodes) (head_process g p)) (process_count g) process_within);
-          edges = All-map (IsHeadEdge (length (head_of g).processes)) (λ e. (e.from, e.to)) g.edges (All-weaker (IsEdgeWithin (process_count g)) (λ e. IsHeadEdge (length (head_of g).processes) (e.from, e.to)) (λ e a. record { from = omega (arith, count, a.from); to = omega (arith, count, a.to) }) g.edges w.edges);
+          processes = All-map (IsHeadProcess g.faults (length g.nodes)) (head_process g) (numbers_below (process_count g))
+              (All-below (λ p. IsHeadProcess g.faults (length g.nodes) (head_process g p)) (process_count g) process_within);
+          edges = All-map (IsHeadEdge (length (head_of g).processes)) (λ e. (e.from, e.to)) g.edges
+              (All-weaker (IsEdgeWithin (process_count g)) (λ e. IsHeadEdge (length (head_of g).processes) (e.from, e.to))
+              (λ e a. record { from = omega (arith, count, a.from); to = omega (arith, count, a.to) }) g.edges w.edges);
           extras = extras_within (list_all is_plain g.processes);
         }

@@ -1,5 +1,6 @@
 -- Processes that are added, instance by instance.
-use Rattle.std.proofs.Common.{◌≡◌, ℕ, ◌+◌, ◌<◌, ◌≤◌, Bool, true, false, List, [], ◌∷◌, ◌++◌, length, append-nil, append_assoc, get_or, take, map, refl, sym, ap, ◌∙◌, subst, arith, inl, inr, ⊎_elim, ◌⊎◌}
+use Rattle.std.proofs.Common.{◌≡◌, ℕ, ◌+◌, ◌<◌, ◌≤◌, Bool, true, false, List, [], ◌∷◌, ◌++◌, length, append-nil, append_assoc, get_or, take, map, refl, sym, ap, ◌∙◌, subst, arith, inl, inr, ⊎_elim}
+use Rattle.std.proofs.Common.{◌⊎◌}
 use Rattle.std.proofs.lemmas.List.{map_push, get_or_default}
 use Rattle.std.proofs.lemmas.Bool.{cases_lt}
 use Rattle.cpg_base.specs.declared.process.Process.{Process}
@@ -10,7 +11,8 @@ use Rattle.cpg_hyper.proofs.Counted.{empty_pieces}
 use Rattle.cpg_hyper.proofs.Taken.{more}
 
 -- one more element made
-pub made_more : {X Y : Type 0} (xs : List X) (i : ℕ) (x : X) → i < length xs → x ≡ get_or xs i x → (f : X → Y) (old made new : List Y) → made ≡ old ++ map f (take i xs) → new ≡ made ++ f x ∷ [] → new ≡ old ++ map f (take (i + 1) xs)
+pub made_more : {X Y : Type 0} (xs : List X) (i : ℕ) (x : X) → i < length xs → x ≡ get_or xs i x → (f : X → Y) (old made new : List Y) → made ≡ old ++ map f (take i xs) → new ≡ made ++ f x ∷ [] →
+    new ≡ old ++ map f (take (i + 1) xs)
 made_more xs i x h is f old made new so_far is_new = is_new ∙ ap (λ ys. ys ++ f x ∷ []) so_far ∙ append_assoc old (map f (take i xs)) (f x ∷ [])
     ∙ ap (λ ys. old ++ ys) (sym (map_push f (take i xs) x) ∙ ap (map f) (sym (more xs i x h is)))
 

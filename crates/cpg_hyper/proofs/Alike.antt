@@ -1,5 +1,6 @@
 -- Instances are active and live as their parts: a copy's inputs are the copies of its process's, and conditions have the values of the scenario on the instance.
-use Rattle.std.proofs.Common.{◌≡◌, ℕ, zero, suc, ◌+◌, ◌-◌, ◌<◌, Bool, true, false, ◌&&◌, if◌then◌else◌, List, [], ◌∷◌, map, filter, get_or, Option, Some, None, is_some, unwrap_or, Contains, refl, sym, ap, ap₂, ◌∙◌, subst, arith}
+use Rattle.std.proofs.Common.{◌≡◌, ℕ, zero, suc, ◌+◌, ◌-◌, ◌<◌, Bool, true, false, ◌&&◌, if◌then◌else◌, List, [], ◌∷◌, map, filter, get_or, Option, Some, None, is_some, unwrap_or, Contains, refl, sym}
+use Rattle.std.proofs.Common.{ap, ap₂, ◌∙◌, subst, arith}
 use Rattle.std.specs.List.{list_all}
 use Rattle.std.proofs.lemmas.List.{get_or-map}
 use Rattle.std.proofs.lemmas.List.Folds.{list_all-map}
@@ -46,7 +47,8 @@ plain_copy n true = refl
 plain_copy n false = refl
 
 -- if the copies of the inputs are live as the inputs are
-copy_by : (n : ℕ) (join : Bool) (es : List ℕ) (f h : ℕ → Bool) → ((e : ℕ) → Contains es e → f (n + e) ≡ h e) → activation_by join (map (λ e. n + e) es) f ≡ copied_activation n (activation_by join es h)
+copy_by : (n : ℕ) (join : Bool) (es : List ℕ) (f h : ℕ → Bool) → ((e : ℕ) → Contains es e → f (n + e) ≡ h e) →
+    activation_by join (map (λ e. n + e) es) f ≡ copied_activation n (activation_by join es h)
 copy_by n join [] f h s = refl
 copy_by n true (e ∷ es) f h s =
     ap by_first (filter-map f (λ e. n + e) (e ∷ es) ∙ ap (map (λ e. n + e)) (same_filter (λ e. f (n + e)) h (e ∷ es) s))
@@ -103,7 +105,8 @@ module _ (whole : ℕ) (parts : List Part) (p i : ℕ) (values : List Bool) (wit
       let c = Contains-filter (is_disjunction part) (numbers_below (process_count part)) q d (Contains-numbers (process_count part) q l) in
       sym (value_there (λ r. value_of g values (first + r)) (disjunctions part) q (condition_of part q) (position-place (disjunctions part) q c) c)
 
-  taken_alike : (e : ℕ) → e < edge_count part → takes (edge_at g (first_edge + e)).when (value_of g values (source g (first_edge + e))) ≡ takes (edge_at part e).when (value_of part own (source part e))
+  taken_alike : (e : ℕ) → e < edge_count part → takes (edge_at g (first_edge + e)).when (value_of g values (source g (first_edge + e))) ≡ takes (edge_at part e).when
+      (value_of part own (source part e))
   taken_alike e l =
       ap (λ (d : Edge). takes d.when (value_of g values d.from)) (copies e l)
       ∙ same_taken (edge_at part e).when (value_of g values (first + source part e)) (value_of part own (source part e))
@@ -150,7 +153,8 @@ module _ (whole : ℕ) (parts : List Part) (p i : ℕ) (values : List Bool) (wit
 
 pub have_conditions : InstancesHaveConditions
 have_conditions whole parts p i q within h l =
-    copied_condition (unrolled whole parts) (part_at parts p).problem (first_edge_of whole parts p i) (first_of whole parts p i) (size_of (part_at parts p)) (around whole parts p i [] within h) (copies whole parts p i [] within h) q l
+    copied_condition (unrolled whole parts) (part_at parts p).problem (first_edge_of whole parts p i) (first_of whole parts p i) (size_of (part_at parts p)) (around whole parts p i [] within h)
+    (copies whole parts p i [] within h) q l
 
 pub activated_alike : InstancesAreActivatedAlike
 activated_alike whole parts p i q s order within h l topological = activated whole parts p i s.values within h order topological q l

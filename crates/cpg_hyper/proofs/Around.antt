@@ -34,14 +34,16 @@ of_instance first a b i size e d low high h is =
     record { from = omega (arith, least, from); from_ends = omega (arith, most, from, h.from); to = omega (arith, least, to); to_ends = omega (arith, most, to, h.to) }
 
 -- both ends of each edge of k instances of a part, from one on, lie between two numbers
-pub lies_in : (first a k : ℕ) (part : Part) → IsWithinLimits part.problem → (e : Edge) → Contains (flat_map (edges_in first part) (range_with_len a k)) e → LiesBetween (first + a * size_of part) (first + (a + k) * size_of part) e
+pub lies_in : (first a k : ℕ) (part : Part) → IsWithinLimits part.problem → (e : Edge) → Contains (flat_map (edges_in first part) (range_with_len a k)) e →
+    LiesBetween (first + a * size_of part) (first + (a + k) * size_of part) e
 lies_in first a k part h e c =
     let (i, among, here) = Contains-flat_map_parts (edges_in first part) (range_with_len a k) e c in
     let (d, has, is) = Contains-map_parts (copied_edge (first_in first part i)) part.problem.edges e here in
     let range = from_range a k i among in
     of_instance first a (a + k) i (size_of part) e d range.0 range.1 (contained (IsEdgeWithin (size_of part)) part.problem.edges d h.edges has) is
 
-lies_above : (whole first : ℕ) (parts : List Part) → ((part : Part) → Contains parts part → IsWithinLimits part.problem) → (e : Edge) → Contains (edges_from whole first parts) e → (first ≤ e.from) × (first ≤ e.to)
+lies_above : (whole first : ℕ) (parts : List Part) → ((part : Part) → Contains parts part → IsWithinLimits part.problem) → (e : Edge) → Contains (edges_from whole first parts) e → (first ≤ e.from) ×
+    (first ≤ e.to)
 lies_above whole first [] h e c = absurd (Contains-nil e c)
 lies_above whole first (part ∷ parts) h e c = ⊎_elim
     (λ (d : Contains (edges_of whole first part) e).
@@ -69,9 +71,11 @@ cut n i k e = ap (λ m. numbers_below m) e ∙ range-append 0 i (suc k) ∙ ap (
     nothing_before m = omega arith
 
 pieces : (f : ℕ → List Edge) (xs : List ℕ) (y : ℕ) (ys : List ℕ) (rest : List Edge) → flat_map f (xs ++ y ∷ ys) ++ rest ≡ flat_map f xs ++ (f y ++ (flat_map f ys ++ rest))
-pieces f xs y ys rest = ap (λ es. es ++ rest) (flat_map-append f xs (y ∷ ys)) ∙ append_assoc (flat_map f xs) (f y ++ flat_map f ys) rest ∙ ap (λ es. flat_map f xs ++ es) (append_assoc (f y) (flat_map f ys) rest)
+pieces f xs y ys rest = ap (λ es. es ++ rest) (flat_map-append f xs (y ∷ ys)) ∙ append_assoc (flat_map f xs) (f y ++ flat_map f ys) rest ∙
+    ap (λ es. flat_map f xs ++ es) (append_assoc (f y) (flat_map f ys) rest)
 
-around_in : (whole first i : ℕ) (part : Part) (rest : List Edge) → IsWithinLimits part.problem → i < whole / part.period → ((e : Edge) → Contains rest e → (after_part whole first part ≤ e.from) × (after_part whole first part ≤ e.to))
+around_in : (whole first i : ℕ) (part : Part) (rest : List Edge) → IsWithinLimits part.problem → i < whole / part.period →
+    ((e : Edge) → Contains rest e → (after_part whole first part ≤ e.from) × (after_part whole first part ≤ e.to))
     → AreAround (i * length part.problem.edges) (first_in first part i) (size_of part) (edges_of whole first part ++ rest) (edges_in first part i)
 around_in whole first i part rest h l above =
     let f = edges_in first part in
@@ -96,7 +100,8 @@ around_in whole first i part rest h l above =
           (Contains-append_cases (flat_map f (range_with_len (i + 1) k)) rest e c);
     }
 
-around_later : (n own first size : ℕ) (mine new rest : List Edge) → length mine ≡ own → ((e : Edge) → Contains mine e → (e.from < first) × (e.to < first)) → AreAround n first size rest new → AreAround (own + n) first size (mine ++ rest) new
+around_later : (n own first size : ℕ) (mine new rest : List Edge) → length mine ≡ own → ((e : Edge) → Contains mine e → (e.from < first) × (e.to < first)) → AreAround n first size rest new →
+    AreAround (own + n) first size (mine ++ rest) new
 around_later n own first size mine new rest long below a = record {
   front = mine ++ a.front;
   back = a.back;
@@ -128,10 +133,12 @@ are_around whole first (part ∷ parts) h (suc p) i is =
     let begin = next + first_of whole parts p i in
     let own = whole / part.period * length part.problem.edges in
     let rest = are_around whole next parts (λ other k. h other (Contains-rest part parts other k)) p i (record { part = omega (arith, is.part); instance = is.instance }) in
-    let here = around_later (first_edge_of whole parts p i) own begin (size_of (part_at parts p)) (edges_of whole first part) (map (copied_edge begin) (part_at parts p).problem.edges) (edges_from whole next parts) (edges_size whole first part)
+    let here = around_later (first_edge_of whole parts p i) own begin (size_of (part_at parts p)) (edges_of whole first part) (map (copied_edge begin) (part_at parts p).problem.edges)
+    (edges_from whole next parts) (edges_size whole first part)
     (λ e c.
     let b = lies_in first 0 (whole / part.period) part (h part (Contains-first part parts)) e c in
     (omega (arith, b.from_ends), omega (arith, b.to_ends)))
     rest in
-    subst (AreAroundAt whole first (part ∷ parts) (suc p) (first_edge_of whole (part ∷ parts) (suc p) i)) (next_first first (whole / part.period * size_of part) (before whole parts p) (i * size_of (part_at parts p)))
+    subst (AreAroundAt whole first (part ∷ parts) (suc p) (first_edge_of whole (part ∷ parts) (suc p) i))
+    (next_first first (whole / part.period * size_of part) (before whole parts p) (i * size_of (part_at parts p)))
     (subst (λ n. AreAroundAt whole first (part ∷ parts) (suc p) n begin) (next_edges own (edges_before whole parts p) (i * length (part_at parts p).problem.edges)) here)

@@ -16,7 +16,8 @@ use Rattle.cpg_hyper.proofs.Whole.{nothing_before}
 abbrev pub no_edge : Edge
 no_edge = record { from = 0; to = 0; size = 0; when = None; frozen = false }
 
-in_part : (whole first i e : ℕ) (part : Part) → i < whole / part.period → e < length part.problem.edges → get_or (edges_of whole first part) (i * length part.problem.edges + e) no_edge ≡ copied_edge (first_in first part i) (get_or part.problem.edges e no_edge)
+in_part : (whole first i e : ℕ) (part : Part) → i < whole / part.period → e < length part.problem.edges →
+    get_or (edges_of whole first part) (i * length part.problem.edges + e) no_edge ≡ copied_edge (first_in first part i) (get_or part.problem.edges e no_edge)
 in_part whole first i e part l h =
     let f = edges_in first part in
     let xs = instances whole part in
@@ -46,14 +47,16 @@ pub edge_copy_at : (whole first : ℕ) (parts : List Part) (p i e : ℕ) → IsI
 edge_copy_at whole first [] p i e h l = absurd (omega (arith, h.part))
 edge_copy_at whole first (part ∷ parts) zero i e h l =
     let inside = within_pieces i (whole / part.period) (length part.problem.edges) e h.instance l in
-    get_or_append_left (edges_of whole first part) (edges_from whole (after_part whole first part) parts) no_edge (0 + i * length part.problem.edges + e) (omega (arith, edges_size whole first part, inside))
+    get_or_append_left (edges_of whole first part) (edges_from whole (after_part whole first part) parts) no_edge (0 + i * length part.problem.edges + e)
+    (omega (arith, edges_size whole first part, inside))
     ∙ ap (λ n. get_or (edges_of whole first part) n no_edge) (drop_zero (i * length part.problem.edges) e)
     ∙ in_part whole first i e part h.instance l
     ∙ ap (λ n. copied_edge n (get_or part.problem.edges e no_edge)) (same_first first (i * size_of part))
 edge_copy_at whole first (part ∷ parts) (suc p) i e h l =
     let size = edges_size whole first part in
     let n = first_edge_of whole parts p i + e in
-    ap (λ m. get_or (edges_of whole first part ++ edges_from whole (after_part whole first part) parts) m no_edge) (moved (whole / part.period * length part.problem.edges) (edges_before whole parts p) (i * length (part_at parts p).problem.edges) e (length (edges_of whole first part)) size)
+    ap (λ m. get_or (edges_of whole first part ++ edges_from whole (after_part whole first part) parts) m no_edge)
+    (moved (whole / part.period * length part.problem.edges) (edges_before whole parts p) (i * length (part_at parts p).problem.edges) e (length (edges_of whole first part)) size)
     ∙ get_or-append-add (edges_of whole first part) (edges_from whole (after_part whole first part) parts) n no_edge
     ∙ edge_copy_at whole (after_part whole first part) parts p i e (record { part = omega (arith, h.part); instance = h.instance }) l
     ∙ ap (λ m. copied_edge m (get_or (part_at parts p).problem.edges e no_edge)) (next_first first (whole / part.period * size_of part) (before whole parts p) (i * size_of (part_at parts p)))

@@ -1,5 +1,6 @@
 -- The inputs and outputs of a copy are the copies of its process's.
-use Rattle.std.proofs.Common.{◌≡◌, ℕ, zero, suc, ◌+◌, ◌-◌, ◌<◌, ◌≤◌, Bool, false, ◌==◌, List, ◌∷◌, ◌++◌, length, length-append, append-nil, get_or, map, filter, Contains, is_some, refl, sym, ap, ap₂, ◌∙◌, subst, arith, eqb-true, eq-eqb}
+use Rattle.std.proofs.Common.{◌≡◌, ℕ, zero, suc, ◌+◌, ◌-◌, ◌<◌, ◌≤◌, Bool, false, ◌==◌, List, ◌∷◌, ◌++◌, length, length-append, append-nil, get_or, map, filter, Contains, is_some, refl, sym, ap, ap₂}
+use Rattle.std.proofs.Common.{◌∙◌, subst, arith, eqb-true, eq-eqb}
 use Rattle.std.specs.List.{range_with_len, list_any}
 use Rattle.std.proofs.lemmas.Bool.{false_from_ne_true}
 use Rattle.std.proofs.lemmas.List.{length-map, get_or_append_left, get_or-append-add}
@@ -31,7 +32,8 @@ other_test : (x y : ℕ) → (x ≡ y → ⊥) → (x == y) ≡ false
 other_test x y h = false_from_ne_true (x == y) (λ t. h (eqb-true x y t))
 
 -- only numbers from n to before n + m pass
-within_range : (test : ℕ → Bool) (n m b : ℕ) → ((e : ℕ) → e < n → test e ≡ false) → ((k : ℕ) → k < b → test (n + m + k) ≡ false) → filter test (numbers_below (n + (m + b))) ≡ map (λ e. n + e) (filter (λ e. test (n + e)) (numbers_below m))
+within_range : (test : ℕ → Bool) (n m b : ℕ) → ((e : ℕ) → e < n → test e ≡ false) → ((k : ℕ) → k < b → test (n + m + k) ≡ false) →
+    filter test (numbers_below (n + (m + b))) ≡ map (λ e. n + e) (filter (λ e. test (n + e)) (numbers_below m))
 within_range test n m b front back =
     ap (filter test) (range-append 0 n (m + b) ∙ ap (λ k. numbers_below n ++ range_with_len k (m + b)) (nothing_before n) ∙ ap (λ xs. numbers_below n ++ xs) (range-append n m b))
     ∙ filter-append test (numbers_below n) (range_with_len n m ++ range_with_len (n + m) b)
@@ -50,7 +52,8 @@ within_range test n m b front back =
     past : (e : ℕ) → (n + m ≤ e) × (e < n + m + b) → test e ≡ false
     past e (l, h) = let k : ℕ = e - (n + m) in subst (λ x. test x ≡ false) (let is : n + m + k ≡ e = omega (arith, l) in is) (back k (omega (arith, l, h)))
 
-module _ (g part : Graph) (n first size : ℕ) (around : AreAround n first size g.edges (map (copied_edge first) part.edges)) (copies : (e : ℕ) → e < edge_count part → edge_at g (n + e) ≡ copied_edge first (edge_at part e)) where
+module _ (g part : Graph) (n first size : ℕ) (around : AreAround n first size g.edges (map (copied_edge first) part.edges))
+    (copies : (e : ℕ) → e < edge_count part → edge_at g (n + e) ≡ copied_edge first (edge_at part e)) where
   abbrev mine : List Edge
   mine = map (copied_edge first) part.edges
 
@@ -63,12 +66,14 @@ module _ (g part : Graph) (n first size : ℕ) (around : AreAround n first size 
   front_at : (e : ℕ) → e < n → Contains around.front (edge_at g e)
   front_at e l =
       let inside : e < length around.front = omega (arith, around.long, l) in
-      subst (Contains around.front) (sym (ap (λ xs. get_or xs e no_edge) around.are ∙ get_or_append_left around.front (mine ++ around.back) no_edge e inside)) (Contains-get_or around.front e no_edge inside)
+      subst (Contains around.front) (sym (ap (λ xs. get_or xs e no_edge) around.are ∙ get_or_append_left around.front (mine ++ around.back) no_edge e inside))
+      (Contains-get_or around.front e no_edge inside)
 
   back_at : (k : ℕ) → k < length around.back → Contains around.back (edge_at g (n + edge_count part + k))
   back_at k l =
       let place : n + edge_count part + k ≡ length around.front + (length mine + k) = omega (arith, around.long, long) in
-      subst (Contains around.back) (sym (ap₂ (λ xs j. get_or xs j no_edge) around.are place ∙ get_or-append-add around.front (mine ++ around.back) (length mine + k) no_edge ∙ get_or-append-add mine around.back k no_edge)) (Contains-get_or around.back k no_edge l)
+      subst (Contains around.back) (sym (ap₂ (λ xs j. get_or xs j no_edge) around.are place ∙ get_or-append-add around.front (mine ++ around.back) (length mine + k) no_edge ∙
+      get_or-append-add mine around.back k no_edge)) (Contains-get_or around.back k no_edge l)
 
   pub copied_inputs : (q : ℕ) → q < size → inputs g (first + q) ≡ map (λ e. n + e) (inputs part q)
   copied_inputs q l =

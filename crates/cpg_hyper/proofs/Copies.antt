@@ -27,13 +27,15 @@ none = record { name = []; node = 0; wcet = 0; parts = 1; alpha = 0; chi = 0; mu
 pub take_count : (whole i : ℕ) (part : Part) → i < whole / part.period → length (take i (instances whole part)) ≡ i
 take_count whole i part l = omega (arith, length-take i (instances whole part), length-range_with_len 0 (whole / part.period), l)
 
-in_part : (whole p i q : ℕ) (part : Part) → i < whole / part.period → q < size_of part → get_or (processes_of whole p part) (i * size_of part + q) none ≡ copied_process p i part (get_or part.problem.processes q none)
+in_part : (whole p i q : ℕ) (part : Part) → i < whole / part.period → q < size_of part → get_or (processes_of whole p part) (i * size_of part + q) none ≡ copied_process p i part
+    (get_or part.problem.processes q none)
 in_part whole p i q part l h =
     let f = processes_in p part in
     let xs = instances whole part in
     let count : i < length xs = omega (arith, length-range_with_len 0 (whole / part.period), l) in
     let here : get_or xs i 0 ≡ i = get_or-range_with_len 0 (whole / part.period) i 0 l ∙ nothing_before i in
-    let front : length (flat_map f (take i xs)) ≡ i * size_of part = constant_pieces f (size_of part) (λ j. length-map part.problem.processes _) (take i xs) ∙ ap (λ n. n * size_of part) (take_count whole i part l) in
+    let front : length (flat_map f (take i xs)) ≡ i * size_of part = constant_pieces f (size_of part) (λ j. length-map part.problem.processes _) (take i xs) ∙
+    ap (λ n. n * size_of part) (take_count whole i part l) in
     ap (λ n. get_or (processes_of whole p part) (n + q) none) (sym front)
     ∙ get_or-flat_map f xs i q 0 none count (omega (arith, length-map part.problem.processes (copied_process p (get_or xs i 0) part), h))
     ∙ ap (λ j. get_or (f j) q none) here
@@ -43,7 +45,8 @@ in_part whole p i q part l h =
     nothing_before n = omega arith
 
 pub copy_at : (whole first : ℕ) (parts : List Part) (p i q : ℕ) → IsInstance whole parts p i → q < size_of (part_at parts p)
-    → get_or (processes_from whole first parts) (before whole parts p + i * size_of (part_at parts p) + q) none ≡ copied_process (first + p) i (part_at parts p) (get_or (part_at parts p).problem.processes q none)
+    → get_or (processes_from whole first parts) (before whole parts p + i * size_of (part_at parts p) + q) none ≡ copied_process (first + p) i (part_at parts p)
+    (get_or (part_at parts p).problem.processes q none)
 copy_at whole first [] p i q h l = absurd (omega (arith, h.part))
 copy_at whole first (part ∷ parts) zero i q h l =
     let size = processes_size whole first part in
@@ -61,7 +64,8 @@ copy_at whole first (part ∷ parts) zero i q h l =
 copy_at whole first (part ∷ parts) (suc p) i q h l =
     let size = processes_size whole first part in
     let n = before whole parts p + i * size_of (part_at parts p) + q in
-    ap (λ m. get_or (processes_of whole first part ++ processes_from whole (first + 1) parts) m none) (moved (whole / part.period * size_of part) (before whole parts p) (i * size_of (part_at parts p)) q (length (processes_of whole first part)) size)
+    ap (λ m. get_or (processes_of whole first part ++ processes_from whole (first + 1) parts) m none)
+    (moved (whole / part.period * size_of part) (before whole parts p) (i * size_of (part_at parts p)) q (length (processes_of whole first part)) size)
     ∙ get_or-append-add (processes_of whole first part) (processes_from whole (first + 1) parts) n none
     ∙ copy_at whole (first + 1) parts p i q (record { part = omega (arith, h.part); instance = h.instance }) l
     ∙ ap (λ m. copied_process m i (part_at parts p) (get_or (part_at parts p).problem.processes q none)) (next_sum first p)
@@ -79,7 +83,12 @@ within_whole whole first (part ∷ parts) zero i h =
     let most : (i + 1) * size_of part ≤ whole / part.period * size_of part = product_le (i + 1) (whole / part.period) (size_of part) (omega (arith, h.instance)) in
     omega (arith, most, processes_size whole first part, length-append (processes_of whole first part) (processes_from whole (first + 1) parts))
 within_whole whole first (part ∷ parts) (suc p) i h =
-    omega (arith, within_whole whole (first + 1) parts p i (record { part = omega (arith, h.part); instance = h.instance }), processes_size whole first part, length-append (processes_of whole first part) (processes_from whole (first + 1) parts))
+    omega (
+      arith,
+      within_whole whole (first + 1) parts p i (record { part = omega (arith, h.part); instance = h.instance }),
+      processes_size whole first part,
+      length-append (processes_of whole first part) (processes_from whole (first + 1) parts),
+    )
 
 pub are_copies : InstancesAreCopies
 are_copies whole parts p i q h l = copy_at whole 0 parts p i q h l ∙ ap (λ n. copied_process n i (part_at parts p) (process_at (part_at parts p).problem q)) (nothing_before p)

@@ -22,10 +22,12 @@ instance_count : (whole : ℕ) (part : Part) → length (instances whole part) �
 instance_count whole part = length-range_with_len 0 (whole / part.period)
 
 pub processes_size : (whole p : ℕ) (part : Part) → length (processes_of whole p part) ≡ whole / part.period * size_of part
-processes_size whole p part = constant_pieces (processes_in p part) (size_of part) (λ i. length-map part.problem.processes _) (instances whole part) ∙ ap (λ n. n * size_of part) (instance_count whole part)
+processes_size whole p part = constant_pieces (processes_in p part) (size_of part) (λ i. length-map part.problem.processes _) (instances whole part) ∙
+    ap (λ n. n * size_of part) (instance_count whole part)
 
 pub edges_size : (whole first : ℕ) (part : Part) → length (edges_of whole first part) ≡ whole / part.period * length part.problem.edges
-edges_size whole first part = constant_pieces (edges_in first part) (length part.problem.edges) (λ i. length-map part.problem.edges _) (instances whole part) ∙ ap (λ n. n * length part.problem.edges) (instance_count whole part)
+edges_size whole first part = constant_pieces (edges_in first part) (length part.problem.edges) (λ i. length-map part.problem.edges _) (instances whole part) ∙
+    ap (λ n. n * length part.problem.edges) (instance_count whole part)
 
 -- the number of edges does not depend on where they begin
 pub same_length : (whole a b : ℕ) (parts : List Part) → length (edges_from whole a parts) ≡ length (edges_from whole b parts)
@@ -46,16 +48,26 @@ pub part_le : (whole period count most : ℕ) → whole ≤ 1000000000 → count
 part_le whole period count most h k = product_le (whole / period) 1000000000 count most (omega (arith, div-le_self whole period, h)) k
 
 module _ (parts : List Part) (i : ℕ) (part : Part) (l : i < length parts) (is : part ≡ get_or parts i part) (whole : ℕ) where
-  pub more_processes : (all total : ℕ) → all ≡ total + length (processes_from whole i (drop i parts)) → all ≡ total + whole / part.period * size_of part + length (processes_from whole (i + 1) (drop (i + 1) parts))
-  more_processes all total h = h ∙ rw (drop-here parts i part l is) (omega (arith, length-append (processes_of whole i part) (processes_from whole (i + 1) (drop (i + 1) parts)), processes_size whole i part))
+  pub more_processes : (all total : ℕ) → all ≡ total + length (processes_from whole i (drop i parts)) →
+      all ≡ total + whole / part.period * size_of part + length (processes_from whole (i + 1) (drop (i + 1) parts))
+  more_processes all total h = h ∙ rw (drop-here parts i part l is)
+      (omega (arith, length-append (processes_of whole i part) (processes_from whole (i + 1) (drop (i + 1) parts)), processes_size whole i part))
 
-  pub more_edges : (all total : ℕ) → all ≡ total + length (edges_from whole 0 (drop i parts)) → all ≡ total + whole / part.period * length part.problem.edges + length (edges_from whole 0 (drop (i + 1) parts))
+  pub more_edges : (all total : ℕ) → all ≡ total + length (edges_from whole 0 (drop i parts)) →
+      all ≡ total + whole / part.period * length part.problem.edges + length (edges_from whole 0 (drop (i + 1) parts))
   more_edges all total h = h
-      ∙ rw (drop-here parts i part l is) (omega (arith, length-append (edges_of whole 0 part) (edges_from whole (after_part whole 0 part) (drop (i + 1) parts)), edges_size whole 0 part, same_length whole (after_part whole 0 part) 0 (drop (i + 1) parts)))
+      ∙ rw (drop-here parts i part l is) (omega (
+        arith,
+        length-append (edges_of whole 0 part) (edges_from whole (after_part whole 0 part) (drop (i + 1) parts)),
+        edges_size whole 0 part,
+        same_length whole (after_part whole 0 part) 0 (drop (i + 1) parts),
+      ))
 
   -- the edges of one more part
-  pub next_edges : (all out new : List Edge) (first : ℕ) → all ≡ out ++ edges_from whole first (drop i parts) → new ≡ out ++ edges_of whole first part → all ≡ new ++ edges_from whole (after_part whole first part) (drop (i + 1) parts)
-  next_edges all out new first h k = h ∙ rw (drop-here parts i part l is) (sym (append_assoc out (edges_of whole first part) (edges_from whole (after_part whole first part) (drop (i + 1) parts)))) ∙ ap (λ xs. xs ++ edges_from whole (after_part whole first part) (drop (i + 1) parts)) (sym k)
+  pub next_edges : (all out new : List Edge) (first : ℕ) → all ≡ out ++ edges_from whole first (drop i parts) → new ≡ out ++ edges_of whole first part →
+      all ≡ new ++ edges_from whole (after_part whole first part) (drop (i + 1) parts)
+  next_edges all out new first h k = h ∙ rw (drop-here parts i part l is) (sym (append_assoc out (edges_of whole first part) (edges_from whole (after_part whole first part) (drop (i + 1) parts)))) ∙
+      ap (λ xs. xs ++ edges_from whole (after_part whole first part) (drop (i + 1) parts)) (sym k)
 
 -- one more instance
 pub next_instance : {X : Type 0} (f : ℕ → List X) (n : ℕ) (old out new : List X) → out ≡ old ++ flat_map f (numbers_below n) → new ≡ out ++ f n → new ≡ old ++ flat_map f (numbers_below (n + 1))

@@ -1,5 +1,6 @@
 -- If edges lead from lower to higher ranks, looking back along as many edges as there are processes is far enough.
-use Rattle.std.proofs.Common.{◌≡◌, ℕ, zero, suc, ◌+◌, ◌<◌, ◌≤◌, Bool, true, false, cond, ◌&&◌, nat_lt, List, [], ◌∷◌, length, filter, Contains, refl, sym, ap, ◌∙◌, subst, arith, ⊎_elim, lt-ltb, le-ltb}
+use Rattle.std.proofs.Common.{◌≡◌, ℕ, zero, suc, ◌+◌, ◌<◌, ◌≤◌, Bool, true, false, cond, ◌&&◌, nat_lt, List, [], ◌∷◌, length, filter, Contains, refl, sym, ap, ◌∙◌, subst, arith, ⊎_elim, lt-ltb}
+use Rattle.std.proofs.Common.{le-ltb}
 use Rattle.std.proofs.lemmas.Bool.{cases_lt, true≢false}
 use Rattle.std.proofs.lemmas.List.FromFn.{length-range_with_len}
 use Rattle.cpg_base.specs.Numbers.{numbers_below}
@@ -50,13 +51,15 @@ module _ (size : ℕ) (height : ℕ → ℕ) where
       let fewer = filter_fewer (λ j. nat_lt (height j) (height q)) (λ j. true) (numbers_below size) q (λ j t. refl) (Contains-numbers size q l) (le-ltb (height q) (height q) (omega arith)) refl in
       omega (arith, fewer, all_kept (numbers_below size), length-range_with_len 0 size)
 
-module _ (g : Graph) (values : List Bool) (height : ℕ → ℕ) (sources : (e : ℕ) → e < edge_count g → source g e < process_count g) (up : (e : ℕ) → e < edge_count g → height (source g e) < height (target g e)) where
+module _ (g : Graph) (values : List Bool) (height : ℕ → ℕ) (sources : (e : ℕ) → e < edge_count g → source g e < process_count g)
+    (up : (e : ℕ) → e < edge_count g → height (source g e) < height (target g e)) where
   more_depth : (depth q : ℕ) → rank (process_count g) height q < depth → activation_within depth g values q ≡ activation_within (suc depth) g values q
   more_depth zero q h = absurd (omega (arith, h))
   more_depth (suc d) q h = same_activation_by (process_at g q).join (inputs g q) _ _
       (λ e c.
       let (inside, is) = inputs_parts g q e c in
-      let grows : rank (process_count g) height (source g e) < rank (process_count g) height q = rank_grows (process_count g) height (source g e) q (sources e inside) (subst (λ t. height (source g e) < height t) is (up e inside)) in
+      let grows : rank (process_count g) height (source g e) < rank (process_count g) height q =
+      rank_grows (process_count g) height (source g e) q (sources e inside) (subst (λ t. height (source g e) < height t) is (up e inside)) in
       ap (λ a. is_active a && takes (edge_at g e).when (value_of g values (source g e))) (more_depth d (source g e) (omega (arith, grows, h))))
 
   pub enough_depth : (more q : ℕ) → q < process_count g → activation_within (more + process_count g) g values q ≡ activation_within (process_count g) g values q

@@ -1,5 +1,6 @@
 -- Scenarios of instances, how long executions last in them, and when they start and end in valid tables.
-use Rattle.std.proofs.Common.{map, not, None, ◌≡◌, ℕ, ◌+◌, ◌*◌, ◌<◌, ◌≤◌, Bool, true, false, ◌&&◌, ◌||◌, nat_lt, List, [], ◌∷◌, take, drop, filter, sum, Some, Contains, refl, sym, ap, ◌∙◌, subst, arith, lt-ltb, ⊎_elim}
+use Rattle.std.proofs.Common.{map, not, None, ◌≡◌, ℕ, ◌+◌, ◌*◌, ◌<◌, ◌≤◌, Bool, true, false, ◌&&◌, ◌||◌, nat_lt, List, [], ◌∷◌, take, drop, filter, sum, Some, Contains, refl, sym, ap, ◌∙◌, subst}
+use Rattle.std.proofs.Common.{arith, lt-ltb, ⊎_elim}
 use Rattle.std.specs.List.{list_any}
 use Rattle.std.proofs.lemmas.Bool.{cases_lt, or_parts, true≢false}
 use Rattle.std.proofs.lemmas.List.{length-map, length-take, length-drop, get_or-take, get_or-drop, drop_more}
@@ -55,7 +56,8 @@ both_false false b h e = cc
 at_least : (a b : ℕ) → nat_lt a b ≡ false → b ≤ a
 at_least a b h = ⊎_elim (λ (l : a < b). absurd (true≢false (sym (lt-ltb a b l) ∙ h))) (λ (m : b ≤ a). m) (cases_lt a b)
 
-module _ (g : Graph) (tables : List NodeTable) (s : Scenario) (x : ℕ) (is : IsScenario g s) (valid : IsValid g tables) (l : x < process_count g) (c : Column) (there : Contains (columns_of tables x) c) (match : matches c.cube s ≡ true) where
+module _ (g : Graph) (tables : List NodeTable) (s : Scenario) (x : ℕ) (is : IsScenario g s) (valid : IsValid g tables) (l : x < process_count g) (c : Column)
+    (there : Contains (columns_of tables x) c) (match : matches c.cube s ≡ true) where
   start : item_at g x ≡ Start x
   start = rw (lt-ltb x (process_count g) l) refl
 
@@ -89,13 +91,15 @@ keep_periods whole parts p i q s tables time h l is valid among =
     let copy = are_copies whole parts p i q h l in
     let release : (process_at g x).release ≡ i * part.period + (process_at part.problem q).release = ap (λ (d : Process). d.release) copy in
     let own : (process_at g x).deadline ≡ Some (i * part.period + due part.problem q) = ap (λ (d : Process). d.deadline) copy in
-    let least : due g x ≤ i * part.period + due part.problem q = subst (λ d. lesser_due whole d ≤ i * part.period + due part.problem q) (sym own) (lesser_of whole (i * part.period + due part.problem q)) in
+    let least : due g x ≤ i * part.period + due part.problem q = subst (λ d. lesser_due whole d ≤ i * part.period + due part.problem q) (sym own)
+    (lesser_of whole (i * part.period + due part.problem q)) in
     record {
       released = omega (arith, released g tables s x is valid below c there match, release, at_time);
       ended = omega (arith, ended g tables s x is valid below c there match, least, at_time);
     }
 
-some_passes : (cs : List Column) (s : Scenario) → list_any (λ (d : Column). matches d.cube s) cs ≡ true → (t : ℕ) × Contains (map (λ (d : Column). d.time) (filter (λ (d : Column). matches d.cube s) cs)) t
+some_passes : (cs : List Column) (s : Scenario) → list_any (λ (d : Column). matches d.cube s) cs ≡ true → (t : ℕ) ×
+    Contains (map (λ (d : Column). d.time) (filter (λ (d : Column). matches d.cube s) cs)) t
 some_passes cs s h =
     let (c, there, test) = list_any_parts (λ (d : Column). matches d.cube s) cs h in
     (c.time, Contains-map (λ (d : Column). d.time) (filter (λ (d : Column). matches d.cube s) cs) c (Contains-filter (λ (d : Column). matches d.cube s) cs c test there))

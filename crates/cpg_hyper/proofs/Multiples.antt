@@ -63,7 +63,8 @@ pub record IsSoFar (parts : List Part) (whole : ℕ) : Type 0 where
 pub none_so_far : (parts : List Part) → IsSoFar (take 0 parts) 1
 none_so_far parts = record { common = λ k d l. absurd (omega arith); least = λ m h. one-dvd m }
 
-pub more_so_far : (parts : List Part) (i : ℕ) (part : Part) (whole new : ℕ) → i < length parts → part ≡ get_or parts i part → IsSoFar (take i parts) whole → IsLeastCommon whole part.period new → IsSoFar (take (i + 1) parts) new
+pub more_so_far : (parts : List Part) (i : ℕ) (part : Part) (whole new : ℕ) → i < length parts → part ≡ get_or parts i part → IsSoFar (take i parts) whole → IsLeastCommon whole part.period new →
+    IsSoFar (take (i + 1) parts) new
 more_so_far parts i part whole new l is so_far h = record {
   common = all_more parts i part l is (λ d. d.period ∣ new) (λ k d m. dvd_trans _ (so_far.common k d m) h.first) h.second;
   least = λ m c.

@@ -16,7 +16,8 @@ use Rattle.cpg_hyper.specs.Refusals.{HoldsOfEach, HasFewEnough, AreOver, ShowsPr
 use Rattle.cpg_hyper.proofs.Whole.{unrolled_within, first_there}
 
 -- the parts of which the graph is made
-pub made_within : (whole : ℕ) (parts : List Part) → 1 ≤ length parts → length parts ≤ 4 → AreOver parts whole → HoldsOfEach (λ p part. IsWithinLimits part.problem) parts → HasFewEnough (unrolled whole parts)
+pub made_within : (whole : ℕ) (parts : List Part) → 1 ≤ length parts → length parts ≤ 4 → AreOver parts whole → HoldsOfEach (λ p part. IsWithinLimits part.problem) parts →
+    HasFewEnough (unrolled whole parts)
     → (first : Graph) (faults : ℕ) (nodes : List (List ℕ)) (slots : List Slot) (ps : List Process) (es : List Edge)
     → first ≡ first_graph parts → faults ≡ first.faults → nodes ≡ first.nodes → slots ≡ first.slots → ps ≡ processes_from whole 0 parts → es ≡ edges_from whole 0 parts
     → IsWithinLimits (record { faults = faults; deadline = whole; nodes = nodes; slots = slots; processes = ps; edges = es; order = None })

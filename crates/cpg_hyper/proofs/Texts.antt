@@ -1,5 +1,6 @@
 -- What copies are called.
-use Rattle.std.proofs.Common.{◌≡◌, ℕ, zero, suc, ◌+◌, ◌%◌, ◌^◌, ◌<◌, ◌≤◌, List, [], ◌∷◌, ◌++◌, codes, length, length-append, append_assoc, get_or, Option, Some, None, Result, Ok, Err, refl, sym, ap, ◌∙◌, subst, arith, ⊎_elim, le-leb, rules}
+use Rattle.std.proofs.Common.{◌≡◌, ℕ, zero, suc, ◌+◌, ◌%◌, ◌^◌, ◌<◌, ◌≤◌, List, [], ◌∷◌, ◌++◌, codes, length, length-append, append_assoc, get_or, Option, Some, None, Result, Ok, Err, refl, sym, ap}
+use Rattle.std.proofs.Common.{◌∙◌, subst, arith, ⊎_elim, le-leb, rules}
 use Rattle.std.specs.Prelude.{All, IfOk, IfNone, IsTrue}
 use Rattle.std.specs.Fmt.{decimal}
 use Rattle.std.proofs.lemmas.Fmt.{decimal_by_steps, decimal_injective}
@@ -35,7 +36,8 @@ point = all_one (λ b. IsTrue (is_name_byte b)) 46 refl
 
 -- a name with its points, from the left
 made_is : (p i : ℕ) (name : List ℕ) → name_in p i name ≡ decimal p ++ (46 ∷ (decimal i ++ (46 ∷ name)))
-made_is p i name = append_assoc ((decimal p ++ codes ".") ++ decimal i) (codes ".") name ∙ append_assoc (decimal p ++ codes ".") (decimal i) (46 ∷ name) ∙ append_assoc (decimal p) (codes ".") (decimal i ++ (46 ∷ name))
+made_is p i name = append_assoc ((decimal p ++ codes ".") ++ decimal i) (codes ".") name ∙ append_assoc (decimal p ++ codes ".") (decimal i) (46 ∷ name) ∙
+    append_assoc (decimal p) (codes ".") (decimal i ++ (46 ∷ name))
 
 pub made_plain : (p i : ℕ) (name : List ℕ) → p < 2 ^ 64 → i < 2 ^ 64 → IsName name → All (λ b. IsTrue (is_name_byte b)) (name_in p i name)
 made_plain p i name hp hi h =
@@ -54,7 +56,8 @@ long_name p i name hp hi h not_name = ⊎_elim
     (λ (short : length (name_in p i name) ≤ 32). absurd (not_name (record { some = made_some p i name; short = short; plain = made_plain p i name hp hi h })))
     (cases_lt 32 (length (name_in p i name)))
 
-pub long_if : {E : Type 0} (r : Result (Option (List ℕ)) E) (text made : List ℕ) → IfOk r (λ r. IfNone r (IsName text → ⊥)) → text ≡ made → ((IsName made → ⊥) → 32 < length made) → IfOk r (λ r. IfNone r (32 < length made))
+pub long_if : {E : Type 0} (r : Result (Option (List ℕ)) E) (text made : List ℕ) → IfOk r (λ r. IfNone r (IsName text → ⊥)) → text ≡ made → ((IsName made → ⊥) → 32 < length made) →
+    IfOk r (λ r. IfNone r (32 < length made))
 long_if (Ok (Some name)) text made h is f = tt
 long_if (Ok None) text made h is f = f (subst (λ t. IsName t → ⊥) is h)
 long_if (Err e) text made h is f = tt

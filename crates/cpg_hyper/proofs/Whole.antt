@@ -1,5 +1,6 @@
 -- The graph of all instances is within the limits.
-use Rattle.std.proofs.Common.{◌≡◌, ◌≢◌, ℕ, suc, ◌+◌, ◌*◌, ◌/◌, ◌^◌, ◌<◌, ◌≤◌, List, [], ◌∷◌, ◌++◌, length, length-append, get_or, Option, Some, None, AllPairs, Contains, refl, sym, ap, ◌∙◌, subst, arith, ⊎_elim}
+use Rattle.std.proofs.Common.{◌≡◌, ◌≢◌, ℕ, suc, ◌+◌, ◌*◌, ◌/◌, ◌^◌, ◌<◌, ◌≤◌, List, [], ◌∷◌, ◌++◌, length, length-append, get_or, Option, Some, None, AllPairs, Contains, refl, sym, ap, ◌∙◌, subst}
+use Rattle.std.proofs.Common.{arith, ⊎_elim}
 use Rattle.std.specs.Prelude.{All}
 use Rattle.std.proofs.Math.Nat.{div-le_self, div-mul-le_self}
 use Rattle.std.proofs.lemmas.List.Elements.{Contains-get_or, Contains-append_cases}
@@ -10,7 +11,8 @@ use Rattle.cpg_base.specs.declared.process.Edge.{Edge}
 use Rattle.cpg_base.proofs.Lists.{Contains-first, Contains-rest, Contains-nil, Contains-map_parts, Contains-flat_map_parts, numbers-Contains}
 use Rattle.cpg_base.proofs.Pairs.{AllPairs-nil, AllPairs-append, AllPairs-map, AllPairs-flat_map_in, numbers_apart}
 use Rattle.cpg_hyper.specs.declared.part.Part.{Part}
-use Rattle.cpg_hyper.specs.Unrolled.{copied_process, copied_edge, size_of, instances, first_in, after_part, processes_in, processes_of, processes_from, edges_in, edges_of, edges_from, first_graph, unrolled}
+use Rattle.cpg_hyper.specs.Unrolled.{copied_process, copied_edge, size_of, instances, first_in, after_part, processes_in, processes_of, processes_from, edges_in, edges_of, edges_from, first_graph}
+use Rattle.cpg_hyper.specs.Unrolled.{unrolled}
 use Rattle.cpg_hyper.specs.Refusals.{IsAlike, FitsPeriod, HoldsOfEach, HasFewEnough, AreOver}
 use Rattle.cpg_hyper.proofs.Counted.{processes_size}
 use Rattle.cpg_hyper.proofs.Copies.{product_le}
@@ -92,7 +94,8 @@ edges_within : (whole first p : ℕ) (parts : List Part) → ((part : Part) → 
 edges_within whole first p [] h e c = absurd (Contains-nil e c)
 edges_within whole first p (part ∷ parts) h e c =
     let rest = processes_from whole (p + 1) parts in
-    let long : length (processes_of whole p part ++ rest) ≡ whole / part.period * size_of part + length rest = length-append (processes_of whole p part) rest ∙ ap (λ n. n + length rest) (processes_size whole p part) in
+    let long : length (processes_of whole p part ++ rest) ≡ whole / part.period * size_of part + length rest = length-append (processes_of whole p part) rest ∙
+    ap (λ n. n + length rest) (processes_size whole p part) in
     ⊎_elim
     (λ (d : Contains (edges_of whole first part) e).
     let (i, among, here) = Contains-flat_map_parts (edges_in first part) (instances whole part) e d in
@@ -116,16 +119,19 @@ own_names : (whole p : ℕ) (part : Part) → whole ≤ 1000000000 → p < 10 �
 own_names whole p part short few h =
     AllPairs-flat_map_in (λ (i : ℕ) (j : ℕ). i ≢ j) Differ (processes_in p part) (instances whole part)
     (λ i c. AllPairs-map Differ Differ (copied_process p i part) part.problem.processes
-    (λ a b apart same. apart (same_copy p i p i a.name b.name (omega (arith, few)) (small whole part.period i short (numbers-Contains (whole / part.period) i c)) (omega (arith, few)) (small whole part.period i short (numbers-Contains (whole / part.period) i c)) same).2)
+    (λ a b apart same. apart (same_copy p i p i a.name b.name (omega (arith, few)) (small whole part.period i short (numbers-Contains (whole / part.period) i c)) (omega (arith, few))
+    (small whole part.period i short (numbers-Contains (whole / part.period) i c)) same).2)
     h.process_names)
     (λ i j a b ci cj apart ca cb same.
     let (x, _, is) = Contains-map_parts (copied_process p i part) part.problem.processes a ca in
     let (y, _, be) = Contains-map_parts (copied_process p j part) part.problem.processes b cb in
-    apart (same_copy p i p j x.name y.name (omega (arith, few)) (small whole part.period i short (numbers-Contains (whole / part.period) i ci)) (omega (arith, few)) (small whole part.period j short (numbers-Contains (whole / part.period) j cj))
+    apart (same_copy p i p j x.name y.name (omega (arith, few)) (small whole part.period i short (numbers-Contains (whole / part.period) i ci)) (omega (arith, few))
+    (small whole part.period j short (numbers-Contains (whole / part.period) j cj))
     (ap (λ (q : Process). q.name) is ∙ same ∙ ap (λ (q : Process). q.name) (sym be))).1)
     (numbers_apart (whole / part.period))
 
-names_differ : (whole p : ℕ) (parts : List Part) → whole ≤ 1000000000 → p + length parts ≤ 10 → ((part : Part) → Contains parts part → IsWithinLimits part.problem) → AllPairs Differ (processes_from whole p parts)
+names_differ : (whole p : ℕ) (parts : List Part) → whole ≤ 1000000000 → p + length parts ≤ 10 → ((part : Part) → Contains parts part → IsWithinLimits part.problem) →
+    AllPairs Differ (processes_from whole p parts)
 names_differ whole p [] short few h = AllPairs-nil Differ
 names_differ whole p (part ∷ parts) short few h =
     AllPairs-append Differ (processes_of whole p part) (processes_from whole (p + 1) parts)
@@ -134,7 +140,8 @@ names_differ whole p (part ∷ parts) short few h =
     (λ a b ca cb same.
     let x = of_part whole p part a ca in
     let y = of_parts whole (p + 1) parts b cb in
-    let numbers = same_copy p x.instance (p + 1 + y.place) y.copy.instance x.process.name y.copy.process.name (omega (arith, few)) (small whole part.period x.instance short x.early) (omega (arith, few, y.within)) (small whole y.part.period y.copy.instance short y.copy.early)
+    let numbers = same_copy p x.instance (p + 1 + y.place) y.copy.instance x.process.name y.copy.process.name (omega (arith, few)) (small whole part.period x.instance short x.early)
+    (omega (arith, few, y.within)) (small whole y.part.period y.copy.instance short y.copy.early)
     (ap (λ (q : Process). q.name) x.is ∙ same ∙ ap (λ (q : Process). q.name) (sym y.copy.is)) in
     absurd (omega (arith, numbers.0)))
 
@@ -168,7 +175,8 @@ module _ (whole : ℕ) (parts : List Part) (some : 1 ≤ length parts) (few : le
       let old : IsProcessWithin (length part.problem.nodes) q = contained (IsProcessWithin (length part.problem.nodes)) part.problem.processes q here.processes among.copy.has in
       let soon : q.release ≤ part.period = contained (λ r. r.release ≤ part.period) part.problem.processes q fits.releases among.copy.has in
       let release = in_time among.copy.instance (whole / part.period) part.period whole q.release among.copy.early (div-mul-le_self whole part.period) soon in
-      let due = in_time among.copy.instance (whole / part.period) part.period whole (lesser_due part.problem.deadline q.deadline) among.copy.early (div-mul-le_self whole part.period) (omega (arith, lesser_due_le part.problem.deadline q.deadline, fits.deadline)) in
+      let due = in_time among.copy.instance (whole / part.period) part.period whole (lesser_due part.problem.deadline q.deadline) among.copy.early (div-mul-le_self whole part.period)
+      (omega (arith, lesser_due_le part.problem.deadline q.deadline, fits.deadline)) in
       let made : IsProcessWithin (length (first_graph parts).nodes) (copied_process (0 + among.place) among.copy.instance part q) = record {
         node = omega (arith, old.node, ap length alike.nodes);
         works = old.works;
@@ -196,7 +204,8 @@ module _ (whole : ℕ) (parts : List Part) (some : 1 ≤ length parts) (few : le
         few_conditions = counts.conditions;
         slots = first_within.slots;
         processes = all_from (IsProcessWithin (length (first_graph parts).nodes)) (processes_from whole 0 parts) process_within;
-        edges = all_from (IsEdgeWithin (length (processes_from whole 0 parts))) (edges_from whole 0 parts) (λ e c. subst (λ n. IsEdgeWithin n e) (nothing_before (length (processes_from whole 0 parts))) (edges_within whole 0 0 parts limits e c));
+        edges = all_from (IsEdgeWithin (length (processes_from whole 0 parts))) (edges_from whole 0 parts)
+            (λ e c. subst (λ n. IsEdgeWithin n e) (nothing_before (length (processes_from whole 0 parts))) (edges_within whole 0 0 parts limits e c));
         node_names = first_within.node_names;
         process_names = names_differ whole 0 parts over.short (omega (arith, few)) limits;
         own_slots = first_within.own_slots;

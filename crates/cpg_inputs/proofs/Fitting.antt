@@ -1,7 +1,7 @@
 -- What was read behind a graph is of that graph.
 use Rattle.std.proofs.Common.{ℕ, ◌≡◌, List, [], ◌∷◌, Some, None, refl, subst}
 use Rattle.cpg_base.specs.Graph.{Graph}
-use Rattle.cpg_tale.specs.Fetch.{Fetch}
+use Rattle.cpg_history.specs.Fetch.{Fetch}
 use Rattle.cpg_words.specs.Parts.{Text}
 use Rattle.cpg_words.specs.declared.command.Command.{Command}
 use Rattle.cpg_words.specs.declared.command.Command.TheVariants.{Play, Audit}
@@ -10,7 +10,7 @@ use Rattle.cpg_table.specs.Lawful.{Tables}
 use Rattle.cpg_log.specs.Log.{Log, IsLog}
 use Rattle.cpg_scenario.specs.File.{IsPlayed}
 use Rattle.cpg_scenario.specs.declared.reading.Played.{Played}
-use Rattle.cpg_inputs.specs.declared.kind.Kind.TheVariants.{ScenarioFile, LogFile}
+use Rattle.cpg_inputs.specs.declared.kind.FileKind.TheVariants.{ScenarioFile, LogFile}
 use Rattle.cpg_inputs.specs.declared.inputs.Inputs.{Inputs}
 use Rattle.cpg_inputs.specs.Files.{files_of}
 use Rattle.cpg_inputs.specs.Inputs.{AreFit, HasInputs}
@@ -31,10 +31,12 @@ log_fits : (g : Graph) (bytes : Text) (l : Log) → Says (Some g) LogFile bytes 
 log_fits g bytes l (m, e, are) =
     let same : m ≡ l = subst (IsValueOf l) e refl in subst (IsLog g) same are.lawful
 
-play_fits : (a : Admission) (t : Tables) (p : Played) (graph pack scenario : Text) (turns : ℕ) (past now : List Fetch) → Reads None (files_of (Play graph pack scenario turns)) past now (graph_value a ∷ tables_value t ∷ played_value p ∷ []) → IsPlayed a.graph p
+play_fits : (a : Admission) (t : Tables) (p : Played) (graph pack scenario : Text) (turns : ℕ) (past now : List Fetch) →
+    Reads None (files_of (Play graph pack scenario turns)) past now (graph_value a ∷ tables_value t ∷ played_value p ∷ []) → IsPlayed a.graph p
 play_fits a t p graph pack scenario turns past now reads = let last = reads.2.2 in played_fits a.graph last.0.given p last.1.says
 
-audit_fits : (a : Admission) (t : Tables) (l : Log) (graph pack log : Text) (past now : List Fetch) → Reads None (files_of (Audit graph pack log)) past now (graph_value a ∷ tables_value t ∷ log_value l ∷ []) → IsLog a.graph l
+audit_fits : (a : Admission) (t : Tables) (l : Log) (graph pack log : Text) (past now : List Fetch) →
+    Reads None (files_of (Audit graph pack log)) past now (graph_value a ∷ tables_value t ∷ log_value l ∷ []) → IsLog a.graph l
 audit_fits a t l graph pack log past now reads = let last = reads.2.2 in log_fits a.graph last.0.given l last.1.says
 
 pub inputs_fit : (c : Command) (past now : List Fetch) (inputs : Inputs) → HasInputs c past now inputs → AreFit inputs
@@ -42,12 +44,16 @@ inputs_fit c past now (Inputs.Graph a purpose) has = tt
 inputs_fit c past now (Inputs.Check a t) has = tt
 inputs_fit c past now (Inputs.Play a t p turns) has = go has.values has.reads has.are
   where
-    go : (vs : List Value) → Reads None (files_of c) past now vs → (graph : Text) × (pack : Text) × (scenario : Text) × (c ≡ Play graph pack scenario turns) × (vs ≡ graph_value a ∷ tables_value t ∷ played_value p ∷ []) → IsPlayed a.graph p
-    go vs reads (graph, pack, scenario, e, is) = play_fits a t p graph pack scenario turns past now (subst (Reads None (files_of (Play graph pack scenario turns)) past now) is (subst (λ (k : Command). Reads None (files_of k) past now vs) e reads))
+    go : (vs : List Value) → Reads None (files_of c) past now vs → (graph : Text) × (pack : Text) × (scenario : Text) × (c ≡ Play graph pack scenario turns) ×
+        (vs ≡ graph_value a ∷ tables_value t ∷ played_value p ∷ []) → IsPlayed a.graph p
+    go vs reads (graph, pack, scenario, e, is) = play_fits a t p graph pack scenario turns past now
+        (subst (Reads None (files_of (Play graph pack scenario turns)) past now) is (subst (λ (k : Command). Reads None (files_of k) past now vs) e reads))
 inputs_fit c past now (Inputs.Audit a t l) has = go has.values has.reads has.are
   where
-    go : (vs : List Value) → Reads None (files_of c) past now vs → (graph : Text) × (pack : Text) × (log : Text) × (c ≡ Audit graph pack log) × (vs ≡ graph_value a ∷ tables_value t ∷ log_value l ∷ []) → IsLog a.graph l
-    go vs reads (graph, pack, log, e, is) = audit_fits a t l graph pack log past now (subst (Reads None (files_of (Audit graph pack log)) past now) is (subst (λ (k : Command). Reads None (files_of k) past now vs) e reads))
+    go : (vs : List Value) → Reads None (files_of c) past now vs → (graph : Text) × (pack : Text) × (log : Text) × (c ≡ Audit graph pack log) ×
+        (vs ≡ graph_value a ∷ tables_value t ∷ log_value l ∷ []) → IsLog a.graph l
+    go vs reads (graph, pack, log, e, is) = audit_fits a t l graph pack log past now
+        (subst (Reads None (files_of (Audit graph pack log)) past now) is (subst (λ (k : Command). Reads None (files_of k) past now vs) e reads))
 inputs_fit c past now (Inputs.Node t name) has = tt
 inputs_fit c past now (Inputs.Live t name stream) has = tt
 inputs_fit c past now (Inputs.Hyper parts) has = tt

@@ -1,7 +1,7 @@
 -- What reading leaves of a shelf, file after file.
 use Rattle.std.proofs.Common.{ℕ, ◌≡◌, ◌∙◌, List, ◌∷◌, true, arith, refl, sym, inl, inr}
 use Rattle.std.specs.Prelude.{◌⊎◌}
-use Rattle.cpg_tale.specs.Fetch.{Fetch}
+use Rattle.cpg_history.specs.Fetch.{Fetch}
 use Rattle.cpg_io.specs.Causes.{Rose}
 use Rattle.cpg_io.specs.Shelf.{KeepsShelf, SameLeave}
 use Rattle.cpg_io.specs.State.{ShelfState}
@@ -18,7 +18,12 @@ module _ (old mid new : ShelfState) (a : KeepsShelf old mid) (b : KeepsShelf mid
   ]
 
   pub keeps_on : KeepsShelf old new
-  keeps_on = record { names = λ name. b.names name ∙ a.names name; fetched = fetched_on old mid a.names new a.fetched b.fetched; later = (let l = a.later in let m = b.later in omega (arith, l, m)); rose = counted_rose }
+  keeps_on = record {
+    names = λ name. b.names name ∙ a.names name;
+    fetched = fetched_on old mid a.names new a.fetched b.fetched;
+    later = (let l = a.later in let m = b.later in omega (arith, l, m));
+    rose = counted_rose;
+  }
 
 -- nothing was read
 pub keeps_same : (s : ShelfState) → KeepsShelf s s

@@ -4,7 +4,7 @@ use Rattle.std.specs.Prelude.{Result, Ok, Err}
 use Rattle.std.proofs.lemmas.Bool.{both_ways, true≢false}
 use Rattle.std.proofs.lemmas.List.{append_assoc, length-append}
 use Rattle.cpg_base.specs.Graph.{Graph}
-use Rattle.cpg_tale.specs.Fetch.{Fetch}
+use Rattle.cpg_history.specs.Fetch.{Fetch}
 use Rattle.cpg_words.specs.Parts.{Text}
 use Rattle.cpg_order.proofs.Urgent.{one_urgency_order}
 use Rattle.cpg_order.specs.Urgency.{IsUrgencyOrder}
@@ -18,8 +18,8 @@ use Rattle.cpg_log.proofs.ReadingLaws.{no_bad_line}
 use Rattle.cpg_refusal.specs.declared.halt.Halt.{Halt}
 use Rattle.cpg_refusal.specs.declared.halt.Halt.TheVariants.{Memory}
 use Rattle.cpg_refusal.specs.Halts.{halt_of_rules}
-use Rattle.cpg_inputs.specs.declared.kind.Kind.{Kind}
-use Rattle.cpg_inputs.specs.declared.kind.Kind.TheVariants.{GraphFile, PartFile, PackFile, ScenarioFile, LogFile}
+use Rattle.cpg_inputs.specs.declared.kind.FileKind.{FileKind}
+use Rattle.cpg_inputs.specs.declared.kind.FileKind.TheVariants.{GraphFile, PartFile, PackFile, ScenarioFile, LogFile}
 use Rattle.cpg_inputs.specs.Files.{File}
 use Rattle.cpg_inputs.specs.Says.{Value, graph_value, part_value, tables_value, played_value, log_value, graph_after, AreAdmitted, Refuses, Says}
 use Rattle.cpg_inputs.specs.Reading.{IsRead, Reads, StopsAt, StopsReading}
@@ -75,17 +75,18 @@ AllAlike (v ∷ vs) (w ∷ ws) = IsAlike v w × AllAlike vs ws
 as_known : (v w x y : Value) → v ≡ x → w ≡ y → IsAlike x y → IsAlike v w
 as_known v w x y e f k = subst (λ u. IsAlike u w) (sym e) (subst (IsAlike x) (sym f) k)
 
-pub says_alike : (g : Option Graph) (k : Kind) (bytes : Text) (v w : Value) → Says g k bytes v → Says g k bytes w → IsAlike v w
+pub says_alike : (g : Option Graph) (k : FileKind) (bytes : Text) (v w : Value) → Says g k bytes v → Says g k bytes w → IsAlike v w
 says_alike g GraphFile bytes v w (a, e, x) (b, f, y) = as_known v w (graph_value a) (graph_value b) e f (admitted_alike bytes a b x y)
 says_alike g PartFile bytes v w (a, e, x) (b, f, y) = as_known v w (part_value a) (part_value b) e f (same_value (problem_of bytes) b a y x)
-says_alike g PackFile bytes v w (t, e, x) (u, f, y) = as_known v w (tables_value t) (tables_value u) e f (sym (one_spelling t u [] x.lawful y.lawful (sym x.spelled ∙ y.spelled ∙ sym (append-nil _))).0)
+says_alike g PackFile bytes v w (t, e, x) (u, f, y) = as_known v w (tables_value t) (tables_value u) e f
+    (sym (one_spelling t u [] x.lawful y.lawful (sym x.spelled ∙ y.spelled ∙ sym (append-nil _))).0)
 says_alike (Some g) ScenarioFile bytes v w (p, e, x) (q, f, y) = as_known v w (played_value p) (played_value q) e f (same_value _ q p y.says x.says)
 says_alike (Some g) LogFile bytes v w (l, e, x) (m, f, y) = as_known v w (log_value l) (log_value m) e f tt
 says_alike None ScenarioFile bytes v w x y = absurd x
 says_alike None LogFile bytes v w x y = absurd x
 
 -- the same graph comes after two values that the same bytes say
-pub says_after : (g : Option Graph) (k : Kind) (bytes : Text) (v w : Value) → Says g k bytes v → Says g k bytes w → graph_after g w ≡ graph_after g v
+pub says_after : (g : Option Graph) (k : FileKind) (bytes : Text) (v w : Value) → Says g k bytes v → Says g k bytes w → graph_after g w ≡ graph_after g v
 says_after g GraphFile bytes v w (a, e, x) (b, f, y) = ap (graph_after g) f ∙ (ap Some (admitted_alike bytes a b x y).graph ∙ sym (ap (graph_after g) e))
 says_after g PartFile bytes v w (a, e, x) (b, f, y) = ap (graph_after g) f ∙ sym (ap (graph_after g) e)
 says_after g PackFile bytes v w (t, e, x) (u, f, y) = ap (graph_after g) f ∙ sym (ap (graph_after g) e)
@@ -96,7 +97,7 @@ says_after None LogFile bytes v w x y = absurd x
 
 -- ---- no file that is read stops a run
 
-pub not_refused : (g : Option Graph) (k : Kind) (bytes : Text) (v : Value) (h : Halt) → Says g k bytes v → Refuses g k bytes h → h ≡ Memory
+pub not_refused : (g : Option Graph) (k : FileKind) (bytes : Text) (v : Value) (h : Halt) → Says g k bytes v → Refuses g k bytes h → h ≡ Memory
 not_refused g GraphFile bytes v h (a, e, x) (inl faulty) = absurd (not_both (problem_of bytes) a.graph faulty.fault x.says faulty.first)
 not_refused g GraphFile bytes v h (a, e, x) (inr none) =
     let b = none.breaks in
@@ -166,8 +167,11 @@ reads_alike g (f ∷ fs) past now [] ws r s = absurd r
 reads_alike g (f ∷ fs) past now (v ∷ vs) [] r s = absurd s
 reads_alike g (f ∷ fs) past now (v ∷ vs) (w ∷ ws) r s =
     let same : s.0 ≡ r.0 = one_fetch past now s.0 r.0 (reads_grown (graph_after g w) fs (s.0 ∷ past) now ws s.2) (reads_grown (graph_after g v) fs (r.0 ∷ past) now vs r.2) in
-    let also = subst (λ (e : Fetch). Says g f.kind e.given w) same s.1.says in
-    (says_alike g f.kind r.0.given v w r.1.says also, reads_alike (graph_after g v) fs (r.0 ∷ past) now vs ws r.2 (subst (λ o. Reads o fs (r.0 ∷ past) now ws) (says_after g f.kind r.0.given v w r.1.says also) (subst (λ e. Reads (graph_after g w) fs (e ∷ past) now ws) same s.2)))
+    let also = subst (λ (e : Fetch). Says g f.kind e.given w) same s.1.says in (
+      says_alike g f.kind r.0.given v w r.1.says also,
+      reads_alike (graph_after g v) fs (r.0 ∷ past) now vs ws r.2
+          (subst (λ o. Reads o fs (r.0 ∷ past) now ws) (says_after g f.kind r.0.given v w r.1.says also) (subst (λ e. Reads (graph_after g w) fs (e ∷ past) now ws) same s.2)),
+    )
 
 -- if all files were read, memory alone is left to stop a run
 pub stops_memory : (g : Option Graph) (files : List File) (past now : List Fetch) (vs : List Value) (h : Halt) → Reads g files past now vs → StopsReading g files past now h → h ≡ Memory
@@ -179,7 +183,8 @@ stops_memory g (f ∷ fs) past now (v ∷ vs) h r (fetch, inl here) =
 stops_memory g (f ∷ fs) past now (v ∷ vs) h r (fetch, inr (w, read, there)) =
     let same : fetch ≡ r.0 = one_fetch past now fetch r.0 (stops_grown (graph_after g w) fs (fetch ∷ past) now h there) (reads_grown (graph_after g v) fs (r.0 ∷ past) now vs r.2) in
     let also = subst (λ (e : Fetch). Says g f.kind e.given w) same read.says in
-    stops_memory (graph_after g v) fs (r.0 ∷ past) now vs h r.2 (subst (λ o. StopsReading o fs (r.0 ∷ past) now h) (says_after g f.kind r.0.given v w r.1.says also) (subst (λ e. StopsReading (graph_after g w) fs (e ∷ past) now h) same there))
+    stops_memory (graph_after g v) fs (r.0 ∷ past) now vs h r.2
+    (subst (λ o. StopsReading o fs (r.0 ∷ past) now h) (says_after g f.kind r.0.given v w r.1.says also) (subst (λ e. StopsReading (graph_after g w) fs (e ∷ past) now h) same there))
 
 -- ---- graphs that were read are admitted, and tables lawful
 
@@ -194,7 +199,7 @@ abbrev pub AllLawful : List Value → Type 0
 AllLawful [] = Unit {0}
 AllLawful (v ∷ vs) = IsLawfulValue v × AllLawful vs
 
-value_lawful : (g : Option Graph) (k : Kind) (bytes : Text) (v : Value) → Says g k bytes v → IsLawfulValue v
+value_lawful : (g : Option Graph) (k : FileKind) (bytes : Text) (v : Value) → Says g k bytes v → IsLawfulValue v
 value_lawful g GraphFile bytes v (a, e, x) = subst IsLawfulValue (sym e) x.admitted
 value_lawful g PartFile bytes v (a, e, x) = subst IsLawfulValue (sym e) tt
 value_lawful g PackFile bytes v (t, e, x) = subst IsLawfulValue (sym e) x.lawful

@@ -3,13 +3,13 @@ use Rattle.std.proofs.Common.{◌≡◌, ℕ, ◌+◌, ◌<◌, ◌≤◌, List,
 use Rattle.std.specs.Prelude.{All}
 use Rattle.std.proofs.lemmas.List.{get_or-map, length-map, take_all, take_more, take-append-drop}
 use Rattle.cpg_base.specs.Graph.{Graph}
-use Rattle.cpg_tale.specs.Fetch.{Fetch}
+use Rattle.cpg_history.specs.Fetch.{Fetch}
 use Rattle.cpg_words.specs.Parts.{Text}
 use Rattle.cpg_words.specs.declared.command.Pair.{Pair}
 use Rattle.cpg_hyper.specs.declared.part.Part.{Part}
 use Rattle.cpg_refusal.specs.declared.halt.Halt.{Halt}
 use Rattle.cpg_refusal.specs.declared.halt.Halt.TheVariants.{Memory}
-use Rattle.cpg_inputs.specs.declared.kind.Kind.TheVariants.{PartFile}
+use Rattle.cpg_inputs.specs.declared.kind.FileKind.TheVariants.{PartFile}
 use Rattle.cpg_inputs.specs.Files.{file, part_files}
 use Rattle.cpg_inputs.specs.Says.{part_value}
 use Rattle.cpg_inputs.specs.Shapes.{HavePeriods, part_values}
@@ -49,7 +49,8 @@ periods_length (p ∷ ps) (d ∷ ds) have = omega (arith, periods_length ps ds h
 abbrev part_of : ℕ → Graph → Part
 part_of period problem = record { period = period; problem = problem }
 
-module _ (pairs : List Pair) (i : ℕ) (pair : Pair) (l : i < length pairs) (is : pair ≡ get_or pairs i pair) (parts : List Part) (past mid now : List Fetch) (read : Reads None (part_files (take i pairs)) past mid (part_values parts)) where
+module _ (pairs : List Pair) (i : ℕ) (pair : Pair) (l : i < length pairs) (is : pair ≡ get_or pairs i pair) (parts : List Part) (past mid now : List Fetch)
+    (read : Reads None (part_files (take i pairs)) past mid (part_values parts)) where
   next : take (i + 1) pairs ≡ take i pairs ++ pair ∷ []
   next = take_more pairs i pair l ∙ ap (λ p. take i pairs ++ p ∷ []) (sym is)
 
@@ -60,14 +61,17 @@ module _ (pairs : List Pair) (i : ℕ) (pair : Pair) (l : i < length pairs) (is 
   files_all = ap part_files (sym (take-append-drop (i + 1) pairs)) ∙ (files_more (take (i + 1) pairs) (drop (i + 1) pairs) ∙ ap (λ fs. fs ++ part_files (drop (i + 1) pairs)) files_next)
 
   -- that says a graph
-  pub read_next : (g : Graph) (new : List Part) → ReadsNext None (file PartFile pair.graph) mid now (part_value g) → new ≡ parts ++ part_of pair.period g ∷ [] → Reads None (part_files (take (i + 1) pairs)) past now (part_values new)
+  pub read_next : (g : Graph) (new : List Part) → ReadsNext None (file PartFile pair.graph) mid now (part_value g) → new ≡ parts ++ part_of pair.period g ∷ [] →
+      Reads None (part_files (take (i + 1) pairs)) past now (part_values new)
   read_next g new r e =
       let one = subst (λ o. Reads o (file PartFile pair.graph ∷ []) mid now (part_value g ∷ [])) (sym (behind_parts parts)) (reads_one None (file PartFile pair.graph) mid now (part_value g) r) in
       let both = reads_more None (part_files (take i pairs)) (file PartFile pair.graph ∷ []) past mid now (part_values parts) (part_value g ∷ []) read one in
-      subst (λ fs. Reads None fs past now (part_values new)) (sym files_next) (subst (Reads None (part_files (take i pairs) ++ file PartFile pair.graph ∷ []) past now) (sym (ap part_values e ∙ values_more parts (part_of pair.period g ∷ []))) both)
+      subst (λ fs. Reads None fs past now (part_values new)) (sym files_next)
+      (subst (Reads None (part_files (take i pairs) ++ file PartFile pair.graph ∷ []) past now) (sym (ap part_values e ∙ values_more parts (part_of pair.period g ∷ []))) both)
 
   pub periods_next : (g : Graph) (new : List Part) → HavePeriods (take i pairs) parts → new ≡ parts ++ part_of pair.period g ∷ [] → HavePeriods (take (i + 1) pairs) new
-  periods_next g new have e = subst (λ ps. HavePeriods ps new) (sym next) (subst (HavePeriods (take i pairs ++ pair ∷ [])) (sym e) (periods_more (take i pairs) parts pair (part_of pair.period g) have refl))
+  periods_next g new have e = subst (λ ps. HavePeriods ps new) (sym next)
+      (subst (HavePeriods (take i pairs ++ pair ∷ [])) (sym e) (periods_more (take i pairs) parts pair (part_of pair.period g) have refl))
 
   -- that stops
   pub stops_next : (h : Halt) → StopsNext None (file PartFile pair.graph) mid now h → StopsReading None (part_files pairs) past now h
@@ -80,10 +84,15 @@ module _ (pairs : List Pair) (i : ℕ) (pair : Pair) (l : i < length pairs) (is 
   pub wants_next : (g : Graph) (h : Halt) → ReadsNext None (file PartFile pair.graph) mid now (part_value g) → h ≡ Memory → StopsReading None (part_files pairs) past now h
   wants_next g h r e =
       let w = r.read.whole in
-      stops_next h (record { fetch = r.fetch; stops = inr (inr (inr (record { of = record { named = w.named }; sound = w.sound; few = (let s = w.short in omega (arith, s)); halt_is = e }))); history = r.history })
+      stops_next h (record {
+        fetch = r.fetch;
+        stops = inr (inr (inr (record { of = record { named = w.named }; sound = w.sound; few = (let s = w.short in omega (arith, s)); halt_is = e })));
+        history = r.history;
+      })
 
 -- all files
-pub read_all : (pairs : List Pair) (i : ℕ) (parts : List Part) (past now : List Fetch) → length pairs ≤ i → Reads None (part_files (take i pairs)) past now (part_values parts) → Reads None (part_files pairs) past now (part_values parts)
+pub read_all : (pairs : List Pair) (i : ℕ) (parts : List Part) (past now : List Fetch) → length pairs ≤ i → Reads None (part_files (take i pairs)) past now (part_values parts) →
+    Reads None (part_files pairs) past now (part_values parts)
 read_all pairs i parts past now l read = subst (λ ps. Reads None (part_files ps) past now (part_values parts)) (take_all i pairs l) read
 
 pub periods_all : (pairs : List Pair) (i : ℕ) (parts : List Part) → length pairs ≤ i → HavePeriods (take i pairs) parts → HavePeriods pairs parts

@@ -1,7 +1,7 @@
 -- Files that are read one after another.
 use Rattle.std.proofs.Common.{List, [], ◌∷◌, ◌++◌, Option, subst, inl, inr}
 use Rattle.cpg_base.specs.Graph.{Graph}
-use Rattle.cpg_tale.specs.Fetch.{Fetch}
+use Rattle.cpg_history.specs.Fetch.{Fetch}
 use Rattle.cpg_refusal.specs.declared.halt.Halt.{Halt}
 use Rattle.cpg_inputs.specs.Files.{File}
 use Rattle.cpg_inputs.specs.Says.{Value, graph_after}
@@ -19,13 +19,15 @@ reads_one g file past now value r = (r.fetch, r.read, r.history)
 pub stops_one : (g : Option Graph) (file : File) (rest : List File) (past now : List Fetch) (halt : Halt) → StopsNext g file past now halt → StopsReading g (file ∷ rest) past now halt
 stops_one g file rest past now halt s = (s.fetch, inl (s.stops, s.history))
 
-pub reads_more : (g : Option Graph) (files rest : List File) (past mid now : List Fetch) (values others : List Value) → Reads g files past mid values → Reads (graph_behind g values) rest mid now others → Reads g (files ++ rest) past now (values ++ others)
+pub reads_more : (g : Option Graph) (files rest : List File) (past mid now : List Fetch) (values others : List Value) → Reads g files past mid values →
+    Reads (graph_behind g values) rest mid now others → Reads g (files ++ rest) past now (values ++ others)
 reads_more g [] rest past mid now [] others r s = subst (λ p. Reads g rest p now others) r s
 reads_more g [] rest past mid now (v ∷ vs) others r s = absurd r
 reads_more g (f ∷ fs) rest past mid now [] others r s = absurd r
 reads_more g (f ∷ fs) rest past mid now (v ∷ vs) others r s = (r.0, r.1, reads_more (graph_after g v) fs rest (r.0 ∷ past) mid now vs others r.2 s)
 
-pub stops_after : (g : Option Graph) (files rest : List File) (past mid now : List Fetch) (values : List Value) (halt : Halt) → Reads g files past mid values → StopsReading (graph_behind g values) rest mid now halt → StopsReading g (files ++ rest) past now halt
+pub stops_after : (g : Option Graph) (files rest : List File) (past mid now : List Fetch) (values : List Value) (halt : Halt) → Reads g files past mid values →
+    StopsReading (graph_behind g values) rest mid now halt → StopsReading g (files ++ rest) past now halt
 stops_after g [] rest past mid now [] halt r s = subst (λ p. StopsReading g rest p now halt) r s
 stops_after g [] rest past mid now (v ∷ vs) halt r s = absurd r
 stops_after g (f ∷ fs) rest past mid now [] halt r s = absurd r

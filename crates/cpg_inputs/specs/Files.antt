@@ -6,15 +6,15 @@ use Rattle.cpg_words.specs.declared.command.Command.{Command}
 use Rattle.cpg_words.specs.declared.command.Command.TheVariants.{Show, Compile, Check, Play, Node, Trial, Live, Hyper, Tune, Audit}
 use Rattle.cpg_refusal.specs.declared.halt.Refusal.{Refusal}
 use Rattle.cpg_refusal.specs.declared.halt.Refusal.TheVariants.{LongGraph, LongPack, LongScenario, LongLog}
-use Rattle.cpg_inputs.specs.declared.kind.Kind.{Kind}
-use Rattle.cpg_inputs.specs.declared.kind.Kind.TheVariants.{GraphFile, PartFile, PackFile, ScenarioFile, LogFile}
+use Rattle.cpg_inputs.specs.declared.kind.FileKind.{FileKind}
+use Rattle.cpg_inputs.specs.declared.kind.FileKind.TheVariants.{GraphFile, PartFile, PackFile, ScenarioFile, LogFile}
 use Rattle.cpg_inputs.specs.declared.kind.TheConstants.{GRAPH_LIMIT, SCENARIO_LIMIT, LOG_LIMIT, PACK_LIMIT}
 
 pub record File : Type 0 where
-  pub kind : Kind
+  pub kind : FileKind
   pub name : Text
 
-abbrev pub file : Kind → Text → File
+abbrev pub file : FileKind → Text → File
 file kind name = record { kind = kind; name = name }
 
 -- the graph files of parts
@@ -36,7 +36,7 @@ files_of (Tune graph) = file GraphFile graph ∷ []
 files_of (Audit graph pack log) = file GraphFile graph ∷ file PackFile pack ∷ file LogFile log ∷ []
 
 -- the most bytes that a file of this kind may have
-abbrev pub limit_of : Kind → ℕ
+abbrev pub limit_of : FileKind → ℕ
 limit_of GraphFile = GRAPH_LIMIT
 limit_of PartFile = GRAPH_LIMIT
 limit_of PackFile = PACK_LIMIT
@@ -44,7 +44,7 @@ limit_of ScenarioFile = SCENARIO_LIMIT
 limit_of LogFile = LOG_LIMIT
 
 -- the refusal of a file that gives more
-abbrev pub long_of : Kind → Refusal
+abbrev pub long_of : FileKind → Refusal
 long_of GraphFile = LongGraph
 long_of PartFile = LongGraph
 long_of PackFile = LongPack

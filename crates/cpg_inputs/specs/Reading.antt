@@ -2,7 +2,7 @@
 -- its fetches, the newest first.
 use Rattle.std.specs.Prelude.{◌≡◌, ◌≤◌, ◌+◌, ◌⊎◌, true, false, All, List, [], ◌∷◌, ◌++◌, Option, length}
 use Rattle.cpg_base.specs.Graph.{Graph}
-use Rattle.cpg_tale.specs.Fetch.{Fetch}
+use Rattle.cpg_history.specs.Fetch.{Fetch}
 use Rattle.cpg_refusal.specs.declared.halt.Halt.{Halt}
 use Rattle.cpg_refusal.specs.declared.halt.Halt.TheVariants.{Read, Refused, Memory}
 use Rattle.cpg_inputs.specs.Files.{File, limit_of, long_of}

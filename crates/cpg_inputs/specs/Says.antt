@@ -20,8 +20,8 @@ use Rattle.cpg_refusal.specs.declared.halt.Refusal.TheVariants.{BadPack, BadLog}
 use Rattle.cpg_refusal.specs.declared.halt.Halt.{Halt}
 use Rattle.cpg_refusal.specs.declared.halt.Halt.TheVariants.{Refused}
 use Rattle.cpg_refusal.specs.Halts.{halt_of_reading, halt_of_rules, halt_of_scenario}
-use Rattle.cpg_inputs.specs.declared.kind.Kind.{Kind}
-use Rattle.cpg_inputs.specs.declared.kind.Kind.TheVariants.{GraphFile, PartFile, PackFile, ScenarioFile, LogFile}
+use Rattle.cpg_inputs.specs.declared.kind.FileKind.{FileKind}
+use Rattle.cpg_inputs.specs.declared.kind.FileKind.TheVariants.{GraphFile, PartFile, PackFile, ScenarioFile, LogFile}
 
 -- what a file says
 pub data Value : Type 0 where
@@ -60,7 +60,7 @@ pub record AreLogged (bytes : Text) (g : Graph) (log : Log) : Type 0 where
   pub lawful : IsLog g log
 
 -- the bytes of a file of this kind say a value; `g` is the graph that was read before, if any
-abbrev pub Says : Option Graph → Kind → Text → Value → Type 0
+abbrev pub Says : Option Graph → FileKind → Text → Value → Type 0
 Says g GraphFile bytes value = (a : Admission) × (value ≡ graph_value a) × AreAdmitted bytes a
 Says g PartFile bytes value = (h : Graph) × (value ≡ part_value h) × (problem_of bytes ≡ Ok h)
 Says g PackFile bytes value = (t : Tables) × (value ≡ tables_value t) × AreSpelled bytes t
@@ -106,7 +106,7 @@ pub record AreNoLog (bytes : Text) (g : Graph) (halt : Halt) : Type 0 where
   pub halt_is : halt ≡ Refused (BadLog line)
 
 -- a file of this kind is rejected because of its bytes
-abbrev pub Refuses : Option Graph → Kind → Text → Halt → Type 0
+abbrev pub Refuses : Option Graph → FileKind → Text → Halt → Type 0
 Refuses g GraphFile bytes halt = AreFaulty bytes halt ⊎ AreOfNone bytes halt
 Refuses g PartFile bytes halt = AreFaulty bytes halt
 Refuses g PackFile bytes halt = AreNoPack bytes halt

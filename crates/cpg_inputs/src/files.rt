@@ -2,13 +2,13 @@
 ghost use Rattle.std.specs.Prelude.{◌≡◌, IfErr, IfOk, None, Option, Some};
 ghost use Rattle.cpg_base.specs.Graph.{Graph};
 ghost use Rattle.cpg_io.specs.Shelf.{KeepsShelf, SameLeave};
-ghost use Rattle.cpg_inputs.specs.declared.kind.Kind.TheVariants.{GraphFile, LogFile, PackFile, PartFile, ScenarioFile};
+ghost use Rattle.cpg_inputs.specs.declared.kind.FileKind.TheVariants.{GraphFile, LogFile, PackFile, PartFile, ScenarioFile};
 ghost use Rattle.cpg_inputs.specs.Files.{file};
 ghost use Rattle.cpg_inputs.specs.Says.{graph_value, log_value, part_value, played_value, tables_value, AreAdmitted};
 ghost use Rattle.cpg_inputs.specs.Steps.{Gives, GivesNone, ReadsNext, RefusesGraph, StopsNext};
 
 use crate::halt::halt_of_log;
-use crate::kind::Kind;
+use crate::kind::FileKind;
 use cpg_base::Problem;
 use cpg_codec::read_pack;
 use cpg_io::{ReadAll, Shelf, read_all};
@@ -24,7 +24,7 @@ use std::alloc::Global;
 fn read_file<S: Shelf>(
     alloc: Global,
     shelf: &mut S,
-    kind: Kind,
+    kind: FileKind,
     name: &str,
 ) -> Result<Vec<u8>, Halt>
     requires { S.may_fetch shelf.old name.now }
@@ -49,7 +49,7 @@ pub fn read_part<S: Shelf>(alloc: Global, shelf: &mut S, name: &str) -> Result<P
     ensures graph { IfOk result (λ graph. ReadsNext None (file PartFile name.now) (S.state shelf.old).history (S.state shelf.new).history (part_value graph)) }
     ensures halt { IfErr result (StopsNext None (file PartFile name.now) (S.state shelf.old).history (S.state shelf.new).history) }
 {
-    let bytes = read_file(alloc, shelf, Kind::PartFile, name)?;
+    let bytes = read_file(alloc, shelf, FileKind::PartFile, name)?;
     match read_problem(alloc, bytes.as_slice()) {
         Ok(problem) => Ok(problem),
         Err(fault) => Err(Halt::of_reading(fault)),
@@ -80,7 +80,7 @@ pub fn read_graph<S: Shelf>(alloc: Global, shelf: &mut S, name: &str) -> Result<
         ReadsNext None (file GraphFile name.now) (S.state shelf.old).history (S.state shelf.new).history (graph_value admitted)) }
     ensures halt { IfErr result (StopsNext None (file GraphFile name.now) (S.state shelf.old).history (S.state shelf.new).history) }
 {
-    let bytes = read_file(alloc, shelf, Kind::GraphFile, name)?;
+    let bytes = read_file(alloc, shelf, FileKind::GraphFile, name)?;
     let admitted = admitted_graph(alloc, bytes.as_slice())?;
     Ok(admitted)
 }
@@ -94,7 +94,7 @@ pub fn read_tables<S: Shelf>(alloc: Global, shelf: &mut S, name: &str) -> Result
         IfOk result (λ tables. ReadsNext g (file PackFile name.now) (S.state shelf.old).history (S.state shelf.new).history (tables_value tables)) }
     ensures halt { (g : Option Graph) → IfErr result (StopsNext g (file PackFile name.now) (S.state shelf.old).history (S.state shelf.new).history) }
 {
-    let bytes = read_file(alloc, shelf, Kind::PackFile, name)?;
+    let bytes = read_file(alloc, shelf, FileKind::PackFile, name)?;
     match read_pack(alloc, bytes) {
         Ok(tables) => Ok(tables),
         Err(fault) => Err(Halt::of_pack(fault)),
@@ -115,7 +115,7 @@ pub fn read_played<S: Shelf>(
         ReadsNext (Some problem.now) (file ScenarioFile name.now) (S.state shelf.old).history (S.state shelf.new).history (played_value played)) }
     ensures halt { IfErr result (StopsNext (Some problem.now) (file ScenarioFile name.now) (S.state shelf.old).history (S.state shelf.new).history) }
 {
-    let bytes = read_file(alloc, shelf, Kind::ScenarioFile, name)?;
+    let bytes = read_file(alloc, shelf, FileKind::ScenarioFile, name)?;
     match read_scenario(alloc, problem, bytes.as_slice()) {
         Ok(played) => Ok(played),
         Err(fault) => Err(Halt::of_scenario(fault)),
@@ -136,7 +136,7 @@ pub fn read_acts<S: Shelf>(
         ReadsNext (Some problem.now) (file LogFile name.now) (S.state shelf.old).history (S.state shelf.new).history (log_value log)) }
     ensures halt { IfErr result (StopsNext (Some problem.now) (file LogFile name.now) (S.state shelf.old).history (S.state shelf.new).history) }
 {
-    let bytes = read_file(alloc, shelf, Kind::LogFile, name)?;
+    let bytes = read_file(alloc, shelf, FileKind::LogFile, name)?;
     match read_log(alloc, problem, bytes.as_slice()) {
         Ok(log) => Ok(log),
         Err(fault) => Err(halt_of_log(fault)),

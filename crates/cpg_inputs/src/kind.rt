@@ -18,7 +18,7 @@ const PACK_LIMIT: usize = 268_435_456;
 
 /// What a file is read as.
 #[derive(Clone, Copy, Debug, PartialEq, Eq)]
-pub enum Kind {
+pub enum FileKind {
     /// A graph, which is admitted.
     GraphFile,
     /// A graph that is a part of one of several periods. It isn't admitted.
@@ -31,17 +31,17 @@ pub enum Kind {
     LogFile,
 }
 
-impl Kind {
+impl FileKind {
     /// The most bytes of such a file.
     pub(crate) fn limit(self) -> usize
         ensures { result ≡ limit_of self }
     {
         match self {
-            Kind::GraphFile => GRAPH_LIMIT,
-            Kind::PartFile => GRAPH_LIMIT,
-            Kind::PackFile => PACK_LIMIT,
-            Kind::ScenarioFile => SCENARIO_LIMIT,
-            Kind::LogFile => LOG_LIMIT,
+            FileKind::GraphFile => GRAPH_LIMIT,
+            FileKind::PartFile => GRAPH_LIMIT,
+            FileKind::PackFile => PACK_LIMIT,
+            FileKind::ScenarioFile => SCENARIO_LIMIT,
+            FileKind::LogFile => LOG_LIMIT,
         }
     }
 
@@ -50,11 +50,11 @@ impl Kind {
         ensures { result ≡ long_of self }
     {
         match self {
-            Kind::GraphFile => Refusal::LongGraph,
-            Kind::PartFile => Refusal::LongGraph,
-            Kind::PackFile => Refusal::LongPack,
-            Kind::ScenarioFile => Refusal::LongScenario,
-            Kind::LogFile => Refusal::LongLog,
+            FileKind::GraphFile => Refusal::LongGraph,
+            FileKind::PartFile => Refusal::LongGraph,
+            FileKind::PackFile => Refusal::LongPack,
+            FileKind::ScenarioFile => Refusal::LongScenario,
+            FileKind::LogFile => Refusal::LongLog,
         }
     }
 }

@@ -13,6 +13,6 @@ mod parts;
 mod reading;
 
 pub use inputs::{Inputs, Purpose};
-pub use kind::{Kind, limits_are_these};
+pub use kind::{FileKind, limits_are_these};
 pub use parts::Parts;
 pub use reading::read_inputs;

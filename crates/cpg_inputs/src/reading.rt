@@ -4,7 +4,7 @@ ghost use Rattle.cpg_io.specs.Shelf.{KeepsShelf, SameLeave};
 ghost use Rattle.cpg_words.specs.FileWords.{file_words};
 ghost use Rattle.cpg_words.specs.declared.command.Command.TheVariants.{Audit, Check, Hyper, Live, Node, Play};
 ghost use Rattle.cpg_refusal.specs.declared.halt.Halt.TheVariants.{Memory};
-ghost use Rattle.cpg_inputs.specs.declared.kind.Kind.TheVariants.{GraphFile, PackFile};
+ghost use Rattle.cpg_inputs.specs.declared.kind.FileKind.TheVariants.{GraphFile, PackFile};
 ghost use Rattle.cpg_inputs.specs.Files.{file, part_files};
 ghost use Rattle.cpg_inputs.specs.Inputs.{ReadsInputs, command_with};
 ghost use Rattle.cpg_inputs.specs.Reading.{Reads, StopsReading};
@@ -25,7 +25,7 @@ use std::alloc::Global;
 
 /// A graph, and tables that are to be judged for it.
 #[derive(Drop)]
-struct Judged {
+struct GraphAndPack {
     graph: Admitted,
     tables: Tables,
 }
@@ -36,7 +36,7 @@ fn read_judged<S: Shelf>(
     shelf: &mut S,
     graph: &str,
     pack: &str,
-) -> Result<Judged, Halt>
+) -> Result<GraphAndPack, Halt>
     requires graph { S.may_fetch shelf.old graph.now }
     requires pack { S.may_fetch shelf.old pack.now }
     ensures keeps { KeepsShelf (S.state shelf.old) (S.state shelf.new) }
@@ -49,7 +49,7 @@ fn read_judged<S: Shelf>(
 {
     let graph = read_graph(alloc, shelf, graph)?;
     let tables = read_tables(alloc, shelf, pack)?;
-    Ok(Judged { graph, tables })
+    Ok(GraphAndPack { graph, tables })
 }
 
 /// Reads the graph of a command that reads nothing else.
@@ -81,7 +81,7 @@ fn check_inputs<S: Shelf>(
     ensures leave { SameLeave (S.may_fetch shelf.old) (S.may_fetch shelf.new) }
     ensures inputs { ReadsInputs (Check graph.now pack.now) (S.state shelf.old) (S.state shelf.new) result }
 {
-    let Judged { graph, tables } = read_judged(alloc, shelf, graph, pack)?;
+    let GraphAndPack { graph, tables } = read_judged(alloc, shelf, graph, pack)?;
     Ok(Inputs::Check { graph, tables })
 }
 
@@ -103,7 +103,7 @@ fn play_inputs<S: Shelf>(
 {
     let judged = read_judged(alloc, shelf, graph, pack)?;
     let played = read_played(alloc, shelf, scenario, judged.graph.problem())?;
-    let Judged { graph, tables } = judged;
+    let GraphAndPack { graph, tables } = judged;
     Ok(Inputs::Play {
         graph,
         tables,
@@ -129,7 +129,7 @@ fn audit_inputs<S: Shelf>(
 {
     let judged = read_judged(alloc, shelf, graph, pack)?;
     let log = read_acts(alloc, shelf, log, judged.graph.problem())?;
-    let Judged { graph, tables } = judged;
+    let GraphAndPack { graph, tables } = judged;
     Ok(Inputs::Audit { graph, tables, log })
 }
 

@@ -1,10 +1,11 @@
 -- What calls of a shelf gave, and what stands under the names that they were given of.
-use Rattle.std.proofs.Common.{get_or, ℕ, zero, suc, ◌≡◌, ◌<◌, ◌∙◌, ◌||◌, Bool, true, false, true≢false, List, [], ◌∷◌, ◌++◌, All, Option, Some, None, IfSome, append_assoc, arith, ap, length, refl, subst, sym, take}
+use Rattle.std.proofs.Common.{get_or, ℕ, zero, suc, ◌≡◌, ◌<◌, ◌∙◌, ◌||◌, Bool, true, false, true≢false, List, [], ◌∷◌, ◌++◌, All, Option, Some, None, IfSome, append_assoc, arith, ap, length, refl}
+use Rattle.std.proofs.Common.{subst, sym, take}
 use Rattle.std.specs.Prelude.{Result, Ok, Err}
 use Rattle.std.specs.Io.KnownBytes.{Consumes, IsAtEnd, Keeps, ReadConsumes}
 use Rattle.std.proofs.KnownBytes.{Consumes-kept, Consumes-trans}
 use Rattle.std.proofs.lemmas.List.Elements.{All-append, All-cons, All-nil}
-use Rattle.cpg_tale.specs.Fetch.{Fetch, failed, gave, is_none}
+use Rattle.cpg_history.specs.Fetch.{Fetch, failed, gave, is_none}
 use Rattle.cpg_io.specs.Agreement.{Agrees, AreFetched, IsFrontOf, IsLeft, IsRestLeft, LeavesRest}
 use Rattle.cpg_io.specs.Shelf.{HasGiven, SameNames, StartsAt, opened}
 use Rattle.cpg_io.specs.State.{ShelfState}
@@ -43,7 +44,8 @@ module _ (old new : ShelfState) (names : SameNames old new) where
   gave_rest [] piece more end r = tt
   gave_rest (f ∷ past) piece more end r =
       let grown : Fetch = record { name = f.name; given = f.given ++ piece; ended = is_none piece || f.ended; failed = f.failed } in
-      subst (λ told. IfSome told (λ whole. IsLeft whole new.left grown)) (sym (names f.name)) (on_some (old.stands f.name) (λ whole. IsLeft whole old.left f) (λ whole. IsLeft whole new.left grown) (λ whole l. record {
+      subst (λ told. IfSome told (λ whole. IsLeft whole new.left grown)) (sym (names f.name))
+      (on_some (old.stands f.name) (λ whole. IsLeft whole old.left f) (λ whole. IsLeft whole new.left grown) (λ whole l. record {
         came = Consumes-trans (Some whole) old.left new.left f.given piece l.came more;
         end = either_end (is_none piece) f.ended (IsAtEnd new.left) end (λ e. end_on whole f.given piece old.left new.left l.came more (l.end e));
       }) r)
@@ -52,12 +54,14 @@ module _ (old new : ShelfState) (names : SameNames old new) where
   failed_rest [] kept r = tt
   failed_rest (f ∷ past) kept r =
       let same : Fetch = record f { failed = true } in
-      subst (λ told. IfSome told (λ whole. IsLeft whole new.left same)) (sym (names f.name)) (on_some (old.stands f.name) (λ whole. IsLeft whole old.left f) (λ whole. IsLeft whole new.left same) (λ whole l. record {
+      subst (λ told. IfSome told (λ whole. IsLeft whole new.left same)) (sym (names f.name))
+      (on_some (old.stands f.name) (λ whole. IsLeft whole old.left f) (λ whole. IsLeft whole new.left same) (λ whole l. record {
         came = Consumes-kept (Some whole) old.left new.left f.given l.came kept;
         end = λ e. end_kept whole f.given old.left new.left l.came kept (l.end e);
       }) r)
 
-  pub read_rest : {E : Type 0} (result : Result ℕ E) (buf : List ℕ) → 0 < length buf → HasGiven old.history new.history result buf → ReadConsumes old.left new.left result buf → LeavesRest old → LeavesRest new
+  pub read_rest : {E : Type 0} (result : Result ℕ E) (buf : List ℕ) → 0 < length buf → HasGiven old.history new.history result buf → ReadConsumes old.left new.left result buf → LeavesRest old →
+      LeavesRest new
   read_rest (Ok n) buf some given more r = subst (IsRestLeft new) (sym given) (gave_rest old.history (take n buf) more.0 (λ e. more.1 (none_read n buf some e) some) r)
   read_rest (Err fault) buf some given more r = subst (IsRestLeft new) (sym given) (failed_rest old.history more r)
 
@@ -84,14 +88,16 @@ module _ (old new : ShelfState) (names : SameNames old new) where
   pub fetched_one : (f : Fetch) → new.history ≡ f ∷ old.history → LeavesRest new → AreFetched old new
   fetched_one f is r =
       let told : IfSome (new.stands f.name) (λ whole. IsLeft whole new.left f) = subst (IsRestLeft new) is r in
-      let agrees : Agrees old.stands f = subst (λ told. IfSome told (λ whole. IsFrontOf whole f)) (names f.name) (on_some (new.stands f.name) _ (λ whole. IsFrontOf whole f) (λ whole l. front_of whole new.left f l) told) in
+      let agrees : Agrees old.stands f = subst (λ told. IfSome told (λ whole. IsFrontOf whole f)) (names f.name)
+      (on_some (new.stands f.name) _ (λ whole. IsFrontOf whole f) (λ whole l. front_of whole new.left f l) told) in
       record { fetches = f ∷ []; history = is; agree = All-cons (Agrees old.stands) f [] agrees (All-nil (Agrees old.stands)) }
 
   pub fetched_on : (last : ShelfState) → AreFetched old new → AreFetched new last → AreFetched old last
   fetched_on last x y = record {
     fetches = y.fetches ++ x.fetches;
     history = y.history ∙ ap (λ past. y.fetches ++ past) x.history ∙ sym (append_assoc y.fetches x.fetches old.history);
-    agree = All-append (Agrees old.stands) y.fetches x.fetches (λ i d lt. subst (λ told. IfSome told (λ whole. IsFrontOf whole (get_or y.fetches i d))) (names (get_or y.fetches i d).name) (y.agree i d lt)) x.agree;
+    agree = All-append (Agrees old.stands) y.fetches x.fetches
+        (λ i d lt. subst (λ told. IfSome told (λ whole. IsFrontOf whole (get_or y.fetches i d))) (names (get_or y.fetches i d).name) (y.agree i d lt)) x.agree;
   }
 
 unfetched : (told : Option (List ℕ)) (f : Fetch) → f.given ≡ [] → f.ended ≡ false → IfSome told (λ whole. IsFrontOf whole f)

@@ -1,7 +1,7 @@
 -- A piece is read of the fetch before.
 use Rattle.std.proofs.Common.{ℕ, ◌≡◌, ◌∙◌, ◌||◌, true, List, ◌∷◌, ◌++◌, ap, drop, length}
 use Rattle.std.specs.Prelude.{Result, Ok, Err}
-use Rattle.cpg_tale.specs.Fetch.{Fetch, failed, gave, is_none}
+use Rattle.cpg_history.specs.Fetch.{Fetch, failed, gave, is_none}
 use Rattle.cpg_io.specs.Reading.{GivesPiece}
 use Rattle.cpg_io.specs.declared.reading.ReadAll.{ReadAll}
 use Rattle.cpg_io.specs.declared.reading.ReadAll.TheVariants.{Failed, TooLong, OutOfMemory}
@@ -9,7 +9,8 @@ use Rattle.cpg_io.specs.declared.reading.ReadAll.TheVariants.{Failed, TooLong, O
 gave_more : (piece : List ℕ) (past now mid : List Fetch) (f : Fetch) → mid ≡ f ∷ past → now ≡ gave piece mid → (one : Fetch) × (now ≡ one ∷ past)
 gave_more piece past now mid f is more = (record { name = f.name; given = f.given ++ piece; ended = is_none piece || f.ended; failed = f.failed }, more ∙ ap (gave piece) is)
 
-pub one_fetch : (limit : ℕ) (past now mid : List Fetch) (f : Fetch) → mid ≡ f ∷ past → (old new : List ℕ) (result : Result ℕ ReadAll) → GivesPiece limit mid now old new result → (one : Fetch) × (now ≡ one ∷ past)
+pub one_fetch : (limit : ℕ) (past now mid : List Fetch) (f : Fetch) → mid ≡ f ∷ past → (old new : List ℕ) (result : Result ℕ ReadAll) → GivesPiece limit mid now old new result → (one : Fetch) ×
+    (now ≡ one ∷ past)
 one_fetch limit past now mid f is old new (Ok n) given = gave_more (drop (length old) new) past now mid f is given
 one_fetch limit past now mid f is old new (Err Failed) given = (record f { failed = true }, given ∙ ap failed is)
 one_fetch limit past now mid f is old new (Err TooLong) given = gave_more given.2.piece past now mid f is given.2.gave

@@ -47,7 +47,8 @@ stands_in-set name (old ∷ files) zero d file h on = stands_in-named name file 
 stands_in-set name (old ∷ files) (suc place) d file h on =
     stands_in-passed name old (slice_set files place file) (h.before 0 (omega arith)) ∙ stands_in-set name files place d file (IsFirst-rest name old files place d h) on
 
-stands_in-set_other : (other : List ℕ) (files : List File) (place : ℕ) (d file : File) → is_named other (get_or files place d) ≡ false → is_named other file ≡ false → stands_in (slice_set files place file) other ≡ stands_in files other
+stands_in-set_other : (other : List ℕ) (files : List File) (place : ℕ) (d file : File) → is_named other (get_or files place d) ≡ false → is_named other file ≡ false →
+    stands_in (slice_set files place file) other ≡ stands_in files other
 stands_in-set_other other [] place d file old new = refl
 stands_in-set_other other (x ∷ files) zero d file old new = stands_in-passed other file files new ∙ sym (stands_in-passed other x files old)
 stands_in-set_other other (x ∷ files) (suc place) d file old new =

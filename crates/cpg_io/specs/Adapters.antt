@@ -1,7 +1,7 @@
 -- What contracts see of the adapters over files and over a writer: counts, whether a file is open, what calls gave and took,
 -- and what the file and the writer report of their bytes, which those of the machine don't.
 use Rattle.std.specs.Prelude.{ℕ, Bool, List, [], Option, Some, None}
-use Rattle.cpg_tale.specs.Fetch.{Fetch}
+use Rattle.cpg_history.specs.Fetch.{Fetch}
 use Rattle.cpg_io.specs.State.{ShelfState, SinkState}
 
 pub record FileShelfState : Type 0 where

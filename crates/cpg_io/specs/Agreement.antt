@@ -1,7 +1,7 @@
 -- What a shelf gave, compared with what stands under the names, if the shelf reports that.
 use Rattle.std.specs.Prelude.{ℕ, ◌≡◌, true, List, [], ◌∷◌, ◌++◌, Option, Some, IfSome, All, ⊤}
 use Rattle.std.specs.Io.KnownBytes.{Consumes, IsAtEnd}
-use Rattle.cpg_tale.specs.Fetch.{Fetch}
+use Rattle.cpg_history.specs.Fetch.{Fetch}
 use Rattle.cpg_io.specs.State.{ShelfState}
 
 -- the fetch gave a prefix of these bytes, and all of them if a read gave none

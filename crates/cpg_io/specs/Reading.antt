@@ -1,7 +1,7 @@
 -- Reading all that a shelf gives of a name.
 use Rattle.std.specs.Prelude.{ℕ, ◌≡◌, ◌+◌, ◌≤◌, Bool, true, false, List, ◌∷◌, Option, Result, Ok, Err, length, take, drop}
 use Rattle.std.specs.Io.KnownBytes.{Consumes, IsAtEnd}
-use Rattle.cpg_tale.specs.Fetch.{Fetch, gave, failed}
+use Rattle.cpg_history.specs.Fetch.{Fetch, gave, failed}
 use Rattle.cpg_io.specs.declared.reading.ReadAll.{ReadAll}
 use Rattle.cpg_io.specs.declared.reading.ReadAll.TheVariants.{Failed, TooLong, OutOfMemory}
 

@@ -1,6 +1,6 @@
 -- How calls change what a shelf reports.
 use Rattle.std.specs.Prelude.{ℕ, ◌≡◌, ◌≤◌, ◌↔◌, ◌⊎◌, Bool, true, false, List, [], ◌∷◌, Option, Some, None, Result, MatchResult, take, ⊤}
-use Rattle.cpg_tale.specs.Fetch.{Fetch, gave, failed}
+use Rattle.cpg_history.specs.Fetch.{Fetch, gave, failed}
 use Rattle.cpg_io.specs.Agreement.{AreFetched}
 use Rattle.cpg_io.specs.Causes.{Rose}
 use Rattle.cpg_io.specs.State.{ShelfState}

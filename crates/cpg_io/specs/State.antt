@@ -1,6 +1,6 @@
 -- What a shelf and a sink report, each as one value.
 use Rattle.std.specs.Prelude.{ℕ, List, Option, length}
-use Rattle.cpg_tale.specs.Fetch.{Fetch, newest_given}
+use Rattle.cpg_history.specs.Fetch.{Fetch, newest_given}
 
 -- The bytes of each name and those that are left of the fetched one, if the shelf reports them; the number of faults; and all
 -- fetches, newest first, with what they gave.

@@ -5,11 +5,11 @@ ghost use Rattle.std.specs.Io.KnownBytes.{IsAtEnd, ReadConsumes};
 ghost use Rattle.cpg_io.specs.Causes.{HasCause, counted};
 ghost use Rattle.cpg_io.specs.Shelf.{opened, HasGiven, StartsAt, SameNames, SameLeave};
 ghost use Rattle.cpg_io.specs.Adapters.{shelf_of};
-ghost use Rattle.cpg_tale.specs.Event.{after};
-ghost use Rattle.cpg_tale.specs.Fetch.{failed};
+ghost use Rattle.cpg_history.specs.Event.{after};
+ghost use Rattle.cpg_history.specs.Fetch.{failed};
 
 use crate::{Failed, Shelf};
-use cpg_tale::{Event, History};
+use cpg_history::{History, ShelfEvent};
 use std::fs;
 use std::io::Read;
 use std::marker::Model;
@@ -49,7 +49,7 @@ impl<R: Files> FileShelf<R> {
     }
 
     /// Notes what a call did.
-    fn note(&mut self, event: &Event<'_>)
+    fn note(&mut self, event: &ShelfEvent<'_>)
         ensures { self.new ≡ record self.old { history = after event.now self.old.history } }
     {
         self.history = self.history.after(event);
@@ -61,7 +61,7 @@ impl<R: Files> FileShelf<R> {
         ensures later { self.old.faults ≤ self.new.faults }
     {
         self.faults = self.faults.saturating_add(1);
-        self.note(&Event::Failed);
+        self.note(&ShelfEvent::Failed);
         Failed
     }
 }
@@ -83,7 +83,7 @@ impl<R: Files> Shelf for FileShelf<R> {
         ensures faults { MatchResult result (λ _. self.new.faults ≡ self.old.faults) (λ _. self.new.faults ≡ counted self.old.faults 1) }
     {
         self.file = None;
-        self.note(&Event::Fetched(name));
+        self.note(&ShelfEvent::Fetched(name));
         match fs::open(&self.rt, name) {
             Ok(file) => {
                 self.file = Some(file);
@@ -112,7 +112,7 @@ impl<R: Files> Shelf for FileShelf<R> {
         };
         match read {
             Ok(count) => {
-                self.note(&Event::Gave(&buf[..count]));
+                self.note(&ShelfEvent::Gave(&buf[..count]));
                 Ok(count)
             }
             Err(_) => Err(self.count_fault()),

@@ -6,12 +6,12 @@ ghost use Rattle.std.specs.Io.KnownBytes.{IsAtEnd, ReadConsumes};
 ghost use Rattle.cpg_io.specs.Causes.{HasCause, counted};
 ghost use Rattle.cpg_io.specs.Shelf.{opened, HasGiven, StartsAt, SameNames, SameLeave};
 ghost use Rattle.cpg_io.specs.MemoryShelf.{PutsUnder, shelf_of, stands_in, is_named};
-ghost use Rattle.cpg_tale.specs.Event.{after};
-ghost use Rattle.cpg_tale.specs.Fetch.{failed};
+ghost use Rattle.cpg_history.specs.Event.{after};
+ghost use Rattle.cpg_history.specs.Fetch.{failed};
 
 use crate::{Failed, Shelf};
 use cpg_base::OutOfMemory;
-use cpg_tale::{Event, History};
+use cpg_history::{History, ShelfEvent};
 use std::alloc::Global;
 use std::marker::Model;
 
@@ -52,7 +52,7 @@ impl MemoryFile {
 }
 
 /// The place of the first file with the name.
-fn place_of(files: &[MemoryFile], name: &str) -> Option<usize>
+fn file_index(files: &[MemoryFile], name: &str) -> Option<usize>
     ensures { result ≡ position (is_named name.now) files.now }
 {
     files.iter().position(|file| file.is_named(name))
@@ -65,7 +65,7 @@ fn store(files: &mut Vec<MemoryFile>, name: &str, bytes: &[u8]) -> Result<(), Ou
 {
     let alloc = *files.allocator();
     let bytes = Vec::from_slice(alloc, bytes)?;
-    match place_of(files.as_slice(), name) {
+    match file_index(files.as_slice(), name) {
         Some(place) => files[place].set_bytes(bytes),
         None => {
             let name = String::from_str(alloc, name)?;
@@ -158,7 +158,7 @@ impl MemoryShelf {
     }
 
     /// Notes what a call did.
-    fn note(&mut self, event: &Event<'_>)
+    fn note(&mut self, event: &ShelfEvent<'_>)
         ensures { self.new ≡ record self.old { history = after event.now self.old.history } }
     {
         self.history = self.history.after(event);
@@ -170,7 +170,7 @@ impl MemoryShelf {
         ensures later { self.old.faults ≤ self.new.faults }
     {
         self.faults = self.faults.saturating_add(1);
-        self.note(&Event::Failed);
+        self.note(&ShelfEvent::Failed);
         Failed
     }
 
@@ -189,7 +189,7 @@ impl MemoryShelf {
         ensures same { self.new ≡ record self.old { left = self.new.left; at = 0 } }
     {
         self.at = 0;
-        self.fetched = place_of(self.files.as_slice(), name);
+        self.fetched = file_index(self.files.as_slice(), name);
         self.fetched.is_some()
     }
 
@@ -243,7 +243,7 @@ impl Shelf for MemoryShelf {
         ensures faults { MatchResult result (λ _. self.new.faults ≡ self.old.faults) (λ _. self.new.faults ≡ counted self.old.faults 1) }
     {
         self.close();
-        self.note(&Event::Fetched(name));
+        self.note(&ShelfEvent::Fetched(name));
         if self.count_call() {
             return Err(self.count_fault());
         }
@@ -277,7 +277,7 @@ impl Shelf for MemoryShelf {
             return Err(self.count_fault());
         }
         let count = self.give(buf);
-        self.note(&Event::Gave(&buf[..count]));
+        self.note(&ShelfEvent::Gave(&buf[..count]));
         Ok(count)
     }
 }

@@ -6,7 +6,7 @@ ghost use Rattle.cpg_io.specs.Causes.{HasCause, counted};
 ghost use Rattle.cpg_io.specs.Sink.{WriteTook};
 
 use crate::{Failed, Sink};
-use cpg_tale::Taken;
+use cpg_history::Taken;
 use std::io::Write;
 use std::marker::Model;
 

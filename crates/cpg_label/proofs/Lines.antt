@@ -55,8 +55,10 @@ line_none labels = record { text = refl; count = refl; ends = λ n le. none n le
     none (suc n) le = absurd (omega (arith, le))
 
 -- one more
-pub line_more : (labels : Labels) (ls : List Literal) (text ends : List ℕ) (l : Literal) (now : List ℕ) → AreLine labels ls text ends → now ≡ text ++ added_text labels ls l → AreLine labels (ls ++ l ∷ []) now (ends ++ length now ∷ [])
-line_more labels ls text ends l now h is = record { text = text_is; count = omega (arith, length-append ends (length now ∷ []), long, h.count); ends = λ n le. elim (cases_lt (length ls) n) [ inl lt ↦ last n le lt | inr ge ↦ before n ge ] }
+pub line_more : (labels : Labels) (ls : List Literal) (text ends : List ℕ) (l : Literal) (now : List ℕ) → AreLine labels ls text ends → now ≡ text ++ added_text labels ls l →
+    AreLine labels (ls ++ l ∷ []) now (ends ++ length now ∷ [])
+line_more labels ls text ends l now h is =
+    record { text = text_is; count = omega (arith, length-append ends (length now ∷ []), long, h.count); ends = λ n le. elim (cases_lt (length ls) n) [ inl lt ↦ last n le lt | inr ge ↦ before n ge ] }
   where
     long : length (ls ++ l ∷ []) ≡ length ls + 1
     long = length-append ls (l ∷ [])
@@ -72,7 +74,8 @@ line_more labels ls text ends l now h is = record { text = text_is; count = omeg
         ∙ ap (λ xs. length (front_text labels xs)) (sym (ap (λ i. take i (ls ++ l ∷ [])) (omega (arith, long)) ∙ take-length (ls ++ l ∷ [])))
 
 -- the first ones
-pub line_less : (labels : Labels) (ls : List Literal) (text ends : List ℕ) (count : ℕ) → AreLine labels ls text ends → count ≤ length ls → AreLine labels (take count ls) (take (get_or ends count 0) text) (take (count + 1) ends)
+pub line_less : (labels : Labels) (ls : List Literal) (text ends : List ℕ) (count : ℕ) → AreLine labels ls text ends → count ≤ length ls →
+    AreLine labels (take count ls) (take (get_or ends count 0) text) (take (count + 1) ends)
 line_less labels ls text ends count h le = record { text = text_is; count = omega (arith, length-take-le (count + 1) ends (omega (arith, h.count)), length-take-le count ls le); ends = ends_are }
   where
     text_is : take (get_or ends count 0) text ≡ front_text labels (take count ls)

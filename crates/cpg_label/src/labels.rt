@@ -6,7 +6,7 @@ ghost use Rattle.cpg_label.specs.Labels.{condition_name, edge_ends, head_labels,
 ghost use Rattle.cpg_label.specs.Phrases.{IsPhraseOf};
 
 use crate::items::item_among;
-use crate::phrases::{Counts, Phrase, phrases_of};
+use crate::phrases::{Phrase, PhraseCounts, phrases_of};
 use cpg_base::{Edge, Item, OutOfMemory, Problem, Process};
 use cpg_cube::Literal;
 use cpg_head::{Head, HeadProcess};
@@ -21,7 +21,7 @@ pub struct Labels<'a> {
     conditions: Vec<&'a str>,
     edges: Vec<(u32, u32)>,
     phrases: Vec<Phrase>,
-    counts: Counts,
+    counts: PhraseCounts,
 }
 
 impl<'a> Model for Labels<'a> {
@@ -121,7 +121,7 @@ impl<'a> Labels<'a> {
             conditions: head_condition_names(alloc, head.processes())?,
             edges: head_edges(alloc, head.edges())?,
             phrases: Vec::new(alloc),
-            counts: Counts::default(),
+            counts: PhraseCounts::default(),
         })
     }
 
@@ -134,13 +134,13 @@ impl<'a> Labels<'a> {
             conditions: condition_names(alloc, problem)?,
             edges: edge_ends(alloc, problem.edges())?,
             phrases: Vec::new(alloc),
-            counts: Counts::default(),
+            counts: PhraseCounts::default(),
         })
     }
 
     /// How many processes and conditions there are.
-    fn counts(&self) -> Counts {
-        Counts {
+    fn counts(&self) -> PhraseCounts {
+        PhraseCounts {
             processes: self.processes.len().min(128) as u8,
             conditions: self.conditions.len().min(127) as u8,
         }
@@ -179,7 +179,7 @@ impl<'a> Labels<'a> {
     pub(crate) fn phrase(&self, literal: Literal) -> Option<&Phrase>
         ensures { IfSome result (λ p. IsPhraseOf self.now literal p.now) }
     {
-        match self.phrases.get(self.counts.place_of(literal)) {
+        match self.phrases.get(self.counts.phrase_index(literal)) {
             Some(phrase) if phrase.literal == literal => Some(phrase),
             _ => None,
         }

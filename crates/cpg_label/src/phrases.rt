@@ -21,12 +21,12 @@ pub struct Phrase {
 
 /// How many processes and conditions there are texts for.
 #[derive(Clone, Copy, Default)]
-pub(crate) struct Counts {
+pub(crate) struct PhraseCounts {
     pub processes: u8,
     pub conditions: u8,
 }
 
-impl Counts {
+impl PhraseCounts {
     fn variables(self) -> u8 {
         self.processes.saturating_add(self.conditions)
     }
@@ -48,7 +48,7 @@ impl Counts {
     }
 
     /// Where the text of a literal stands: by high, then by low, then by variable.
-    pub fn place_of(self, literal: Literal) -> usize {
+    pub fn phrase_index(self, literal: Literal) -> usize {
         let high = usize::from(literal.high);
         let pair = high * (high + 1) / 2 + usize::from(literal.low);
         pair * usize::from(self.variables()) + usize::from(self.before(literal.variable))
@@ -73,7 +73,7 @@ fn phrase_of(alloc: Global, labels: &Labels<'_>, literal: Literal) -> Result<Phr
 fn add_range(
     phrases: &mut Vec<Phrase>,
     labels: &Labels<'_>,
-    counts: Counts,
+    counts: PhraseCounts,
     low: u8,
     high: u8,
 ) -> Result<(), OutOfMemory>
@@ -97,7 +97,7 @@ fn add_range(
 fn add_high(
     phrases: &mut Vec<Phrase>,
     labels: &Labels<'_>,
-    counts: Counts,
+    counts: PhraseCounts,
     high: u8,
 ) -> Result<(), OutOfMemory>
     requires { All (IsPhrase labels.now) phrases.old.items }
@@ -113,7 +113,7 @@ fn add_high(
 pub(crate) fn phrases_of(
     alloc: Global,
     labels: &Labels<'_>,
-    counts: Counts,
+    counts: PhraseCounts,
     top: u8,
 ) -> Result<Vec<Phrase>, OutOfMemory>
     ensures { IfOk result (λ phrases. All (IsPhrase labels.now) phrases.items) }

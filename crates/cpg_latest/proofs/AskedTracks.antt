@@ -17,7 +17,8 @@ outcome_at scenarios i d l = get_or-map (λ s. s.values) scenarios i d [] l
 pub outcome_asked : (asked : List Asked) (i : ℕ) (d : Asked) → i < length asked → track_at (outcomes_asked asked) i ≡ (get_or asked i d).scenario.now.values
 outcome_asked asked i d l = get_or-map (λ a. a.scenario.now.values) asked i d [] l
 
-pub asked_more : (g : Graph) (guards : Guards) (p : ℕ) (asked more : List Asked) (one : Asked) → AreAsked g guards p asked → IsAsked g guards p one → more ≡ asked ++ one ∷ [] → AreAsked g guards p more
+pub asked_more : (g : Graph) (guards : Guards) (p : ℕ) (asked more : List Asked) (one : Asked) → AreAsked g guards p asked → IsAsked g guards p one → more ≡ asked ++ one ∷ [] →
+    AreAsked g guards p more
 asked_more g guards p asked more one a is all i d l = elim (cases_lt i (length asked)) [
   | inl h ↦ subst (IsAsked g guards p) (sym (ap (λ xs. get_or xs i d) all ∙ get_or_append_left asked (one ∷ []) d i h)) (a i d h)
   | inr h ↦ let at : i ≡ length asked = omega (arith, h, l, ap length all, length-append asked (one ∷ [])) in

@@ -1,5 +1,6 @@
 -- A process begins in a course, and sends one item after another, until all is known before the next place.
-use Rattle.std.proofs.Common.{◌≡◌, ◌∙◌, ℕ, zero, suc, ◌+◌, ◌^◌, ◌==◌, ◌<◌, ◌≤◌, max, true, false, Bool, List, [], length, length-set, get_or, set, Option, Some, None, unwrap_or, arith, refl, sym, ap, ap₂, subst, get_or-set_same}
+use Rattle.std.proofs.Common.{◌≡◌, ◌∙◌, ℕ, zero, suc, ◌+◌, ◌^◌, ◌==◌, ◌<◌, ◌≤◌, max, true, false, Bool, List, [], length, length-set, get_or, set, Option, Some, None, unwrap_or, arith, refl, sym, ap}
+use Rattle.std.proofs.Common.{ap₂, subst, get_or-set_same}
 use Rattle.std.proofs.lemmas.Bool.{cond-false}
 use Rattle.cpg_base.specs.Numbers.{greatest}
 use Rattle.cpg_base.specs.Duration.{duration}
@@ -134,7 +135,8 @@ module _ (g : Graph) (order : List ℕ) (topological : IsTopological g order) (D
               sent = nothing_sent g order topological s p l t next.known (get_or c.free (node_of g p) 0) can;
               keeps = record { times = refl; ends = refl };
               free = set_same c.free (node_of g p) (omega (arith, on, course.places.free_count));
-              next = λ new free sent keeps. at_active g order topological more s t run (place order p) p l refl on c.known c.ready c.free (course.at more goes late are) course.places.ready_count course.places.free_count
+              next = λ new free sent keeps. at_active g order topological more s t run (place order p) p l refl on c.known c.ready c.free
+                  (course.at more goes late are) course.places.ready_count course.places.free_count
                   is_ready.heard is_ready.is_heard acts ready start is_ready.is found end after right next.known course.places.times course.places.ends refl refl new free sent keeps;
             }
 
@@ -231,7 +233,8 @@ module _ (g : Graph) (order : List ℕ) (topological : IsTopological g order) (D
               ended = h.ended;
               none = h.none;
               sent = subst (HasSent g order s (late n) p (k + 1) h.begun next.known) (sym (now ∙ is))
-                  (sent_active g order topological s p l more (late n) run h.begun c.known k (get_or c.free (node_of g p) 0) inside h.sent next.known time (omega (arith, q.within, sending.places.times)) refl on_item (time_there more goes late are));
+                  (sent_active g order topological s p l more (late n) run h.begun c.known k (get_or c.free (node_of g p) 0) inside h.sent next.known time
+                  (omega (arith, q.within, sending.places.times)) refl on_item (time_there more goes late are));
               keeps = record { times = length-set c.known.times x (Some time) ∙ h.keeps.times; ends = h.keeps.ends };
               free = ap (λ fs. set fs (node_of g p) free) h.free ∙ set_twice h.frees (node_of g p) (get_or c.free (node_of g p) 0) free long ∙ ap (λ v. set h.frees (node_of g p) v) (sym now);
               next = h.next;

@@ -1,5 +1,6 @@
 -- What is known of the latest times goes on from one place to the next, as that of a run does.
-use Rattle.std.proofs.Common.{◌≡◌, ◌∙◌, ℕ, zero, suc, ◌+◌, ◌==◌, ◌<◌, false, Bool, List, [], length, length-set, get_or, set, Option, arith, refl, sym, inl, inr, subst, get_or-set_same, get_or-set_other, eqb-true}
+use Rattle.std.proofs.Common.{◌≡◌, ◌∙◌, ℕ, zero, suc, ◌+◌, ◌==◌, ◌<◌, false, Bool, List, [], length, length-set, get_or, set, Option, arith, refl, sym, inl, inr, subst, get_or-set_same}
+use Rattle.std.proofs.Common.{get_or-set_other, eqb-true}
 use Rattle.std.proofs.lemmas.List.{ext_get_or}
 use Rattle.std.proofs.lemmas.Bool.{cases_eq, cases_Bool, cond-false}
 use Rattle.cpg_base.specs.Graph.{Graph, condition_count}

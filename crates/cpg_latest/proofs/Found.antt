@@ -1,5 +1,6 @@
 -- From nothing at the first place to the figures after the last one.
-use Rattle.std.proofs.Common.{ℕ, ◌+◌, ◌-◌, ◌<◌, ◌≡◌, max, Bool, List, [], ◌∷◌, map, flat_map, length, get_or, Option, None, unwrap_or, option_to_list, arith, refl, sym, ap, ◌∙◌, subst, inl, inr, replicate}
+use Rattle.std.proofs.Common.{ℕ, ◌+◌, ◌-◌, ◌<◌, ◌≡◌, max, Bool, List, [], ◌∷◌, map, flat_map, length, get_or, Option, None, unwrap_or, option_to_list, arith, refl, sym, ap, ◌∙◌, subst, inl, inr}
+use Rattle.std.proofs.Common.{replicate}
 use Rattle.std.proofs.lemmas.Bool.{true≢false}
 use Rattle.std.proofs.lemmas.List.{ext_get_or, get_or-map, get_or-replicate, length-map, length-replicate, map-append}
 use Rattle.std.proofs.lemmas.List.FromFn.{length-map-range_with_len}
@@ -77,14 +78,16 @@ module _ (g : Graph) (order : List ℕ) where
     at = λ more goes late are. at_first (with_faults values []) (late n);
   }
 
-  pub lanes_first : (Done : ℕ → Type 0) (frozen : List (Option ℕ)) (tracks : List (List Bool)) (lanes : List (List ProgressState)) (count : ℕ) → count ≡ length tracks → lanes ≡ replicate count (no_lane g)
+  pub lanes_first : (Done : ℕ → Type 0) (frozen : List (Option ℕ)) (tracks : List (List Bool)) (lanes : List (List ProgressState)) (count : ℕ) → count ≡ length tracks →
+      lanes ≡ replicate count (no_lane g)
       → AreLanes g (λ values n c. IsCourse g order Done frozen values 0 n c) tracks lanes
   lanes_first Done frozen tracks lanes count long is = record {
     count = ap length is ∙ length-replicate count (no_lane g) ∙ long;
-    each = λ i d l. subst (IsLane g (λ n c. IsCourse g order Done frozen (track_at tracks i) 0 n c)) (sym (ap (λ ls. get_or ls i d) is ∙ get_or-replicate count i (no_lane g) d (omega (arith, l, long)))) (record {
-      count = length-replicate (g.faults + 1) nothing;
-      each = λ n e k. subst (IsCourse g order Done frozen (track_at tracks i) 0 n) (sym (get_or-replicate (g.faults + 1) n nothing e k)) (course_first Done frozen (track_at tracks i) n);
-    });
+    each = λ i d l. subst (IsLane g (λ n c. IsCourse g order Done frozen (track_at tracks i) 0 n c))
+        (sym (ap (λ ls. get_or ls i d) is ∙ get_or-replicate count i (no_lane g) d (omega (arith, l, long)))) (record {
+          count = length-replicate (g.faults + 1) nothing;
+          each = λ n e k. subst (IsCourse g order Done frozen (track_at tracks i) 0 n) (sym (get_or-replicate (g.faults + 1) n nothing e k)) (course_first Done frozen (track_at tracks i) n);
+        });
   }
 
 -- ---- after the last one
@@ -100,13 +103,16 @@ greatest_below f n most next h is =
 -- the greatest end by places
 finish_by_places : (os : List (Option ℕ)) (n : ℕ) → length os ≡ n → greatest (map (there os) (numbers_below n)) ≡ greatest (flat_map option_to_list os)
 finish_by_places os n long = both_ways_equal (greatest (map (there os) (numbers_below n))) (greatest (flat_map option_to_list os))
-    (greatest-le (map (there os) (numbers_below n)) (greatest (flat_map option_to_list os)) (λ v c. let r = Contains-map_parts (there os) (numbers_below n) v c in let most = at_most_finish os r.0 in omega (arith, r.2, most)))
+    (greatest-le (map (there os) (numbers_below n)) (greatest (flat_map option_to_list os))
+    (λ v c. let r = Contains-map_parts (there os) (numbers_below n) v c in let most = at_most_finish os r.0 in omega (arith, r.2, most)))
     (elim (finish_at os) [
       | inl e ↦ omega (arith, e)
-      | inr r ↦ let above = greatest_above (map (there os) (numbers_below n)) (there os r.0) (Contains-map (there os) (numbers_below n) r.0 (Contains-numbers n r.0 (omega (arith, r.1, long)))) in omega (arith, r.2, above)
+      | inr r ↦ let above = greatest_above (map (there os) (numbers_below n)) (there os r.0) (Contains-map (there os) (numbers_below n) r.0 (Contains-numbers n r.0 (omega (arith, r.1, long)))) in
+          omega (arith, r.2, above)
     ])
 
-same_lists : (lanes : List (List ProgressState)) (count : ℕ) (F : List ProgressState → ℕ) (G : ℕ → ℕ) → length lanes ≡ count → ((i : ℕ) → i < count → F (get_or lanes i []) ≡ G i) → map F lanes ≡ map G (numbers_below count)
+same_lists : (lanes : List (List ProgressState)) (count : ℕ) (F : List ProgressState → ℕ) (G : ℕ → ℕ) → length lanes ≡ count → ((i : ℕ) → i < count → F (get_or lanes i []) ≡ G i) →
+    map F lanes ≡ map G (numbers_below count)
 same_lists lanes count F G long same = ext_get_or 0 (map F lanes) (map G (numbers_below count)) (length-map lanes F ∙ long ∙ sym (length-map-range_with_len G 0 count)) (λ i l.
     let k : i < count = omega (arith, l, length-map lanes F, long) in
     get_or-map F lanes i [] 0 (omega (arith, k, long)) ∙ same i k ∙ sym (get_or-map-below G count i 0 k))
@@ -140,15 +146,20 @@ module _ (g : Graph) (urgency order : List ℕ) (frozen : List (Option ℕ)) (tr
 
   finish_same : (i : ℕ) → i < length tracks → finish_of g (last_course g (get_or lanes i [])) ≡ (lates i g.faults).finish
   finish_same i l =
-      ap greatest (same_map (λ p. end_in (last_course g (get_or lanes i [])).known p) (there (lates i g.faults).ends) (numbers_below (process_count g)) (λ p c. ends_same i p l (numbers-Contains (process_count g) p c)))
-      ∙ finish_by_places (lates i g.faults).ends (process_count g) (ap length ((are.each i l).ends g.faults (omega arith)) ∙ length-map-range_with_len (latest_end_by g (lates i) g.faults) 0 (process_count g))
+      ap greatest (same_map (λ p. end_in (last_course g (get_or lanes i [])).known p) (there (lates i g.faults).ends) (numbers_below (process_count g))
+      (λ p c. ends_same i p l (numbers-Contains (process_count g) p c)))
+      ∙ finish_by_places (lates i g.faults).ends (process_count g)
+      (ap length ((are.each i l).ends g.faults (omega arith)) ∙ length-map-range_with_len (latest_end_by g (lates i) g.faults) 0 (process_count g))
       ∙ sym ((are.each i l).finish g.faults (omega arith))
 
-  pub figures_found : (excess worst : ℕ) → excess ≡ greatest (map (λ c. excess_of_course g (last_course g c)) lanes) → worst ≡ greatest (map (λ c. finish_of g (last_course g c)) lanes) → HasFigures g order excess worst
+  pub figures_found : (excess worst : ℕ) → excess ≡ greatest (map (λ c. excess_of_course g (last_course g c)) lanes) → worst ≡ greatest (map (λ c. finish_of g (last_course g c)) lanes) →
+      HasFigures g order excess worst
   figures_found excess worst is_excess is_worst = record {
     frozen = frozen;
     times = frozen_are;
-    greatest = subst (λ e. HasGreatest g order frozen e worst) (sym (is_excess ∙ ap greatest (same_lists lanes (length tracks) (λ c. excess_of_course g (last_course g c)) (λ i. excess_in_run g (lates i g.faults)) known.count excess_same)))
-        (subst (HasGreatest g order frozen (latest_excess g tracks lates)) (sym (is_worst ∙ ap greatest (same_lists lanes (length tracks) (λ c. finish_of g (last_course g c)) (λ i. (lates i g.faults).finish) known.count finish_same)))
+    greatest = subst (λ e. HasGreatest g order frozen e worst)
+        (sym (is_excess ∙ ap greatest (same_lists lanes (length tracks) (λ c. excess_of_course g (last_course g c)) (λ i. excess_in_run g (lates i g.faults)) known.count excess_same)))
+        (subst (HasGreatest g order frozen (latest_excess g tracks lates))
+        (sym (is_worst ∙ ap greatest (same_lists lanes (length tracks) (λ c. finish_of g (last_course g c)) (λ i. (lates i g.faults).finish) known.count finish_same)))
         (greatest_are g urgency order frozen tracks lates urgent lawful topological are));
   }

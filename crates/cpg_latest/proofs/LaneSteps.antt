@@ -17,7 +17,8 @@ use Rattle.cpg_latest.proofs.Settling.{send_one}
 use Rattle.cpg_latest.proofs.Halves.{half_first, half_all}
 use Rattle.cpg_latest.proofs.Settling.{for_more}
 
-pub lane_map : (g : Graph) (P Q : ℕ → ProgressState → Type 0) (courses : List ProgressState) → ((n : ℕ) (c : ProgressState) → n < g.faults + 1 → P n c → Q n c) → IsLane g P courses → IsLane g Q courses
+pub lane_map : (g : Graph) (P Q : ℕ → ProgressState → Type 0) (courses : List ProgressState) → ((n : ℕ) (c : ProgressState) → n < g.faults + 1 → P n c → Q n c) → IsLane g P courses →
+    IsLane g Q courses
 lane_map g P Q courses f lane = record { count = lane.count; each = λ n d l. f n (get_or courses n d) l (lane.each n d l) }
 
 pub lanes_map : (g : Graph) (P Q : List Bool → ℕ → ProgressState → Type 0) (tracks : List (List Bool)) (lanes : List (List ProgressState))
@@ -56,11 +57,15 @@ module _ (g : Graph) (P Q : List Bool → ℕ → ProgressState → Type 0) (tra
   }
 
 -- an active item is sent in a course
-module _ (g : Graph) (order : List ℕ) (topological : IsTopological g order) (frozen : List (Option ℕ)) (values : List Bool) (p : ℕ) (l : p < process_count g) (on : node_of g p < length g.nodes) (at : ℕ) (inside : at < length (queue_of g p))
-    (n : ℕ) (few : n < g.faults + 1) (c : ProgressState) (s : IsSending g order (IsDone g order p (at + 1)) frozen values p at n c) (acts : active g values p ≡ true) (sent : item_active g values (item_at g (queued g p at)) ≡ true) where
+module _ (g : Graph) (order : List ℕ) (topological : IsTopological g order) (frozen : List (Option ℕ)) (values : List Bool) (p : ℕ) (l : p < process_count g) (on : node_of g p < length g.nodes)
+    (at : ℕ) (inside : at < length (queue_of g p))
+    (n : ℕ) (few : n < g.faults + 1) (c : ProgressState) (s : IsSending g order (IsDone g order p (at + 1)) frozen values p at n c) (acts : active g values p ≡ true)
+    (sent : item_active g values (item_at g (queued g p at)) ≡ true) where
   pub item_small : IsWithinLimits g → length values ≡ condition_count g → AreEarly frozen → (end_in c.known p < 2 ^ 59) × (send_at g frozen p (queued g p at) c < 2 ^ 59)
-  item_small limits long early = sends_small g order topological (IsDone g order p (at + 1)) frozen values p l on n few at inside c s (send_one g order topological p l at inside) acts sent (send_at g frozen p (queued g p at) c) refl limits long early
+  item_small limits long early = sends_small g order topological (IsDone g order p (at + 1)) frozen values p l on n few at inside c s (send_one g order topological p l at inside) acts sent
+      (send_at g frozen p (queued g p at) c) refl limits long early
 
   pub item_sent : IsSending g order (IsDone g order p (at + 1)) frozen values p (at + 1) n (course_sent g frozen p (queued g p at) c)
-  item_sent = sends g order topological (IsDone g order p (at + 1)) frozen values p l on n few at inside c s (send_one g order topological p l at inside) acts sent (send_at g frozen p (queued g p at) c) refl
+  item_sent = sends g order topological (IsDone g order p (at + 1)) frozen values p l on n few at inside c s (send_one g order topological p l at inside) acts sent
+      (send_at g frozen p (queued g p at) c) refl
       (send_at g frozen p (queued g p at) c + round g) refl

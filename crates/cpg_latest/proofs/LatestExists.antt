@@ -39,7 +39,8 @@ module _ (g : Graph) (order : List ℕ) (frozen : List (Option ℕ)) (values : L
     settled (suc m) n = record {
       items = λ x h k.
           get_or-map-below (time_by g order frozen (with_faults values []) (again_and_again m n)) (item_count g) x None h
-          ∙ time_by_same g order topological (with_faults values []) (again_and_again m n) (again_and_again (suc m) n) frozen frozen x (agree_sooner g order _ _ (moment g order x) m (omega arith) (settled m n)) h refl
+          ∙ time_by_same g order topological (with_faults values []) (again_and_again m n) (again_and_again (suc m) n) frozen frozen x
+          (agree_sooner g order _ _ (moment g order x) m (omega arith) (settled m n)) h refl
           ∙ sym (get_or-map-below (time_by g order frozen (with_faults values []) (again_and_again (suc m) n)) (item_count g) x None h);
       ends = λ p h k.
           get_or-map-below (latest_end_by g (again_and_again m) n) (process_count g) p None h
@@ -53,11 +54,14 @@ module _ (g : Graph) (order : List ℕ) (frozen : List (Option ℕ)) (values : L
     pub latest_exist : AreLatest g order frozen values the_latest
     unfolding the_latest
     latest_exist = record {
-      times = λ n few. same_map (time_by g order frozen (with_faults values []) (again_and_again (last g) n)) (time_by g order frozen (with_faults values []) (again_and_again (suc (last g)) n)) (numbers_below (item_count g))
+      times = λ n few. same_map (time_by g order frozen (with_faults values []) (again_and_again (last g) n)) (time_by g order frozen (with_faults values []) (again_and_again (suc (last g)) n))
+          (numbers_below (item_count g))
           (λ x c. let h = numbers-Contains (item_count g) x c in let k = moment_before_last g order topological x h in
-          time_by_same g order topological (with_faults values []) (again_and_again (last g) n) (again_and_again (suc (last g)) n) frozen frozen x (agree_sooner g order _ _ (moment g order x) (last g) (omega arith) (settled (last g) n)) h refl);
+          time_by_same g order topological (with_faults values []) (again_and_again (last g) n) (again_and_again (suc (last g)) n) frozen frozen x
+          (agree_sooner g order _ _ (moment g order x) (last g) (omega arith) (settled (last g) n)) h refl);
       ends = λ n few. same_map (latest_end_by g (again_and_again (last g)) n) (latest_end_by g (again_and_again (suc (last g))) n) (numbers_below (process_count g))
           (λ p c. let h = numbers-Contains (process_count g) p c in let k = end_before_last g order topological p h in
-          latest_end_same g order topological (again_and_again (last g)) (again_and_again (suc (last g))) p n h (λ i few. agree_sooner g order _ _ (moment_of_end g order p) (last g) (omega arith) (settled (last g) i)));
+          latest_end_same g order topological (again_and_again (last g)) (again_and_again (suc (last g))) p n h
+          (λ i few. agree_sooner g order _ _ (moment_of_end g order p) (last g) (omega arith) (settled (last g) i)));
       finish = λ n few. refl;
     }

@@ -1,5 +1,6 @@
 -- The latest time of an item over all tracks, when it isn't frozen, is its frozen time.
-use Rattle.std.proofs.Common.{ℕ, ◌+◌, ◌<◌, ◌≡◌, ◌⊎◌, max, Bool, true, List, [], ◌∷◌, length, get_or, Contains, Option, Some, None, unwrap_or, option_to_list, arith, refl, sym, ap, ◌∙◌, subst, inl, inr}
+use Rattle.std.proofs.Common.{ℕ, ◌+◌, ◌<◌, ◌≡◌, ◌⊎◌, max, Bool, true, List, [], ◌∷◌, length, get_or, Contains, Option, Some, None, unwrap_or, option_to_list, arith, refl, sym, ap, ◌∙◌, subst, inl}
+use Rattle.std.proofs.Common.{inr}
 use Rattle.std.proofs.lemmas.Bool.{cases_Bool, cases_lt}
 use Rattle.std.proofs.lemmas.Option.{none-some}
 use Rattle.cpg_base.specs.Activity.{active, item_active}
@@ -128,7 +129,8 @@ module _ (g : Graph) (urgency order : List ℕ) (frozen : List (Option ℕ)) (tr
 
   -- ---- a start
 
-  module _ (p : ℕ) (l : p < process_count g) (on : node_of g p < length g.nodes) (limits : IsWithinLimits g) (early : AreEarly frozen) (unset : get_or frozen p None ≡ None) (lanes : List (List ProgressState))
+  module _ (p : ℕ) (l : p < process_count g) (on : node_of g p < length g.nodes) (limits : IsWithinLimits g) (early : AreEarly frozen) (unset : get_or frozen p None ≡ None)
+      (lanes : List (List ProgressState))
       (before : AreLanes g (λ values n c. IsCourse g order (IsEarlier g order (place order p)) frozen values (place order p) n c) tracks lanes) where
     pub tell_starts : TellStarts g tracks lanes
     tell_starts = record {
@@ -139,7 +141,8 @@ module _ (g : Graph) (urgency order : List ℕ) (frozen : List (Option ℕ)) (tr
           record {
             count = lane.count;
             ready = course.places.ready_count;
-            small = course_small g order topological (IsEarlier g order (place order p)) frozen (track_at tracks i) limits (long_track i h) early g.faults (omega arith) (place order p) (last_course g (get_or lanes i d)) course;
+            small = course_small g order topological (IsEarlier g order (place order p)) frozen (track_at tracks i) limits (long_track i h) early g.faults (omega arith) (place order p)
+                (last_course g (get_or lanes i d)) course;
           };
     }
 
@@ -151,7 +154,8 @@ module _ (g : Graph) (urgency order : List ℕ) (frozen : List (Option ℕ)) (tr
         (λ i h acts. ap (item_active g (track_at tracks i)) (item_at-start g p l) ∙ acts)
         right
       where
-        right : (i time : ℕ) → i < length tracks → active g (track_at tracks i) p ≡ true → IsUnfrozenStart g (track_at tracks i) p (last_course g (lane_at lanes i)) time → time ≡ unfrozen_in g order tracks lates p i
+        right : (i time : ℕ) → i < length tracks → active g (track_at tracks i) p ≡ true → IsUnfrozenStart g (track_at tracks i) p (last_course g (lane_at lanes i)) time →
+            time ≡ unfrozen_in g order tracks lates p i
         right i time h acts is =
             let s = with_faults (track_at tracks i) [] in
             let lane = before.each i [] h in
@@ -160,7 +164,8 @@ module _ (g : Graph) (urgency order : List ℕ) (frozen : List (Option ℕ)) (tr
             let there = ap (item_active g (track_at tracks i)) (item_at-start g p l) ∙ acts in
             let zero_is = no_frozen i p (omega arith) there unset in
             let time_is = unfrozen_is_time i p (omega arith) there unset in
-            let start = start_right g order topological frozen s (lates i g.faults) (latest_is_timed g order frozen s (lates i) (latest_exist g order frozen (track_at tracks i) topological) g.faults (omega arith)) (place order p) p l refl on
+            let start = start_right g order topological frozen s (lates i g.faults)
+            (latest_is_timed g order frozen s (lates i) (latest_exist g order frozen (track_at tracks i) topological) g.faults (omega arith)) (place order p) p l refl on
             c.known c.ready c.free (course.at frozen (λ y k d. refl) (lates i) (latest_exist g order frozen (track_at tracks i) topological)) course.places.ready_count course.places.free_count
             is.is_ready.heard is.is_ready.is_heard acts is.ready (max time (frozen_in frozen p)) is.is_ready.is (ap (λ v. max v (frozen_in frozen p)) is.is) in
             omega (arith, zero_is, time_is, start)
@@ -213,7 +218,8 @@ module _ (g : Graph) (urgency order : List ℕ) (frozen : List (Option ℕ)) (tr
             let c = last_course g (lane_at lanes i) in
             let zero_is = no_frozen i x (in_queue g p x sent_there).within are.sent unset in
             let time_is = unfrozen_is_time i x (in_queue g p x sent_there).within are.sent unset in
-            let send = send_is g order topological s p l k inside frozen (lates i g.faults) (latest_is_timed g order frozen s (lates i) (latest_exist g order frozen (track_at tracks i) topological) g.faults (omega arith))
+            let send = send_is g order topological s p l k inside frozen (lates i g.faults)
+            (latest_is_timed g order frozen s (lates i) (latest_exist g order frozen (track_at tracks i) topological) g.faults (omega arith))
             (get_or c.free (node_of g p) 0) gone.sent.slots_free are.sent in
             let same = is ∙ ap (λ e. max (next_slot g (node_of g p) e) (get_or c.free (node_of g p) 0)) (end_known i [] h are.acts) in
             omega (arith, zero_is, time_is, send, same)

@@ -29,7 +29,8 @@ module _ (g : Graph) (urgency order : List ℕ) (frozen : List (Option ℕ)) (tr
     (urgent : IsUrgencyOrder g urgency) (lawful : IsTopological g urgency) (topological : IsTopological g order) (are : AreLatestOf g order frozen tracks lates) where
   pub track_long : (i : ℕ) → i < length tracks → length (track_at tracks i) ≡ condition_count g
   track_long i l =
-      let c = Contains-permutation tracks (filter (is_track g) (outcomes (condition_count g))) (track_at tracks i) (IsPermutation-sym (filter (is_track g) (outcomes (condition_count g))) tracks are.all.all) (Contains-get_or tracks i [] l) in
+      let c = Contains-permutation tracks (filter (is_track g) (outcomes (condition_count g))) (track_at tracks i)
+      (IsPermutation-sym (filter (is_track g) (outcomes (condition_count g))) tracks are.all.all) (Contains-get_or tracks i [] l) in
       length_of_outcome (condition_count g) (track_at tracks i) (Contains-filter_parts (is_track g) (outcomes (condition_count g)) (track_at tracks i) c).0
 
   of_track : (i : ℕ) → i < length tracks → AreReached g order frozen (track_at tracks i) (lates i) g.faults
@@ -93,7 +94,8 @@ module _ (g : Graph) (urgency order : List ℕ) (frozen : List (Option ℕ)) (tr
   -- ---- the greatest of all tracks
 
   module _ (of : Times → ℕ)
-      (grows : (s : Scenario) (t : Times) (i : ℕ) → i < length tracks → IsRun g order frozen s t → IsNoLater g order s t (lates i g.faults) → s.values ≡ track_at tracks i → of t ≤ of (lates i g.faults))
+      (grows : (s : Scenario) (t : Times) (i : ℕ) → i < length tracks → IsRun g order frozen s t → IsNoLater g order s t (lates i g.faults) → s.values ≡ track_at tracks i →
+      of t ≤ of (lates i g.faults))
       (reached : (i : ℕ) → i < length tracks → (of (lates i g.faults) ≡ 0) ⊎ IsReached g order frozen (track_at tracks i) g.faults of (of (lates i g.faults))) where
     most : ℕ
     most = greatest (map (λ i. of (lates i g.faults)) (numbers_below (length tracks)))
@@ -157,7 +159,8 @@ module _ (g : Graph) (urgency order : List ℕ) (frozen : List (Option ℕ)) (tr
       ))
 
   excess_above : (t : Times) (p : ℕ) → p < process_count g → excess_of g t p ≤ excess_in_run g t
-  excess_above t p l = greatest_above (map (excess_of g t) (numbers_below (process_count g))) (excess_of g t p) (Contains-map (excess_of g t) (numbers_below (process_count g)) p (Contains-numbers (process_count g) p l))
+  excess_above t p l = greatest_above (map (excess_of g t) (numbers_below (process_count g))) (excess_of g t p)
+      (Contains-map (excess_of g t) (numbers_below (process_count g)) p (Contains-numbers (process_count g) p l))
 
   excess_reached : (i : ℕ) → i < length tracks → (excess_in_run g (lates i g.faults) ≡ 0) ⊎ IsReached g order frozen (track_at tracks i) g.faults (excess_in_run g) (excess_in_run g (lates i g.faults))
   excess_reached i l = elim (greatest_cases (map (excess_of g (lates i g.faults)) (numbers_below (process_count g)))) [

@@ -12,7 +12,8 @@ use Rattle.cpg_base.specs.Order.{place, before_on_node}
 use Rattle.cpg_base.specs.Scenario.{Scenario}
 use Rattle.cpg_base.proofs.Inputs.{inputs_parts}
 use Rattle.cpg_base.proofs.Items.{ItemCases, item_cases, process_of_below}
-use Rattle.cpg_base.proofs.Lists.{greatest-le, greatest_above, numbers-Contains, Contains-first, Contains-rest, Contains-cases, Contains-map, Contains-map_parts, Contains-filter_parts, Contains-flat_map_parts}
+use Rattle.cpg_base.proofs.Lists.{greatest-le, greatest_above, numbers-Contains, Contains-first, Contains-rest, Contains-cases, Contains-map, Contains-map_parts, Contains-filter_parts}
+use Rattle.cpg_base.proofs.Lists.{Contains-flat_map_parts}
 use Rattle.cpg_base.proofs.Places.{from_order, not_later, on_node_before}
 use Rattle.cpg_base.proofs.Slots.{next_slot_above, first_from_least}
 use Rattle.cpg_order.specs.Urgency.{IsTopological}
@@ -90,7 +91,12 @@ module _ (g : Graph) (order : List ℕ) (topological : IsTopological g order) (s
             bound = λ u. input_there g u e;
             is = refl;
             among = among;
-            grows = λ u w l. omega (arith, l, cond-true (is_message g e) (frame_there g u (message_item g e)) (end_in u (source g e)) is, cond-true (is_message g e) (frame_there g w (message_item g e)) (end_in w (source g e)) is);
+            grows = λ u w l. omega (
+              arith,
+              l,
+              cond-true (is_message g e) (frame_there g u (message_item g e)) (end_in u (source g e)) is,
+              cond-true (is_message g e) (frame_there g w (message_item g e)) (end_in w (source g e)) is,
+            );
           }
           | inr is ↦ record {
             cause = ended (source g e);
@@ -98,7 +104,12 @@ module _ (g : Graph) (order : List ℕ) (topological : IsTopological g order) (s
             bound = λ u. input_there g u e;
             is = refl;
             among = among;
-            grows = λ u w l. omega (arith, l, cond-false (is_message g e) (frame_there g u (message_item g e)) (end_in u (source g e)) is, cond-false (is_message g e) (frame_there g w (message_item g e)) (end_in w (source g e)) is);
+            grows = λ u w l. omega (
+              arith,
+              l,
+              cond-false (is_message g e) (frame_there g u (message_item g e)) (end_in u (source g e)) is,
+              cond-false (is_message g e) (frame_there g w (message_item g e)) (end_in w (source g e)) is,
+            );
           }
         ]
 
@@ -129,7 +140,12 @@ module _ (g : Graph) (order : List ℕ) (topological : IsTopological g order) (s
             bound = λ u. heard_there g u (node_of g p) c;
             is = refl;
             among = among;
-            grows = λ u w k. omega (arith, k, cond-true (node_of g (process_of g c) == node_of g p) (end_in u (process_of g c)) (frame_there g u (broadcast_item g c)) is, cond-true (node_of g (process_of g c) == node_of g p) (end_in w (process_of g c)) (frame_there g w (broadcast_item g c)) is);
+            grows = λ u w k. omega (
+              arith,
+              k,
+              cond-true (node_of g (process_of g c) == node_of g p) (end_in u (process_of g c)) (frame_there g u (broadcast_item g c)) is,
+              cond-true (node_of g (process_of g c) == node_of g p) (end_in w (process_of g c)) (frame_there g w (broadcast_item g c)) is,
+            );
           }
           | inr is ↦ record {
             cause = item (broadcast_item g c);
@@ -137,7 +153,12 @@ module _ (g : Graph) (order : List ℕ) (topological : IsTopological g order) (s
             bound = λ u. heard_there g u (node_of g p) c;
             is = refl;
             among = among;
-            grows = λ u w k. omega (arith, k, cond-false (node_of g (process_of g c) == node_of g p) (end_in u (process_of g c)) (frame_there g u (broadcast_item g c)) is, cond-false (node_of g (process_of g c) == node_of g p) (end_in w (process_of g c)) (frame_there g w (broadcast_item g c)) is);
+            grows = λ u w k. omega (
+              arith,
+              k,
+              cond-false (node_of g (process_of g c) == node_of g p) (end_in u (process_of g c)) (frame_there g u (broadcast_item g c)) is,
+              cond-false (node_of g (process_of g c) == node_of g p) (end_in w (process_of g c)) (frame_there g w (broadcast_item g c)) is,
+            );
           }
         ]
 
@@ -148,7 +169,8 @@ module _ (g : Graph) (order : List ℕ) (topological : IsTopological g order) (s
         | inr h ↦
             let r = Contains-map_parts (heard_there g t (node_of g p)) _ v h in
             subst (RestsIn g order m t (λ u. start_bounds g order s u p)) r.2 (heard_rests r.0 r.1 (λ u. start_bounds g order s u p)
-            (λ u. Contains-rest _ _ _ (Contains-append_right (input_bounds g s u p ++ processor_bounds g order s u p) (hearing_bounds g order s u p) _ (Contains-map (heard_there g u (node_of g p)) _ r.0 r.1))))
+            (λ u. Contains-rest _ _ _ (Contains-append_right (input_bounds g s u p ++ processor_bounds g order s u p) (hearing_bounds g order s u p) _
+            (Contains-map (heard_there g u (node_of g p)) _ r.0 r.1))))
         | inl early ↦ elim (Contains-append_cases (input_bounds g s t p) (processor_bounds g order s t p) v early) [
           | inl i ↦
               let r = Contains-map_parts (input_there g t) (filter (live g s.values) (inputs g p)) v i in
@@ -156,8 +178,10 @@ module _ (g : Graph) (order : List ℕ) (topological : IsTopological g order) (s
               (λ u. Contains-rest _ _ _ (Contains-append_left _ _ _ (Contains-append_left _ _ _ (Contains-map (input_there g u) _ r.0 r.1)))))
           | inr q ↦
               let r = Contains-map_parts (end_in t) (filter (active g s.values) (before_on_node g order p)) v q in
-              subst (RestsIn g order m t (λ u. start_bounds g order s u p)) r.2 (ended_rests r.0 (Contains-filter_parts (active g s.values) (before_on_node g order p) r.0 r.1).0 (λ u. start_bounds g order s u p)
-              (λ u. Contains-rest _ _ _ (Contains-append_left _ (hearing_bounds g order s u p) _ (Contains-append_right (input_bounds g s u p) (processor_bounds g order s u p) _ (Contains-map (end_in u) _ r.0 r.1)))))
+              subst (RestsIn g order m t (λ u. start_bounds g order s u p)) r.2
+              (ended_rests r.0 (Contains-filter_parts (active g s.values) (before_on_node g order p) r.0 r.1).0 (λ u. start_bounds g order s u p)
+              (λ u. Contains-rest _ _ _ (Contains-append_left _ (hearing_bounds g order s u p) _
+              (Contains-append_right (input_bounds g s u p) (processor_bounds g order s u p) _ (Contains-map (end_in u) _ r.0 r.1)))))
         ]
       ]
     ]

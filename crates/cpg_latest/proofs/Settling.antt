@@ -37,7 +37,8 @@ module _ (g : Graph) (order : List ℕ) (topological : IsTopological g order) (w
       low = settled.low;
     }
 
-    module _ (x : ℕ) (l : x < item_count g) (later : (y : ℕ) → y < item_count g → Done y → moment g order y < moment g order x) (grows : (y : ℕ) → Done y → More y) (one : More x) (only : (y : ℕ) → More y → Done y ⊎ (y ≡ x)) where
+    module _ (x : ℕ) (l : x < item_count g) (later : (y : ℕ) → y < item_count g → Done y → moment g order y < moment g order x) (grows : (y : ℕ) → Done y → More y) (one : More x)
+        (only : (y : ℕ) → More y → Done y ⊎ (y ≡ x)) where
       -- an item isn't frozen
       pub settled_idle : is_frozen g x ≡ false → AreSettledOf g order More frozen
       settled_idle thawed = settled_as (λ y h f m. elim (only y m) [ inl d ↦ d | inr e ↦ absurd (true≢false (sym f ∙ ap (is_frozen g) e ∙ thawed)) ]) (λ y h d. grows y d)
@@ -47,7 +48,8 @@ module _ (g : Graph) (order : List ℕ) (topological : IsTopological g order) (w
       not_yet = settled.others x (λ h f d. let m = later x h d in absurd (omega (arith, m)))
 
       -- the frozen time of the item is set
-      pub settled_more : is_frozen g x ≡ true → (more : List (Option ℕ)) → IsUnfrozenTime g order frozen x (get_or more x None) → ((y : ℕ) → y ≢ x → get_or more y None ≡ get_or frozen y None) → length more ≡ length frozen → AreSettledOf g order More more
+      pub settled_more : is_frozen g x ≡ true → (more : List (Option ℕ)) → IsUnfrozenTime g order frozen x (get_or more x None) → ((y : ℕ) → y ≢ x → get_or more y None ≡ get_or frozen y None) →
+          length more ≡ length frozen → AreSettledOf g order More more
       settled_more is_one more is same count = record {
         count = count ∙ settled.count;
         each = λ y h f done. elim (cases_eq y x) [

@@ -1,5 +1,6 @@
 -- What times that keep the rules of a run are, and what each is at or above.
-use Rattle.std.proofs.Common.{◌≡◌, ℕ, ◌+◌, ◌<◌, ◌≤◌, true, List, [], ◌∷◌, ◌++◌, flat_map, length, get_or, Contains, Option, Some, None, option_to_list, option_map, unwrap_or, refl, sym, ap, ◌∙◌, subst, arith, inl, inr, true≢false}
+use Rattle.std.proofs.Common.{◌≡◌, ℕ, ◌+◌, ◌<◌, ◌≤◌, true, List, [], ◌∷◌, ◌++◌, flat_map, length, get_or, Contains, Option, Some, None, option_to_list, option_map, unwrap_or, refl, sym, ap, ◌∙◌}
+use Rattle.std.proofs.Common.{subst, arith, inl, inr, true≢false}
 use Rattle.std.proofs.lemmas.List.{get_or_past}
 use Rattle.std.proofs.lemmas.List.FromFn.{length-map-range_with_len}
 use Rattle.std.proofs.lemmas.Option.{none-some}
@@ -84,9 +85,11 @@ module _ (g : Graph) (order : List ℕ) (frozen : List (Option ℕ)) (s : Scenar
 
   pub before_below : (p q : ℕ) → p < process_count g → active g s.values p ≡ true → Contains (before_on_node g order p) q → active g s.values q ≡ true → end_in t q ≤ time_in t p
   before_below p q l a k v = start_bound p (end_in t q) l a
-      (Contains-rest _ _ _ (Contains-append_left _ (hearing_bounds g order s t p) _ (Contains-append_right (input_bounds g s t p) (processor_bounds g order s t p) _ (Contains-map (end_in t) _ q (Contains-filter (active g s.values) (before_on_node g order p) q v k)))))
+      (Contains-rest _ _ _ (Contains-append_left _ (hearing_bounds g order s t p) _
+      (Contains-append_right (input_bounds g s t p) (processor_bounds g order s t p) _ (Contains-map (end_in t) _ q (Contains-filter (active g s.values) (before_on_node g order p) q v k)))))
 
-  pub hearing_below : (p c : ℕ) → p < process_count g → active g s.values p ≡ true → Contains (flat_map (deciding g s.values) (before_on_node g order p ++ p ∷ [])) c → heard_there g t (node_of g p) c ≤ time_in t p
+  pub hearing_below : (p c : ℕ) → p < process_count g → active g s.values p ≡ true → Contains (flat_map (deciding g s.values) (before_on_node g order p ++ p ∷ [])) c →
+      heard_there g t (node_of g p) c ≤ time_in t p
   hearing_below p c l a k = start_bound p (heard_there g t (node_of g p) c) l a
       (Contains-rest _ _ _ (Contains-append_right (input_bounds g s t p ++ processor_bounds g order s t p) (hearing_bounds g order s t p) _ (Contains-map (heard_there g t (node_of g p)) _ c k)))
 

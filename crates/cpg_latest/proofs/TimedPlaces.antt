@@ -1,5 +1,6 @@
 -- From all that holds before a place to all that holds before the next one.
-use Rattle.std.proofs.Common.{◌≡◌, ◌∙◌, ℕ, ◌+◌, ◌≤◌, ◌<◌, max, true, false, List, length, get_or, set, Option, Some, None, unwrap_or, arith, sym, ap, inl, inr, subst, get_or-set_same, get_or-set_other}
+use Rattle.std.proofs.Common.{◌≡◌, ◌∙◌, ℕ, ◌+◌, ◌≤◌, ◌<◌, max, true, false, List, length, get_or, set, Option, Some, None, unwrap_or, arith, sym, ap, inl, inr, subst, get_or-set_same}
+use Rattle.std.proofs.Common.{get_or-set_other}
 use Rattle.std.proofs.lemmas.Bool.{cases_eq}
 use Rattle.cpg_base.specs.Numbers.{greatest}
 use Rattle.cpg_base.specs.Graph.{Graph, process_count, condition_count, item_count, process_at, node_of}
@@ -59,7 +60,8 @@ module _ (g : Graph) (order : List ℕ) (topological : IsTopological g order) (f
               ap (λ ts. get_or ts x None) started
               ∙ get_or-set_other known.times p x (Some start) None (λ e. absurd (omega (arith, q.above)))
               ∙ a.knows.later x q.within (omega (arith, ap (place order) q.by));
-          slots_free = subst (IsFree g order s t (place order p) (node_of g p)) (sym is) (subst (λ j. IsFree g order s t j (node_of g p) (get_or frees (node_of g p) 0)) (sym at) (a.slots_free (node_of g p) on));
+          slots_free = subst (IsFree g order s t (place order p) (node_of g p)) (sym is)
+              (subst (λ j. IsFree g order s t j (node_of g p) (get_or frees (node_of g p) 0)) (sym at) (a.slots_free (node_of g p) on));
         }
 
         pub at_active : (new : Times) (free : ℕ) → HasSent g order s t p (length (queue_of g p)) begun new free → KeepsEnds begun new
@@ -70,7 +72,8 @@ module _ (g : Graph) (order : List ℕ) (topological : IsTopological g order) (f
               (omega (arith, ready_at, found, after)) (a.nodes_ready (node_of g p) on) heard_in_run);
           slots_free = λ n k. elim (cases_eq n (node_of g p)) [
             | inl e ↦ subst (λ z. IsFree g order s t (i + 1) z (get_or (set frees (node_of g p) free) z 0)) (sym e)
-                (subst (IsFree g order s t (i + 1) (node_of g p)) (sym (get_or-set_same frees (node_of g p) free 0 (omega arith))) (free_here g order topological frozen s t run i p l at free sent.slots_free))
+                (subst (IsFree g order s t (i + 1) (node_of g p)) (sym (get_or-set_same frees (node_of g p) free 0 (omega arith)))
+                (free_here g order topological frozen s t run i p l at free sent.slots_free))
             | inr other ↦ subst (IsFree g order s t (i + 1) n) (sym (get_or-set_other frees (node_of g p) n free 0 other))
                 (free_other g order topological frozen s t run i p l at n (get_or frees n 0) other (a.slots_free n k))
           ];

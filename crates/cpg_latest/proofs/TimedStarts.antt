@@ -1,15 +1,18 @@
 -- What is known before a place gives the start of the process there.
-use Rattle.std.proofs.Common.{◌≡◌, ◌∙◌, ℕ, ◌+◌, ◌<◌, ◌≤◌, max, true, ◌==◌, if◌then◌else◌, List, [], ◌∷◌, ◌++◌, length, get_or, filter, flat_map, Contains, Option, Some, None, option_to_list, unwrap_or, arith, refl, sym, ap, ap₂, inl, inr, subst, eq-eqb, eqb-true}
+use Rattle.std.proofs.Common.{◌≡◌, ◌∙◌, ℕ, ◌+◌, ◌<◌, ◌≤◌, max, true, ◌==◌, if◌then◌else◌, List, [], ◌∷◌, ◌++◌, length, get_or, filter, flat_map, Contains, Option, Some, None, option_to_list}
+use Rattle.std.proofs.Common.{unwrap_or, arith, refl, sym, ap, ap₂, inl, inr, subst, eq-eqb, eqb-true}
 use Rattle.std.proofs.lemmas.Bool.{cases_lt}
 use Rattle.std.proofs.lemmas.List.{get_or_past}
 use Rattle.std.proofs.lemmas.List.Elements.{Contains-append_left, Contains-append_right, Contains-append_cases}
 use Rattle.cpg_base.specs.Numbers.{numbers_below, greatest}
-use Rattle.cpg_base.specs.Graph.{Graph, process_count, edge_count, condition_count, item_count, message_item, broadcast_item, producer, producer_of_item, process_of, process_at, node_of, home, source, inputs, is_message}
+use Rattle.cpg_base.specs.Graph.{Graph, process_count, edge_count, condition_count, item_count, message_item, broadcast_item, producer, producer_of_item, process_of, process_at, node_of, home, source}
+use Rattle.cpg_base.specs.Graph.{inputs, is_message}
 use Rattle.cpg_base.specs.Activity.{active, live}
 use Rattle.cpg_base.specs.Bus.{slot_length}
 use Rattle.cpg_base.proofs.Inputs.{inputs_parts}
 use Rattle.cpg_base.proofs.Items.{item_at-start, item_at-message, item_at-broadcast, process_of_below}
-use Rattle.cpg_base.proofs.Lists.{greatest-cons, greatest-le, greatest_above, Contains-first, Contains-cases, Contains-nil, Contains-map, Contains-filter, Contains-filter_parts, Contains-flat_map, Contains-flat_map_parts, Contains-numbers, numbers-Contains}
+use Rattle.cpg_base.proofs.Lists.{greatest-cons, greatest-le, greatest_above, Contains-first, Contains-cases, Contains-nil, Contains-map, Contains-filter, Contains-filter_parts, Contains-flat_map}
+use Rattle.cpg_base.proofs.Lists.{Contains-flat_map_parts, Contains-numbers, numbers-Contains}
 use Rattle.cpg_order.specs.Urgency.{IsTopological}
 use Rattle.cpg_base.specs.Order.{place, before, before_on_node}
 use Rattle.cpg_order.specs.Deciding.{decides, deciding}
@@ -144,7 +147,12 @@ module _ (g : Graph) (order : List ℕ) (t : Times) (i : ℕ) (known : Times) (k
 
       bounds_found : greatest (start_bounds g order s t p) ≤ found
       bounds_found = start_bounds_le g order s t p found (omega arith)
-          (λ e c a. omega (arith, known_input e c, greatest_above (input_bounds g s known p) (input_there g known e) (Contains-map (input_there g known) (filter (live g s.values) (inputs g p)) e (Contains-filter (live g s.values) (inputs g p) e a c))))
+          (λ e c a. omega (
+            arith,
+            known_input e c,
+            greatest_above (input_bounds g s known p) (input_there g known e)
+                (Contains-map (input_there g known) (filter (live g s.values) (inputs g p)) e (Contains-filter (live g s.values) (inputs g p) e a c)),
+          ))
           (λ q c a.
           let o = on_node_before g order p q c in
           let same : node_of g q ≡ node_of g p = eqb-true _ _ (Contains-filter_parts (λ (r : ℕ). node_of g r == node_of g p) (before order p) q c).1 in

@@ -14,7 +14,7 @@ ghost use Rattle.cpg_run.specs.Setting.{IsSetting};
 use crate::asking::{Asked, ask_each};
 use crate::lanes::Lane;
 use cpg_base::{OutOfMemory, Scenario};
-use cpg_run::{Frozen, Setting};
+use cpg_run::{FrozenTimes, Setting};
 use std::alloc::Global;
 
 /// The later of two times that may be missing.
@@ -31,7 +31,7 @@ fn later(first: Option<u64>, second: Option<u64>) -> Option<u64>
 }
 
 /// Sets the frozen time of an item, if there is one.
-fn settle(frozen: &mut Frozen, item: u32, latest: Option<u64>)
+fn settle(frozen: &mut FrozenTimes, item: u32, latest: Option<u64>)
     requires item { item < length frozen.old }
     requires unset { get_or frozen.old item None ≡ None }
     ensures time { get_or frozen.new item None ≡ latest }
@@ -65,7 +65,7 @@ fn latest_start(
 /// Sets the frozen time of a process, if it is frozen.
 fn settle_start(
     setting: &Setting<'_>,
-    frozen: &mut Frozen,
+    frozen: &mut FrozenTimes,
     asked: &[Asked<'_>],
     lanes: &[Lane],
     process: u32,
@@ -111,7 +111,7 @@ fn latest_send(
 /// Sets the frozen time of the item at a place of what a process sends, if it is frozen.
 fn settle_send(
     setting: &Setting<'_>,
-    frozen: &mut Frozen,
+    frozen: &mut FrozenTimes,
     asked: &[Asked<'_>],
     lanes: &[Lane],
     process: u32,
@@ -137,7 +137,7 @@ fn settle_send(
 /// Starts a process in each track.
 fn begin_each(
     setting: &Setting<'_>,
-    frozen: &Frozen,
+    frozen: &FrozenTimes,
     asked: &[Asked<'_>],
     lanes: &mut Vec<Lane>,
     process: u32,
@@ -158,7 +158,7 @@ fn begin_each(
 /// Sends the item at a place of what a process sends in each track.
 fn send_each(
     setting: &Setting<'_>,
-    frozen: &Frozen,
+    frozen: &FrozenTimes,
     asked: &[Asked<'_>],
     lanes: &mut Vec<Lane>,
     process: u32,
@@ -181,7 +181,7 @@ fn send_each(
 /// Sends all that a process sends in each track.
 fn send_all(
     setting: &Setting<'_>,
-    frozen: &mut Frozen,
+    frozen: &mut FrozenTimes,
     asked: &[Asked<'_>],
     lanes: &mut Vec<Lane>,
     process: u32,
@@ -204,7 +204,7 @@ pub(crate) fn step(
     alloc: Global,
     setting: &Setting<'_>,
     tracks: &[Scenario],
-    frozen: &mut Frozen,
+    frozen: &mut FrozenTimes,
     lanes: &mut Vec<Lane>,
     process: u32,
 ) -> Result<(), OutOfMemory>

@@ -10,14 +10,14 @@ use std::marker::Model;
 /// The times and ends that are known so far, by node when it is ready for its next process but for what decides that one, and
 /// by node from when on its slots are free, in time units.
 #[derive(Drop)]
-pub(crate) struct Course {
+pub(crate) struct LatestCourse {
     times: Vec<Option<u64>>,
     ends: Vec<Option<u64>>,
     ready: Vec<u64>,
     free: Vec<u64>,
 }
 
-impl Model for Course {
+impl Model for LatestCourse {
     ghost use Rattle.cpg_run.specs.Progress.{ProgressState};
 
     ghost Value = { ProgressState };
@@ -25,16 +25,16 @@ impl Model for Course {
     ghost view = { λ c. record { known = record { times = c.times.items; ends = c.ends.items; finish = 0 }; ready = c.ready.items; free = c.free.items } };
 }
 
-impl Course {
+impl LatestCourse {
     /// Nothing is known.
-    pub(crate) fn none(alloc: Global, problem: &Problem) -> Result<Course, OutOfMemory>
+    pub(crate) fn none(alloc: Global, problem: &Problem) -> Result<LatestCourse, OutOfMemory>
         ensures { IfOk result (λ course. course ≡
             record { known = no_times problem.now; ready = replicate (length problem.now.nodes) 0; free = replicate (length problem.now.nodes) 0 }) }
     {
         let processes = problem.processes().len();
         let items = processes + problem.edges().len() + problem.conditions() as usize;
         let nodes = problem.nodes().len();
-        Ok(Course {
+        Ok(LatestCourse {
             times: vec![in alloc; None; items]?,
             ends: vec![in alloc; None; processes]?,
             ready: vec![in alloc; 0u64; nodes]?,

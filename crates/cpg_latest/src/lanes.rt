@@ -10,18 +10,18 @@ ghost use Rattle.cpg_run.specs.Run.{end_in};
 ghost use Rattle.cpg_run.specs.Setting.{IsSetting};
 
 use crate::asking::{Asked, is_item_active};
-use crate::course::Course;
+use crate::course::LatestCourse;
 use crate::stepping::{begin, send, unfrozen_send};
 use crate::waiting::{ready, start};
 use cpg_base::{OutOfMemory, Problem};
-use cpg_run::{Frozen, Setting};
+use cpg_run::{FrozenTimes, Setting};
 use std::alloc::Global;
 use std::marker::Model;
 
 /// The courses of a track, by the number of faults.
 #[derive(Drop)]
 pub(crate) struct Lane {
-    courses: Vec<Course>,
+    courses: Vec<LatestCourse>,
 }
 
 impl Model for Lane {
@@ -63,7 +63,7 @@ impl Lane {
     {
         let mut courses = Vec::new(alloc);
         for _ in 0..problem.faults() as usize + 1 {
-            courses.push(Course::none(alloc, problem)?)?;
+            courses.push(LatestCourse::none(alloc, problem)?)?;
         }
         Ok(Lane { courses })
     }
@@ -126,7 +126,7 @@ impl Lane {
     pub(crate) fn begin(
         &mut self,
         setting: &Setting<'_>,
-        frozen: &Frozen,
+        frozen: &FrozenTimes,
         asked: &Asked<'_>,
         process: u32,
     )
@@ -149,7 +149,7 @@ impl Lane {
     pub(crate) fn send(
         &mut self,
         setting: &Setting<'_>,
-        frozen: &Frozen,
+        frozen: &FrozenTimes,
         asked: &Asked<'_>,
         process: u32,
         at: usize,

@@ -14,7 +14,7 @@ use crate::lanes::Lane;
 use cpg_base::{Order, OutOfMemory, Problem, Scenario};
 use cpg_bus::Plan;
 use cpg_rules::Admitted;
-use cpg_run::{Frozen, Setting};
+use cpg_run::{FrozenTimes, Setting};
 use std::alloc::Global;
 
 /// Nothing is known of so many tracks.
@@ -45,7 +45,7 @@ pub fn latest(
     let problem = admitted.problem();
     let plan = Plan::of(alloc, problem)?;
     let setting = Setting::of(admitted, order, &plan);
-    let mut frozen = Frozen::none(alloc, problem)?;
+    let mut frozen = FrozenTimes::none(alloc, problem)?;
     let mut lanes = beginnings(alloc, problem, tracks.len())?;
     for place in 0..problem.processes().len() as u32 {
         step(

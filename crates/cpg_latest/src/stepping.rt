@@ -9,13 +9,13 @@ ghost use Rattle.cpg_run.specs.Run.{end_in};
 ghost use Rattle.cpg_run.specs.Setting.{IsSetting};
 
 use crate::asking::Asked;
-use crate::course::Course;
+use crate::course::LatestCourse;
 use crate::ends::latest_end;
 use crate::waiting::{ready, start};
-use cpg_run::{Frozen, Setting};
+use cpg_run::{FrozenTimes, Setting};
 
 /// The frozen time of an item, or 0 where none is set.
-fn frozen_time(frozen: &Frozen, item: u32) -> u64
+fn frozen_time(frozen: &FrozenTimes, item: u32) -> u64
     requires { item < length frozen.now }
     ensures { result ≡ frozen_in frozen.now item }
 {
@@ -26,9 +26,9 @@ fn frozen_time(frozen: &Frozen, item: u32) -> u64
 /// with one fault less; its latest end is told.
 pub(crate) fn begin(
     setting: &Setting<'_>,
-    frozen: &Frozen,
+    frozen: &FrozenTimes,
     asked: &Asked<'_>,
-    course: &mut Course,
+    course: &mut LatestCourse,
     process: u32,
     faults: usize,
     last: u64,
@@ -58,7 +58,7 @@ pub(crate) fn begin(
 }
 
 /// When an item could be sent that isn't frozen, by the end of its process and its node's slots.
-pub(crate) fn unfrozen_send(setting: &Setting<'_>, course: &Course, process: u32) -> u64
+pub(crate) fn unfrozen_send(setting: &Setting<'_>, course: &LatestCourse, process: u32) -> u64
     requires setting { IsSetting setting.now }
     requires process { process < process_count setting.now.problem.now }
     requires slot { HasSlot setting.now.problem.now (node_of setting.now.problem.now process) }
@@ -77,8 +77,8 @@ pub(crate) fn unfrozen_send(setting: &Setting<'_>, course: &Course, process: u32
 /// Sends an active item.
 pub(crate) fn send(
     setting: &Setting<'_>,
-    frozen: &Frozen,
-    course: &mut Course,
+    frozen: &FrozenTimes,
+    course: &mut LatestCourse,
     process: u32,
     item: u32,
 )

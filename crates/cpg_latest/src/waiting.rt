@@ -14,13 +14,13 @@ ghost use Rattle.cpg_run.specs.Run.{frame_there, input_there, heard_there, input
 ghost use Rattle.cpg_run.specs.Setting.{IsSetting};
 
 use crate::asking::Asked;
-use crate::course::Course;
+use crate::course::LatestCourse;
 use cpg_base::Problem;
 use cpg_bus::Plan;
 use cpg_run::Setting;
 
 /// When a frame of a node is there.
-fn frame_there(problem: &Problem, plan: &Plan, course: &Course, node: u32, item: u32) -> u64
+fn frame_there(problem: &Problem, plan: &Plan, course: &LatestCourse, node: u32, item: u32) -> u64
     requires plan { plan.now ≡ plan_of problem.now }
     requires node { node < length problem.now.nodes }
     requires slot { HasSlot problem.now node }
@@ -32,7 +32,7 @@ fn frame_there(problem: &Problem, plan: &Plan, course: &Course, node: u32, item:
 }
 
 /// When an input is there.
-fn input_there(problem: &Problem, plan: &Plan, course: &Course, edge: u32) -> u64
+fn input_there(problem: &Problem, plan: &Plan, course: &LatestCourse, edge: u32) -> u64
     requires plan { plan.now ≡ plan_of problem.now }
     requires slots { HasSenderSlots problem.now }
     requires edge { edge < edge_count problem.now }
@@ -54,7 +54,13 @@ fn input_there(problem: &Problem, plan: &Plan, course: &Course, edge: u32) -> u6
 }
 
 /// When a node has heard a condition.
-fn heard_there(problem: &Problem, plan: &Plan, course: &Course, node: u32, condition: u32) -> u64
+fn heard_there(
+    problem: &Problem,
+    plan: &Plan,
+    course: &LatestCourse,
+    node: u32,
+    condition: u32,
+) -> u64
     requires plan { plan.now ≡ plan_of problem.now }
     requires slots { HasSenderSlots problem.now }
     requires node { node < length problem.now.nodes }
@@ -78,7 +84,7 @@ fn heard_there(problem: &Problem, plan: &Plan, course: &Course, node: u32, condi
 }
 
 /// When all of these inputs are there.
-fn latest_there(problem: &Problem, plan: &Plan, course: &Course, edges: &[u32]) -> u64
+fn latest_there(problem: &Problem, plan: &Plan, course: &LatestCourse, edges: &[u32]) -> u64
     requires plan { plan.now ≡ plan_of problem.now }
     requires slots { HasSenderSlots problem.now }
     requires edges { (e : ℕ) → Contains edges.now e → e < edge_count problem.now }
@@ -96,7 +102,7 @@ fn latest_there(problem: &Problem, plan: &Plan, course: &Course, edges: &[u32]) 
 fn latest_heard(
     problem: &Problem,
     plan: &Plan,
-    course: &Course,
+    course: &LatestCourse,
     node: u32,
     conditions: &[u32],
 ) -> u64
@@ -115,7 +121,7 @@ fn latest_heard(
 }
 
 /// When the node of a process has heard each condition that decides the process.
-fn heard(setting: &Setting<'_>, course: &Course, asked: &Asked<'_>, process: u32) -> u64
+fn heard(setting: &Setting<'_>, course: &LatestCourse, asked: &Asked<'_>, process: u32) -> u64
     requires setting { IsSetting setting.now }
     requires process { process < process_count setting.now.problem.now }
     requires asked { IsAsked setting.now.problem.now setting.now.guards.now process asked.now }
@@ -136,7 +142,12 @@ fn heard(setting: &Setting<'_>, course: &Course, asked: &Asked<'_>, process: u32
 }
 
 /// When the node of a process is ready for it: its earlier processes have ended, and it has heard what decides them and this one.
-pub(crate) fn ready(setting: &Setting<'_>, course: &Course, asked: &Asked<'_>, process: u32) -> u64
+pub(crate) fn ready(
+    setting: &Setting<'_>,
+    course: &LatestCourse,
+    asked: &Asked<'_>,
+    process: u32,
+) -> u64
     requires setting { IsSetting setting.now }
     requires process { process < process_count setting.now.problem.now }
     requires asked { IsAsked setting.now.problem.now setting.now.guards.now process asked.now }
@@ -151,7 +162,7 @@ pub(crate) fn ready(setting: &Setting<'_>, course: &Course, asked: &Asked<'_>, p
 /// When an active process could start that isn't frozen, given when its node is ready for it.
 pub(crate) fn start(
     setting: &Setting<'_>,
-    course: &Course,
+    course: &LatestCourse,
     asked: &Asked<'_>,
     process: u32,
     ready: u64,

@@ -55,7 +55,8 @@ module _ (ms : Members) where
   fault_there : (fault : ReadFault) → IsFaultOf ms fault → Contains (document_faults (Ok ms)) fault
   fault_there NotToml h = absurd h
   fault_there (BadField at) h = Contains-append_left (field_faults ms) (graph_faults (raw_graph_at ms)) (BadField at) (bad_field_there ms at h)
-  fault_there (OverLimit what) h = in_graph h.0 (OverLimit what) (Contains-append_left (limit_faults (graph_in ms)) (double_faults (graph_in ms) ++ unknown_faults (graph_in ms)) (OverLimit what) (limit_there ms h.0 what h.1))
+  fault_there (OverLimit what) h = in_graph h.0 (OverLimit what)
+      (Contains-append_left (limit_faults (graph_in ms)) (double_faults (graph_in ms) ++ unknown_faults (graph_in ms)) (OverLimit what) (limit_there ms h.0 what h.1))
   fault_there (DoubleName at) h = in_names h.0 (DoubleName at) (Contains-append_left (double_faults (graph_in ms)) (unknown_faults (graph_in ms)) (DoubleName at) (double_there ms h.0 at h.1))
   fault_there (UnknownName at) h = in_names h.0 (UnknownName at) (Contains-append_right (double_faults (graph_in ms)) (unknown_faults (graph_in ms)) (UnknownName at) (unknown_there ms h.0 at h.1))
   fault_there OutOfMemory h = absurd h

@@ -9,7 +9,8 @@ use Rattle.cpg_reader.specs.declared.shape.RawSlot.{RawSlot}
 use Rattle.cpg_reader.specs.declared.shape.RawProcess.{RawProcess}
 use Rattle.cpg_reader.specs.declared.shape.RawEdge.{RawEdge}
 use Rattle.cpg_reader.specs.Reading.{Reading, pure, ◌>>=◌, ◌>>◌, each}
-use Rattle.cpg_reader.specs.Rows.{Row, value_at, text_of, as_name, as_names, as_tables, typed_in, optional_in, optional, required_in, required, with_default, name_at, integer_at, integer_or, flag_or, tables_at}
+use Rattle.cpg_reader.specs.Rows.{DocumentRow, value_at, text_of, as_name, as_names, as_tables, typed_in, optional_in, optional, required_in, required, with_default, name_at, integer_at, integer_or}
+use Rattle.cpg_reader.specs.Rows.{flag_or, tables_at}
 use Rattle.cpg_reader.specs.Shape.{RawGraph, node_at, slot_at, process_at, edge_at, rows_at, raw_graph_at}
 use Rattle.cpg_laws.specs.GraphFiles.{top_of, elements}
 
@@ -44,7 +45,7 @@ name_in ms key = unwrap_or (value_in as_name ms key) []
 abbrev pub integer_in : Members → Key → ℤ → ℤ
 integer_in ms key absent = unwrap_or (value_in as_integer ms key) absent
 
-module _ {T : Type 0} (as_type : Data → Option T) (row : Row) (key : Key) where
+module _ {T : Type 0} (as_type : Data → Option T) (row : DocumentRow) (key : Key) where
   optional_by : (o : Option Data) → Gives (optional_in row key as_type o) (option_and_then as_type o)
   optional_by None = pure_gives None
   optional_by (Some d) = by (as_type d)
@@ -62,10 +63,12 @@ module _ {T : Type 0} (as_type : Data → Option T) (row : Row) (key : Key) wher
   optional_gives = optional_by (value_at row key)
 
   required_gives : (x : T) → Gives (required as_type row key) (unwrap_or (value_in as_type row.members key) x)
-  required_gives x = bind_gives (optional as_type row key) (required_in row key) (value_in as_type row.members key) (unwrap_or (value_in as_type row.members key) x) optional_gives (required_by x (value_in as_type row.members key))
+  required_gives x = bind_gives (optional as_type row key) (required_in row key) (value_in as_type row.members key) (unwrap_or (value_in as_type row.members key) x) optional_gives
+      (required_by x (value_in as_type row.members key))
 
   default_gives : (x : T) → Gives (with_default x as_type row key) (unwrap_or (value_in as_type row.members key) x)
-  default_gives x = bind_gives (optional as_type row key) (λ found. pure (unwrap_or found x)) (value_in as_type row.members key) (unwrap_or (value_in as_type row.members key) x) optional_gives (pure_gives (unwrap_or (value_in as_type row.members key) x))
+  default_gives x = bind_gives (optional as_type row key) (λ found. pure (unwrap_or found x)) (value_in as_type row.members key) (unwrap_or (value_in as_type row.members key) x) optional_gives
+      (pure_gives (unwrap_or (value_in as_type row.members key) x))
 
 -- ---- the elements
 
@@ -77,16 +80,39 @@ abbrev pub slot_in : Members → RawSlot
 slot_in ms = record { node = name_in ms Node; length = integer_in ms Length (pos 1); bytes = integer_in ms Bytes (pos 1) }
 
 abbrev pub process_in : Members → RawProcess
-process_in ms = record { name = name_in ms Name; node = name_in ms Node; wcet = integer_in ms Wcet (pos 1); parts = integer_in ms Parts (pos 1); alpha = integer_in ms Alpha (pos 0); chi = integer_in ms Chi (pos 0); mu = integer_in ms Mu (pos 0); join = unwrap_or (value_in as_bool ms Join) false; frozen = unwrap_or (value_in as_bool ms Frozen) false; release = integer_in ms Release (pos 0); deadline = value_in as_integer ms Deadline }
+process_in ms = record {
+  name = name_in ms Name;
+  node = name_in ms Node;
+  wcet = integer_in ms Wcet (pos 1);
+  parts = integer_in ms Parts (pos 1);
+  alpha = integer_in ms Alpha (pos 0);
+  chi =
+      integer_in ms Chi (pos 0);
+  mu = integer_in ms Mu (pos 0);
+  join = unwrap_or (value_in as_bool ms Join) false;
+  frozen = unwrap_or (value_in as_bool ms Frozen) false;
+  release =
+      integer_in ms Release (pos 0);
+  deadline = value_in as_integer ms Deadline;
+}
 
 abbrev pub edge_in : Members → RawEdge
 edge_in ms = record { from = name_in ms From; to = name_in ms To; bytes = integer_in ms Bytes (pos 1); when = value_in as_bool ms When; frozen = unwrap_or (value_in as_bool ms Frozen) false }
 
 -- the whole document
 abbrev pub graph_in : Members → RawGraph
-graph_in ms = record { faults = integer_in ms Faults (pos 0); deadline = integer_in ms Deadline (pos 0); nodes = map node_in (elements ms Node); slots = map slot_in (elements ms Slot); processes = map process_in (elements ms Process); edges = map edge_in (elements ms Edge); order = value_in as_names ms Order }
+graph_in ms = record {
+  faults = integer_in ms Faults (pos 0);
+  deadline = integer_in ms Deadline (pos 0);
+  nodes = map node_in (elements ms Node);
+  slots = map slot_in (elements ms Slot);
+  processes =
+      map process_in (elements ms Process);
+  edges = map edge_in (elements ms Edge);
+  order = value_in as_names ms Order;
+}
 
-module _ (row : Row) where
+module _ (row : DocumentRow) where
   name_gives : (key : Key) → Gives (name_at row key) (name_in row.members key)
   unfolding name_at
   name_gives key = required_gives as_name row key []
@@ -119,23 +145,33 @@ module _ (row : Row) where
   unfolding process_at
   process_gives =
       bind_gives _ _ _ _ (name_gives Name) (bind_gives _ _ _ _ (name_gives Node) (bind_gives _ _ _ _ (integer_gives Wcet (pos 1)) (bind_gives _ _ _ _ (integer_or_gives Parts (pos 1))
-      (bind_gives _ _ _ _ (integer_or_gives Alpha (pos 0)) (bind_gives _ _ _ _ (integer_or_gives Chi (pos 0)) (bind_gives _ _ _ _ (integer_or_gives Mu (pos 0)) (bind_gives _ _ _ _ (flag_gives Join false)
-      (bind_gives _ _ _ _ (flag_gives Frozen false) (bind_gives _ _ _ _ (integer_or_gives Release (pos 0)) (bind_gives _ _ _ _ (optional_gives as_integer row Deadline) (seq_gives _ _ _ (pure_gives _))))))))))))
+      (bind_gives _ _ _ _ (integer_or_gives Alpha (pos 0))
+      (bind_gives _ _ _ _ (integer_or_gives Chi (pos 0)) (bind_gives _ _ _ _ (integer_or_gives Mu (pos 0)) (bind_gives _ _ _ _ (flag_gives Join false)
+      (bind_gives _ _ _ _ (flag_gives Frozen false)
+      (bind_gives _ _ _ _ (integer_or_gives Release (pos 0)) (bind_gives _ _ _ _ (optional_gives as_integer row Deadline) (seq_gives _ _ _ (pure_gives _))))))))))))
 
   edge_gives : Gives (edge_at row) (edge_in row.members)
   unfolding edge_at
-  edge_gives = bind_gives _ _ _ _ (name_gives From) (bind_gives _ _ _ _ (name_gives To) (bind_gives _ _ _ _ (integer_or_gives Bytes (pos 1)) (bind_gives _ _ _ _ (optional_gives as_bool row When) (bind_gives _ _ _ _ (flag_gives Frozen false) (seq_gives _ _ _ (pure_gives _))))))
+  edge_gives = bind_gives _ _ _ _ (name_gives From)
+      (bind_gives _ _ _ _ (name_gives To) (bind_gives _ _ _ _ (integer_or_gives Bytes (pos 1))
+      (bind_gives _ _ _ _ (optional_gives as_bool row When) (bind_gives _ _ _ _ (flag_gives Frozen false) (seq_gives _ _ _ (pure_gives _))))))
 
-rows_give : {T : Type 0} (table : Table) (element_at : Row → Reading T) (element_in : Members → T) → ((row : Row) → Gives (element_at row) (element_in row.members)) → (members : List Members) → Gives (rows_at table element_at members) (map element_in members)
-rows_give table element_at element_in gives members = each_gives (λ i ms. element_at (record { table = table; index = i; members = ms })) element_in (λ i ms. gives (record { table = table; index = i; members = ms })) 0 members
+rows_give : {T : Type 0} (table : Table) (element_at : DocumentRow → Reading T) (element_in : Members → T) → ((row : DocumentRow) → Gives (element_at row) (element_in row.members)) →
+    (members : List Members) → Gives (rows_at table element_at members) (map element_in members)
+rows_give table element_at element_in gives members = each_gives (λ i ms. element_at (record { table = table; index = i; members = ms })) element_in
+    (λ i ms. gives (record { table = table; index = i; members = ms })) 0 members
 
 graph_gives : (ms : Members) → Gives (raw_graph_at ms) (graph_in ms)
 unfolding raw_graph_at
 graph_gives ms =
     bind_gives _ _ _ _ (integer_gives (top_of ms) Faults (pos 0)) (bind_gives _ _ _ _ (integer_gives (top_of ms) Deadline (pos 0))
-    (bind_gives _ _ _ _ (list_gives (top_of ms) Node) (bind_gives _ _ _ _ (list_gives (top_of ms) Slot) (bind_gives _ _ _ _ (list_gives (top_of ms) Process) (bind_gives _ _ _ _ (list_gives (top_of ms) Edge)
-    (bind_gives _ _ _ _ (optional_gives as_names (top_of ms) Order) (seq_gives _ _ _ (bind_gives _ _ _ _ (rows_give tables.Node node_at node_in node_gives (elements ms Node)) (bind_gives _ _ _ _ (rows_give tables.Slot slot_at slot_in slot_gives (elements ms Slot))
-    (bind_gives _ _ _ _ (rows_give tables.Process process_at process_in process_gives (elements ms Process)) (bind_gives _ _ _ _ (rows_give tables.Edge edge_at edge_in edge_gives (elements ms Edge)) (pure_gives _))))))))))))
+    (bind_gives _ _ _ _ (list_gives (top_of ms) Node)
+    (bind_gives _ _ _ _ (list_gives (top_of ms) Slot) (bind_gives _ _ _ _ (list_gives (top_of ms) Process) (bind_gives _ _ _ _ (list_gives (top_of ms) Edge)
+    (bind_gives _ _ _ _ (optional_gives as_names (top_of ms) Order)
+    (seq_gives _ _ _ (bind_gives _ _ _ _ (rows_give tables.Node node_at node_in node_gives (elements ms Node))
+    (bind_gives _ _ _ _ (rows_give tables.Slot slot_at slot_in slot_gives (elements ms Slot))
+    (bind_gives _ _ _ _ (rows_give tables.Process process_at process_in process_gives (elements ms Process))
+    (bind_gives _ _ _ _ (rows_give tables.Edge edge_at edge_in edge_gives (elements ms Edge)) (pure_gives _))))))))))))
 
 -- the graph that is read is the one of the document
 pub graph_is : (ms : Members) (g : RawGraph) → raw_graph_at ms ≡ Ok g → g ≡ graph_in ms

@@ -1,5 +1,6 @@
 -- What stands in a list of faults: what holds of each of them, and which of them are there.
-use Rattle.std.proofs.Common.{◌≡◌, ℕ, zero, suc, ◌+◌, Bool, true, false, cond, ◌||◌, List, [], ◌∷◌, ◌++◌, Some, is_some, Contains, map, position, slice_get, refl, sym, ap, ◌∙◌, subst, ⊎_elim, arith, add-zero, zero-add}
+use Rattle.std.proofs.Common.{◌≡◌, ℕ, zero, suc, ◌+◌, Bool, true, false, cond, ◌||◌, List, [], ◌∷◌, ◌++◌, Some, is_some, Contains, map, position, slice_get, refl, sym, ap, ◌∙◌, subst, ⊎_elim, arith}
+use Rattle.std.proofs.Common.{add-zero, zero-add}
 use Rattle.std.specs.List.{list_any, position_from}
 use Rattle.std.proofs.lemmas.Bool.{false≢true}
 use Rattle.std.proofs.lemmas.List.Elements.{Contains-append_left, Contains-append_right}
@@ -34,7 +35,8 @@ module _ (P : ReadFault → Type 0) where
   each_weaker Q weaker [] h = tt
   each_weaker Q weaker (f ∷ faults) h = (weaker f h.0, each_weaker Q weaker faults h.1)
 
-  pub each_of_each : {T : Type 0} (Q : ℕ → T → Type 0) (faults : ℕ → T → List ReadFault) → ((i : ℕ) (x : T) → Q i x → Each P (faults i x)) → (i : ℕ) (xs : List T) → Stand Q i xs → Each P (of_each faults i xs)
+  pub each_of_each : {T : Type 0} (Q : ℕ → T → Type 0) (faults : ℕ → T → List ReadFault) → ((i : ℕ) (x : T) → Q i x → Each P (faults i x)) → (i : ℕ) (xs : List T) → Stand Q i xs →
+      Each P (of_each faults i xs)
   each_of_each Q faults each i [] h = tt
   each_of_each Q faults each i (x ∷ xs) h = each_joined (faults i x) (of_each faults (i + 1) xs) (each i x h.0) (each_of_each Q faults each (i + 1) xs h.1)
 
@@ -54,12 +56,16 @@ module _ {T : Type 0} where
   pub stand_all : (Q : ℕ → T → Type 0) (xs : List T) → ((k : ℕ) (x : T) → slice_get xs k ≡ Some x → Q k x) → Stand Q 0 xs
   stand_all Q xs h = stand_from Q 0 xs (λ k x e. subst (λ n. Q n x) (sym (zero-add k)) (h k x e))
 
-  contains_from : (faults : ℕ → T → List ReadFault) (fault : ReadFault) (i k : ℕ) (xs : List T) (x : T) → slice_get xs k ≡ Some x → Contains (faults (i + k) x) fault → Contains (of_each faults i xs) fault
+  contains_from : (faults : ℕ → T → List ReadFault) (fault : ReadFault) (i k : ℕ) (xs : List T) (x : T) → slice_get xs k ≡ Some x → Contains (faults (i + k) x) fault →
+      Contains (of_each faults i xs) fault
   contains_from faults fault i k [] x e c = cc
-  contains_from faults fault i zero (y ∷ ys) x e c = Contains-append_left (faults i y) (of_each faults (i + 1) ys) fault (subst (λ z. Contains (faults i z) fault) (let same : x ≡ y = cc in same) (subst (λ n. Contains (faults n x) fault) (add-zero i) c))
-  contains_from faults fault i (suc k) (y ∷ ys) x e c = Contains-append_right (faults i y) (of_each faults (i + 1) ys) fault (contains_from faults fault (i + 1) k ys x e (subst (λ n. Contains (faults n x) fault) (onward i k) c))
+  contains_from faults fault i zero (y ∷ ys) x e c = Contains-append_left (faults i y) (of_each faults (i + 1) ys) fault
+      (subst (λ z. Contains (faults i z) fault) (let same : x ≡ y = cc in same) (subst (λ n. Contains (faults n x) fault) (add-zero i) c))
+  contains_from faults fault i (suc k) (y ∷ ys) x e c = Contains-append_right (faults i y) (of_each faults (i + 1) ys) fault
+      (contains_from faults fault (i + 1) k ys x e (subst (λ n. Contains (faults n x) fault) (onward i k) c))
 
-  pub of_each_contains : (faults : ℕ → T → List ReadFault) (fault : ReadFault) (k : ℕ) (xs : List T) (x : T) → slice_get xs k ≡ Some x → Contains (faults k x) fault → Contains (of_each faults 0 xs) fault
+  pub of_each_contains : (faults : ℕ → T → List ReadFault) (fault : ReadFault) (k : ℕ) (xs : List T) (x : T) → slice_get xs k ≡ Some x → Contains (faults k x) fault →
+      Contains (of_each faults 0 xs) fault
   of_each_contains faults fault k xs x e c = contains_from faults fault 0 k xs x e (subst (λ n. Contains (faults n x) fault) (sym (zero-add k)) c)
 
 pub of_each_mapped : {S T : Type 0} (faults : ℕ → T → List ReadFault) (f : S → T) (i : ℕ) (xs : List S) → of_each faults i (map f xs) ≡ of_each (λ i x. faults i (f x)) i xs

@@ -1,5 +1,6 @@
 -- The bad fields of a document are those that its tables have.
-use Rattle.std.proofs.Common.{◌≡◌, ℕ, zero, suc, Bool, true, false, ◌&&◌, List, [], ◌∷◌, Some, Contains, map, slice_get, refl, sym, ap, ◌∙◌, subst, inl, inr, Ordering, Less, Equal, Greater, is_eq, nat_cmp, true≢false}
+use Rattle.std.proofs.Common.{◌≡◌, ℕ, zero, suc, Bool, true, false, ◌&&◌, List, [], ◌∷◌, Some, Contains, map, slice_get, refl, sym, ap, ◌∙◌, subst, inl, inr, Ordering, Less, Equal, Greater, is_eq}
+use Rattle.std.proofs.Common.{nat_cmp, true≢false}
 use Rattle.std.specs.Prelude.{bytes_eq}
 use Rattle.std.specs.List.{list_any}
 use Rattle.std.specs.Ordering.{match_ordering}
@@ -19,7 +20,7 @@ use Rattle.cpg_reader.specs.declared.place.Key.TheVariants.{Node, Slot, Process,
 use Rattle.cpg_reader.specs.declared.place.Place.{Place}
 use Rattle.cpg_reader.specs.declared.place.ReadFault.{ReadFault}
 use Rattle.cpg_reader.specs.declared.place.ReadFault.TheVariants.{BadField}
-use Rattle.cpg_reader.specs.Rows.{Row, place_in, value_at, text_of, are_listed}
+use Rattle.cpg_reader.specs.Rows.{DocumentRow, place_in, value_at, text_of, are_listed}
 use Rattle.cpg_laws.specs.GraphFiles.{unless, Field, is_good_value, top_fields, node_fields, slot_fields, process_fields, edge_fields, bad_fields, bad_in, top_of, elements, bad_elements, field_faults}
 use Rattle.cpg_laws.specs.DocumentFaults.{table_at, fields_of, HasOtherKey, IsBadField, HasGoodFields}
 use Rattle.cpg_laws.proofs.FaultLists.{Each, each_joined, each_unless, each_of_each, unless_contains, stand_all, of_each_contains}
@@ -73,13 +74,15 @@ listed fields text d (member other z ms) e is =
     let (here, rest) = and_parts (is_key fields other) (are_listed (keys_of fields) ms) e in
     by (slice_cmp nat_cmp text other) refl here is (listed fields text d ms rest)
   where
-    by : (o : Ordering) → slice_cmp nat_cmp text other ≡ o → is_key fields other ≡ true → match_ordering o (get_member text ms) (Some z) (get_member text ms) ≡ Some d → (get_member text ms ≡ Some d → is_key fields text ≡ true) → is_key fields text ≡ true
+    by : (o : Ordering) → slice_cmp nat_cmp text other ≡ o → is_key fields other ≡ true → match_ordering o (get_member text ms) (Some z) (get_member text ms) ≡ Some d →
+        (get_member text ms ≡ Some d → is_key fields text ≡ true) → is_key fields text ≡ true
     by Less o here is more = more is
     by Equal o here is more = subst (λ t. is_key fields t ≡ true) (sym (same_text text other o)) here
     by Greater o here is more = more is
 
 other_key : (fields : List Field) (members : Members) → HasOtherKey members fields → are_listed (keys_of fields) members ≡ false
-other_key fields members (text, d, is, apart) = false_from_ne_true (are_listed (keys_of fields) members) (λ e. let (f, c, same) = is_some_key fields text (listed fields text d members e is) in apart f c same)
+other_key fields members (text, d, is, apart) = false_from_ne_true (are_listed (keys_of fields) members)
+    (λ e. let (f, c, same) = is_some_key fields text (listed fields text d members e is) in apart f c same)
 
 -- ---- one table
 
@@ -87,36 +90,42 @@ other_key fields members (text, d, is, apart) = false_from_ne_true (are_listed (
 abbrev pub IsBad : Members → ReadFault → Type 0
 IsBad ms fault = (place : Place) × (fault ≡ BadField place) × IsBadField ms place
 
-module _ (ms : Members) (row : Row) (at : table_at ms row.table row.index ≡ Some row.members) where
+module _ (ms : Members) (row : DocumentRow) (at : table_at ms row.table row.index ≡ Some row.members) where
   bad_keys : (fields : List Field) → ((f : Field) → Contains fields f → Contains (fields_of row.table) f) → Each (IsBad ms) (bad_fields row (keys_of (fields_of row.table)) fields)
-  bad_keys [] those = each_unless (IsBad ms) (are_listed (keys_of (fields_of row.table)) row.members) (BadField (place_in row Unknown)) (λ e. (place_in row Unknown, refl, (row.members, at, inr (refl, unlisted (fields_of row.table) row.members e))))
+  bad_keys [] those = each_unless (IsBad ms) (are_listed (keys_of (fields_of row.table)) row.members) (BadField (place_in row Unknown))
+      (λ e. (place_in row Unknown, refl, (row.members, at, inr (refl, unlisted (fields_of row.table) row.members e))))
   bad_keys (f ∷ fields) those = each_joined (IsBad ms) (unless (is_good_value f (value_at row f.key)) (BadField (place_in row f.key))) (bad_fields row (keys_of (fields_of row.table)) fields)
-      (each_unless (IsBad ms) (is_good_value f (value_at row f.key)) (BadField (place_in row f.key)) (λ e. (place_in row f.key, refl, (row.members, at, inl (f, those f (Contains-first f fields), refl, e)))))
+      (each_unless (IsBad ms) (is_good_value f (value_at row f.key)) (BadField (place_in row f.key))
+      (λ e. (place_in row f.key, refl, (row.members, at, inl (f, those f (Contains-first f fields), refl, e)))))
       (bad_keys fields (λ g c. those g (Contains-rest f fields g c)))
 
   row_is_bad : Each (IsBad ms) (bad_in (fields_of row.table) row)
   row_is_bad = bad_keys (fields_of row.table) (λ f c. c)
 
-module _ (row : Row) (keys : List Key) where
+module _ (row : DocumentRow) (keys : List Key) where
   value_there : (fields : List Field) (f : Field) → Contains fields f → is_good_value f (value_at row f.key) ≡ false → Contains (bad_fields row keys fields) (BadField (place_in row f.key))
   value_there [] f c e = absurd (Contains-nil f c)
   value_there (g ∷ fields) f c e = elim (Contains-cases g fields f c) [
     | inl same ↦ Contains-append_left (unless (is_good_value g (value_at row g.key)) (BadField (place_in row g.key))) (bad_fields row keys fields) (BadField (place_in row f.key))
-        (subst (λ z. Contains (unless (is_good_value z (value_at row z.key)) (BadField (place_in row z.key))) (BadField (place_in row f.key))) (sym same) (unless_contains (is_good_value f (value_at row f.key)) (BadField (place_in row f.key)) e))
-    | inr rest ↦ Contains-append_right (unless (is_good_value g (value_at row g.key)) (BadField (place_in row g.key))) (bad_fields row keys fields) (BadField (place_in row f.key)) (value_there fields f rest e)
+        (subst (λ z. Contains (unless (is_good_value z (value_at row z.key)) (BadField (place_in row z.key))) (BadField (place_in row f.key))) (sym same)
+        (unless_contains (is_good_value f (value_at row f.key)) (BadField (place_in row f.key)) e))
+    | inr rest ↦ Contains-append_right (unless (is_good_value g (value_at row g.key)) (BadField (place_in row g.key))) (bad_fields row keys fields) (BadField (place_in row f.key))
+        (value_there fields f rest e)
   ]
 
   key_there : (fields : List Field) → are_listed keys row.members ≡ false → Contains (bad_fields row keys fields) (BadField (place_in row Unknown))
   key_there [] e = unless_contains (are_listed keys row.members) (BadField (place_in row Unknown)) e
-  key_there (g ∷ fields) e = Contains-append_right (unless (is_good_value g (value_at row g.key)) (BadField (place_in row g.key))) (bad_fields row keys fields) (BadField (place_in row Unknown)) (key_there fields e)
+  key_there (g ∷ fields) e = Contains-append_right (unless (is_good_value g (value_at row g.key)) (BadField (place_in row g.key))) (bad_fields row keys fields) (BadField (place_in row Unknown))
+      (key_there fields e)
 
 -- ---- the document
 
-abbrev row_of : Table → ℕ → Members → Row
+abbrev row_of : Table → ℕ → Members → DocumentRow
 row_of table i ms = record { table = table; index = i; members = ms }
 
 elements_are_bad : (ms : Members) (table : Table) (members : List Members) → ((i : ℕ) → table_at ms table i ≡ slice_get members i) → Each (IsBad ms) (bad_elements table (fields_of table) members)
-elements_are_bad ms table members are = each_of_each (IsBad ms) (λ i x. slice_get members i ≡ Some x) (λ i x. bad_in (fields_of table) (row_of table i x)) (λ i x e. row_is_bad ms (row_of table i x) (are i ∙ e)) 0 members (stand_all (λ i x. slice_get members i ≡ Some x) members (λ k x e. e))
+elements_are_bad ms table members are = each_of_each (IsBad ms) (λ i x. slice_get members i ≡ Some x) (λ i x. bad_in (fields_of table) (row_of table i x))
+    (λ i x e. row_is_bad ms (row_of table i x) (are i ∙ e)) 0 members (stand_all (λ i x. slice_get members i ≡ Some x) members (λ k x e. e))
 
 pub fields_are_bad : (ms : Members) → Each (IsBad ms) (field_faults ms)
 fields_are_bad ms =
@@ -136,11 +145,16 @@ module _ (ms : Members) (fault : ReadFault) where
   row_there tables.Top (suc i) row at c = cc
   row_there tables.Node i row at c = Contains-append_right (bad_in top_fields (top_of ms)) _ fault (Contains-append_left (part tables.Node Node node_fields) _ fault
       (of_each_contains (λ i x. bad_in node_fields (row_of tables.Node i x)) fault i (elements ms Node) row at c))
-  row_there tables.Slot i row at c = Contains-append_right (bad_in top_fields (top_of ms)) _ fault (Contains-append_right (part tables.Node Node node_fields) _ fault (Contains-append_left (part tables.Slot Slot slot_fields) _ fault
+  row_there tables.Slot i row at c = Contains-append_right (bad_in top_fields (top_of ms)) _ fault
+      (Contains-append_right (part tables.Node Node node_fields) _ fault (Contains-append_left (part tables.Slot Slot slot_fields) _ fault
       (of_each_contains (λ i x. bad_in slot_fields (row_of tables.Slot i x)) fault i (elements ms Slot) row at c)))
-  row_there tables.Process i row at c = Contains-append_right (bad_in top_fields (top_of ms)) _ fault (Contains-append_right (part tables.Node Node node_fields) _ fault (Contains-append_right (part tables.Slot Slot slot_fields) _ fault (Contains-append_left (part tables.Process Process process_fields) _ fault
+  row_there tables.Process i row at c = Contains-append_right (bad_in top_fields (top_of ms)) _ fault
+      (Contains-append_right (part tables.Node Node node_fields) _ fault
+      (Contains-append_right (part tables.Slot Slot slot_fields) _ fault (Contains-append_left (part tables.Process Process process_fields) _ fault
       (of_each_contains (λ i x. bad_in process_fields (row_of tables.Process i x)) fault i (elements ms Process) row at c))))
-  row_there tables.Edge i row at c = Contains-append_right (bad_in top_fields (top_of ms)) _ fault (Contains-append_right (part tables.Node Node node_fields) _ fault (Contains-append_right (part tables.Slot Slot slot_fields) _ fault (Contains-append_right (part tables.Process Process process_fields) _ fault
+  row_there tables.Edge i row at c = Contains-append_right (bad_in top_fields (top_of ms)) _ fault
+      (Contains-append_right (part tables.Node Node node_fields) _ fault
+      (Contains-append_right (part tables.Slot Slot slot_fields) _ fault (Contains-append_right (part tables.Process Process process_fields) _ fault
       (of_each_contains (λ i x. bad_in edge_fields (row_of tables.Edge i x)) fault i (elements ms Edge) row at c))))
 
 pub bad_field_there : (ms : Members) (place : Place) → IsBadField ms place → Contains (field_faults ms) (BadField place)

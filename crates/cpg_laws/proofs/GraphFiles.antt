@@ -1,5 +1,6 @@
 -- Step by step: if each step is refused by the first of its faults, so is a document.
-use Rattle.std.proofs.Common.{◌≡◌, ℕ, ◌+◌, ◌&&◌, Bool, true, false, not, List, [], ◌∷◌, ◌++◌, Option, Some, None, is_some, unwrap_or, option_and_then, Ok, Err, length, position, pos, refl, sym, ap, subst, if◌then◌else◌}
+use Rattle.std.proofs.Common.{◌≡◌, ℕ, ◌+◌, ◌&&◌, Bool, true, false, not, List, [], ◌∷◌, ◌++◌, Option, Some, None, is_some, unwrap_or, option_and_then, Ok, Err, length, position, pos, refl, sym, ap}
+use Rattle.std.proofs.Common.{subst, if◌then◌else◌}
 use Rattle.std.specs.Prelude.{bytes_eq, nat_le}
 use Rattle.std.specs.List.{list_any, list_all}
 use Rattle.toml.specs.Data.{Data, Members, as_integer, as_bool}
@@ -8,22 +9,26 @@ use Rattle.cpg_reader.specs.declared.place.Table.{Table}
 use Rattle.cpg_reader.specs.declared.place.Table.TheVariants as tables
 use Rattle.cpg_reader.specs.declared.place.Place.{Place}
 use Rattle.cpg_reader.specs.declared.place.Key.{Key}
-use Rattle.cpg_reader.specs.declared.place.Key.TheVariants.{Faults, Deadline, Node, Slot, Process, Edge, Order, Name, Length, Bytes, Wcet, Parts, Alpha, Chi, Mu, Join, Frozen, Release, From, To, When, Unknown}
+use Rattle.cpg_reader.specs.declared.place.Key.TheVariants.{Faults, Deadline, Node, Slot, Process, Edge, Order, Name, Length, Bytes, Wcet, Parts, Alpha, Chi, Mu, Join, Frozen, Release, From, To, When}
+use Rattle.cpg_reader.specs.declared.place.Key.TheVariants.{Unknown}
 use Rattle.cpg_reader.specs.declared.place.What.{What}
 use Rattle.cpg_reader.specs.declared.place.What.TheVariants.{Nodes, Slots, Processes, Edges, Number, Conditions}
 use Rattle.cpg_reader.specs.declared.place.ReadFault.{ReadFault}
 use Rattle.cpg_reader.specs.declared.place.ReadFault.TheVariants.{BadField, DoubleName, UnknownName, OverLimit}
-use Rattle.cpg_reader.specs.declared.ranges.Bounded.{Bounded}
+use Rattle.cpg_reader.specs.declared.ranges.BoundedField.{BoundedField}
 use Rattle.cpg_reader.specs.declared.shape.RawSlot.{RawSlot}
 use Rattle.cpg_reader.specs.declared.shape.RawProcess.{RawProcess}
 use Rattle.cpg_reader.specs.declared.shape.RawEdge.{RawEdge}
 use Rattle.cpg_reader.specs.Reading.{Reading, pure, done, ◌>>=◌, ◌>>◌, each}
-use Rattle.cpg_reader.specs.Rows.{Row, place_in, bad, value_at, as_name, as_names, as_tables, are_listed, typed_in, optional_in, optional, required_in, required, with_default, only, name_at, integer_at, integer_or, flag_or, tables_at}
+use Rattle.cpg_reader.specs.Rows.{DocumentRow, place_in, bad, value_at, as_name, as_names, as_tables, are_listed, typed_in, optional_in, optional, required_in, required, with_default, only, name_at}
+use Rattle.cpg_reader.specs.Rows.{integer_at, integer_or, flag_or, tables_at}
 use Rattle.cpg_reader.specs.Shape.{RawGraph, node_at, slot_at, process_at, edge_at, rows_at, raw_graph_at}
 use Rattle.cpg_reader.specs.Ranges.{top_numbers, slot_numbers, process_numbers, edge_numbers, is_within, in_range, all_in_range, at_most, sources, different, limits}
 use Rattle.cpg_reader.specs.Names.{place, name_place, apart_from, apart, known, number_of, slot_of, process_of, edge_of, ordered, order_of, order_apart, slot_names, process_names, resolved, graph_of}
 use Rattle.cpg_reader.specs.Document.{document_of, problem_at, problem_of}
-use Rattle.cpg_laws.specs.GraphFiles.{unless, of_each, Field, is_good_value, needed_name, needed_integer, list, node_fields, slot_fields, process_fields, edge_fields, bad_in, top_of, elements, bad_elements, field_faults, too_many, out_of_range, limit_faults, doubles_from, differ_from, order_place, order_doubles, double_faults, is_known, order_unknowns, unknown, unknown_ends, unknown_faults, graph_faults, document_faults, IsFirst, GraphFilesShowFirstFaults}
+use Rattle.cpg_laws.specs.GraphFiles.{unless, of_each, Field, is_good_value, needed_name, needed_integer, list, node_fields, slot_fields, process_fields, edge_fields, bad_in, top_of, elements}
+use Rattle.cpg_laws.specs.GraphFiles.{bad_elements, field_faults, too_many, out_of_range, limit_faults, doubles_from, differ_from, order_place, order_doubles, double_faults, is_known, order_unknowns}
+use Rattle.cpg_laws.specs.GraphFiles.{unknown, unknown_ends, unknown_faults, graph_faults, document_faults, IsFirst, GraphFilesShowFirstFaults}
 
 -- ---- steps one after another
 
@@ -45,7 +50,8 @@ seq_last [] r y h = (y, ap (λ z. z >> pure y) h.1)
 seq_last (g ∷ gs) r y h = ap (λ z. z >> pure y) h
 
 -- steps within a longer list of faults
-bind_within : {T U : Type 0} (fs gs hs : List ReadFault) (r : Reading T) (next : T → Reading U) → IsFirst fs r → ((x : T) → r ≡ Ok x → IsFirst (gs ++ hs) (next x)) → IsFirst ((fs ++ gs) ++ hs) (r >>= next)
+bind_within : {T U : Type 0} (fs gs hs : List ReadFault) (r : Reading T) (next : T → Reading U) → IsFirst fs r → ((x : T) → r ≡ Ok x → IsFirst (gs ++ hs) (next x)) →
+    IsFirst ((fs ++ gs) ++ hs) (r >>= next)
 bind_within [] gs hs r next h more = subst (λ z. IsFirst (gs ++ hs) (z >>= next)) (sym h.1) (more h.0 h.1)
 bind_within (f ∷ fs) gs hs r next h more = ap (λ z. z >>= next) h
 
@@ -62,7 +68,8 @@ if_next : {T : Type 0} (b : Bool) (fault : ReadFault) (fs : List ReadFault) (nex
 if_next true fault fs next h = refl
 if_next false fault fs next h = h
 
-each_first : {T U : Type 0} (faults : ℕ → T → List ReadFault) (step : ℕ → T → Reading U) → ((i : ℕ) (x : T) → IsFirst (faults i x) (step i x)) → (i : ℕ) (xs : List T) → IsFirst (of_each faults i xs) (each step i xs)
+each_first : {T U : Type 0} (faults : ℕ → T → List ReadFault) (step : ℕ → T → Reading U) → ((i : ℕ) (x : T) → IsFirst (faults i x) (step i x)) → (i : ℕ) (xs : List T) →
+    IsFirst (of_each faults i xs) (each step i xs)
 each_first faults step first i [] = ([], refl)
 each_first faults step first i (x ∷ xs) = bind (faults i x) (of_each faults (i + 1) xs) (step i x) (λ y. each step (i + 1) xs >>= (λ ys. pure (y ∷ ys))) (first i x)
     (λ y e. bind_last (of_each faults (i + 1) xs) (each step (i + 1) xs) (λ ys. y ∷ ys) (each_first faults step first (i + 1) xs))
@@ -70,10 +77,10 @@ each_first faults step first i (x ∷ xs) = bind (faults i x) (of_each faults (i
 -- ---- fields
 
 -- the faults of what stands at a key
-abbrev of_field : {T : Type 0} → Row → Key → Bool → (Data → Option T) → Option Data → List ReadFault
+abbrev of_field : {T : Type 0} → DocumentRow → Key → Bool → (Data → Option T) → Option Data → List ReadFault
 of_field row key needed as_type o = unless (is_good_value (record { key = key; needed = needed; fits = λ d. is_some (as_type d) }) o) (BadField (place_in row key))
 
-module _ {T : Type 0} (row : Row) (key : Key) (as_type : Data → Option T) where
+module _ {T : Type 0} (row : DocumentRow) (key : Key) (as_type : Data → Option T) where
   typed : (x : Option T) → IsFirst (unless (is_some x) (BadField (place_in row key))) (typed_in row key x)
   typed None = refl
   typed (Some x) = (Some x, refl)
@@ -114,7 +121,7 @@ module _ {T : Type 0} (row : Row) (key : Key) (as_type : Data → Option T) wher
   unfolding optional
   default_is value x e = default_by value (value_at row key) x e
 
-module _ (row : Row) where
+module _ (row : DocumentRow) where
   only_first : (keys : List Key) → IsFirst (unless (are_listed keys row.members) (BadField (place_in row Unknown))) (only keys row)
   unfolding only
   only_first keys = by (are_listed keys row.members)
@@ -137,31 +144,51 @@ module _ (row : Row) where
 
 -- ---- elements
 
-module _ (row : Row) where
+module _ (row : DocumentRow) where
   node_first : IsFirst (bad_in node_fields row) (node_at row)
   unfolding node_at
   node_first = bind _ _ _ _ (name_first row Name) (λ name _. seq_last _ _ _ (only_first row (Name ∷ [])))
 
   slot_first : IsFirst (bad_in slot_fields row) (slot_at row)
   unfolding slot_at
-  slot_first = bind _ _ _ _ (name_first row Node) (λ node _. bind _ _ _ _ (integer_first row Length) (λ length _. bind _ _ _ _ (integer_first row Bytes) (λ bytes _. seq_last _ _ _ (only_first row (Node ∷ Length ∷ Bytes ∷ [])))))
+  slot_first = bind _ _ _ _ (name_first row Node)
+      (λ node _. bind _ _ _ _ (integer_first row Length) (λ length _. bind _ _ _ _ (integer_first row Bytes) (λ bytes _. seq_last _ _ _ (only_first row (Node ∷ Length ∷ Bytes ∷ [])))))
 
   process_first : IsFirst (bad_in process_fields row) (process_at row)
   unfolding process_at integer_or flag_or
-  process_first = bind _ _ _ _ (name_first row Name) (λ name _. bind _ _ _ _ (name_first row Node) (λ node _. bind _ _ _ _ (integer_first row Wcet) (λ wcet _. bind _ _ _ _ (default_first row Parts as_integer (pos 1)) (λ parts _. bind _ _ _ _ (default_first row Alpha as_integer (pos 0)) (λ alpha _. bind _ _ _ _ (default_first row Chi as_integer (pos 0)) (λ chi _. bind _ _ _ _ (default_first row Mu as_integer (pos 0)) (λ mu _. bind _ _ _ _ (default_first row Join as_bool false) (λ join _. bind _ _ _ _ (default_first row Frozen as_bool false) (λ frozen _. bind _ _ _ _ (default_first row Release as_integer (pos 0)) (λ release _. bind _ _ _ _ (optional_first row Deadline as_integer) (λ deadline _. seq_last _ _ _ (only_first row (Name ∷ Node ∷ Wcet ∷ Parts ∷ Alpha ∷ Chi ∷ Mu ∷ Join ∷ Frozen ∷ Release ∷ Deadline ∷ [])))))))))))))
+  process_first = bind _ _ _ _ (name_first row Name)
+      (λ name _. bind _ _ _ _ (name_first row Node)
+      (λ node _. bind _ _ _ _ (integer_first row Wcet)
+      (λ wcet _. bind _ _ _ _ (default_first row Parts as_integer (pos 1))
+      (λ parts _. bind _ _ _ _ (default_first row Alpha as_integer (pos 0))
+      (λ alpha _. bind _ _ _ _ (default_first row Chi as_integer (pos 0))
+      (λ chi _. bind _ _ _ _ (default_first row Mu as_integer (pos 0))
+      (λ mu _. bind _ _ _ _ (default_first row Join as_bool false)
+      (λ join _. bind _ _ _ _ (default_first row Frozen as_bool false)
+      (λ frozen _. bind _ _ _ _ (default_first row Release as_integer (pos 0))
+      (λ release _. bind _ _ _ _ (optional_first row Deadline as_integer)
+      (λ deadline _. seq_last _ _ _ (only_first row (Name ∷ Node ∷ Wcet ∷ Parts ∷ Alpha ∷ Chi ∷ Mu ∷ Join ∷ Frozen ∷ Release ∷ Deadline ∷ [])))))))))))))
 
   edge_first : IsFirst (bad_in edge_fields row) (edge_at row)
   unfolding edge_at integer_or flag_or
-  edge_first = bind _ _ _ _ (name_first row From) (λ from _. bind _ _ _ _ (name_first row To) (λ to _. bind _ _ _ _ (default_first row Bytes as_integer (pos 1)) (λ bytes _. bind _ _ _ _ (optional_first row When as_bool) (λ when _. bind _ _ _ _ (default_first row Frozen as_bool false) (λ frozen _. seq_last _ _ _ (only_first row (From ∷ To ∷ Bytes ∷ When ∷ Frozen ∷ [])))))))
+  edge_first = bind _ _ _ _ (name_first row From)
+      (λ from _. bind _ _ _ _ (name_first row To)
+      (λ to _. bind _ _ _ _ (default_first row Bytes as_integer (pos 1))
+      (λ bytes _. bind _ _ _ _ (optional_first row When as_bool)
+      (λ when _. bind _ _ _ _ (default_first row Frozen as_bool false) (λ frozen _. seq_last _ _ _ (only_first row (From ∷ To ∷ Bytes ∷ When ∷ Frozen ∷ [])))))))
 
-rows_first : {T : Type 0} (table : Table) (fields : List Field) (element_at : Row → Reading T) → ((row : Row) → IsFirst (bad_in fields row) (element_at row)) → (members : List Members) → IsFirst (bad_elements table fields members) (rows_at table element_at members)
-rows_first table fields element_at first members = each_first (λ i ms. bad_in fields (record { table = table; index = i; members = ms })) (λ i ms. element_at (record { table = table; index = i; members = ms })) (λ i ms. first (record { table = table; index = i; members = ms })) 0 members
+rows_first : {T : Type 0} (table : Table) (fields : List Field) (element_at : DocumentRow → Reading T) → ((row : DocumentRow) → IsFirst (bad_in fields row) (element_at row)) →
+    (members : List Members) → IsFirst (bad_elements table fields members) (rows_at table element_at members)
+rows_first table fields element_at first members = each_first (λ i ms. bad_in fields (record { table = table; index = i; members = ms }))
+    (λ i ms. element_at (record { table = table; index = i; members = ms })) (λ i ms. first (record { table = table; index = i; members = ms })) 0 members
 
 -- the elements that are read are those of the document
-rows_of : {T : Type 0} (ms : Members) (key : Key) (table : Table) (fields : List Field) (element_at : Row → Reading T) → ((row : Row) → IsFirst (bad_in fields row) (element_at row)) → (members : List Members) → tables_at (top_of ms) key ≡ Ok members →
+rows_of : {T : Type 0} (ms : Members) (key : Key) (table : Table) (fields : List Field) (element_at : DocumentRow → Reading T) → ((row : DocumentRow) → IsFirst (bad_in fields row) (element_at row)) →
+    (members : List Members) → tables_at (top_of ms) key ≡ Ok members →
     IsFirst (bad_elements table fields (elements ms key)) (rows_at table element_at members)
 unfolding tables_at
-rows_of ms key table fields element_at first members e = subst (λ rows. IsFirst (bad_elements table fields rows) (rows_at table element_at members)) (default_is (top_of ms) key as_tables [] members e) (rows_first table fields element_at first members)
+rows_of ms key table fields element_at first members e = subst (λ rows. IsFirst (bad_elements table fields rows) (rows_at table element_at members))
+    (default_is (top_of ms) key as_tables [] members e) (rows_first table fields element_at first members)
 
 pub fields_first : (ms : Members) → IsFirst (field_faults ms) (raw_graph_at ms)
 unfolding raw_graph_at
@@ -188,11 +215,13 @@ at_most_first limit what xs = by (nat_le (length xs) limit)
     by true = (tt, refl)
     by false = refl
 
-range_first : (table : Table) (i : ℕ) (ns : List Bounded) → IsFirst (out_of_range table i ns) (in_range table i ns)
+range_first : (table : Table) (i : ℕ) (ns : List BoundedField) → IsFirst (out_of_range table i ns) (in_range table i ns)
 range_first table i [] = (tt, refl)
-range_first table i (n ∷ ns) = or_next (is_within n.low n.high n.value) (OverLimit (Number (record { table = table; index = i; key = n.key }))) (out_of_range table i ns) (in_range table i ns) (range_first table i ns)
+range_first table i (n ∷ ns) = or_next (is_within n.low n.high n.value) (OverLimit (Number (record { table = table; index = i; key = n.key }))) (out_of_range table i ns) (in_range table i ns)
+    (range_first table i ns)
 
-ranges_first : {T : Type 0} (table : Table) (numbers_of : T → List Bounded) (i : ℕ) (xs : List T) → IsFirst (of_each (λ i x. out_of_range table i (numbers_of x)) i xs) (all_in_range table numbers_of i xs)
+ranges_first : {T : Type 0} (table : Table) (numbers_of : T → List BoundedField) (i : ℕ) (xs : List T) →
+    IsFirst (of_each (λ i x. out_of_range table i (numbers_of x)) i xs) (all_in_range table numbers_of i xs)
 ranges_first table numbers_of i [] = (tt, refl)
 ranges_first table numbers_of i (x ∷ xs) = seq _ _ _ _ (range_first table i (numbers_of x)) (ranges_first table numbers_of (i + 1) xs)
 
@@ -216,8 +245,10 @@ module _ (table : Table) (key : Key) (own : (i : ℕ) → name_place table i key
   apart_from_first : (i : ℕ) (earlier names : List (List ℕ)) → IsFirst (doubles_from table key i earlier names) (apart_from table key i earlier names)
   apart_from_first i earlier [] = (tt, refl)
   apart_from_first i earlier (name ∷ names) =
-      subst (λ at. IsFirst (unless (not (list_any (bytes_eq name) earlier)) (DoubleName at) ++ doubles_from table key (i + 1) (earlier ++ name ∷ []) names) (apart_from table key i earlier (name ∷ names))) (own i)
-      (if_next (list_any (bytes_eq name) earlier) (DoubleName (name_place table i key)) (doubles_from table key (i + 1) (earlier ++ name ∷ []) names) (apart_from table key (i + 1) (earlier ++ name ∷ []) names)
+      subst (λ at. IsFirst (unless (not (list_any (bytes_eq name) earlier)) (DoubleName at) ++ doubles_from table key (i + 1) (earlier ++ name ∷ []) names)
+      (apart_from table key i earlier (name ∷ names))) (own i)
+      (if_next (list_any (bytes_eq name) earlier) (DoubleName (name_place table i key)) (doubles_from table key (i + 1) (earlier ++ name ∷ []) names)
+      (apart_from table key (i + 1) (earlier ++ name ∷ []) names)
       (apart_from_first (i + 1) (earlier ++ name ∷ []) names))
 
   apart_first : (names : List (List ℕ)) → IsFirst (doubles_from table key 0 [] names) (apart table key names)
@@ -231,7 +262,8 @@ if_one false c fault next h = h
 
 order_apart_from : (i : ℕ) (earlier names : List (List ℕ)) → IsFirst (unless (differ_from earlier names) (DoubleName order_place)) (apart_from tables.Top Order i earlier names)
 order_apart_from i earlier [] = (tt, refl)
-order_apart_from i earlier (name ∷ names) = if_one (list_any (bytes_eq name) earlier) (differ_from (earlier ++ name ∷ []) names) (DoubleName order_place) (apart_from tables.Top Order (i + 1) (earlier ++ name ∷ []) names)
+order_apart_from i earlier (name ∷ names) = if_one (list_any (bytes_eq name) earlier) (differ_from (earlier ++ name ∷ []) names) (DoubleName order_place)
+    (apart_from tables.Top Order (i + 1) (earlier ++ name ∷ []) names)
     (order_apart_from (i + 1) (earlier ++ name ∷ []) names)
 
 order_apart_first : (order : Option (List (List ℕ))) → IsFirst (order_doubles (unwrap_or order [])) (order_apart order)
@@ -259,7 +291,8 @@ ends_first : (names : List (List ℕ)) (i : ℕ) (e : RawEdge) → IsFirst (unkn
 unfolding edge_of
 ends_first names i e = bind _ _ _ _ (number_first names e.from tables.Edge i From) (λ from e1. bind_last _ _ _ (number_first names e.to tables.Edge i To))
 
-known_next : {T : Type 0} (at : Place) (o : Option ℕ) (c : Bool) (next : ℕ → Reading T) → ((n : ℕ) → IsFirst (unless c (UnknownName at)) (next n)) → IsFirst (unless (is_some o && c) (UnknownName at)) (known at o >>= next)
+known_next : {T : Type 0} (at : Place) (o : Option ℕ) (c : Bool) (next : ℕ → Reading T) → ((n : ℕ) → IsFirst (unless c (UnknownName at)) (next n)) →
+    IsFirst (unless (is_some o && c) (UnknownName at)) (known at o >>= next)
 known_next at None c next h = refl
 known_next at (Some n) c next h = h n
 
@@ -295,7 +328,8 @@ names_first g =
 problem_first : (ms : Members) → IsFirst (field_faults ms ++ graph_faults (raw_graph_at ms)) (problem_at ms)
 unfolding problem_at
 problem_first ms = bind (field_faults ms) (graph_faults (raw_graph_at ms)) (raw_graph_at ms) (λ g. limits g >> graph_of g) (fields_first ms)
-    (λ g e. subst (λ z. IsFirst (graph_faults z) (limits g >> graph_of g)) (sym e) (seq (limit_faults g) (double_faults g ++ unknown_faults g) (limits g) (graph_of g) (limits_first g) (names_first g)))
+    (λ g e. subst (λ z. IsFirst (graph_faults z) (limits g >> graph_of g)) (sym e)
+    (seq (limit_faults g) (double_faults g ++ unknown_faults g) (limits g) (graph_of g) (limits_first g) (names_first g)))
 
 document_first : (r : Reading Members) → IsFirst (document_faults r) (r >>= problem_at)
 document_first (Err fault) = refl

@@ -19,7 +19,7 @@ use Rattle.cpg_rules.proofs.Exact.{no_lack}
 use Rattle.cpg_rules.proofs.GivenOrders.{one_bad}
 use Rattle.cpg_rules.specs.declared.admission.RuleFault.{RuleFault}
 use Rattle.cpg_rules.specs.declared.admission.RuleFault.TheVariants.{Cycle, TooManyTracks, TwoAlternatives, NoSlot, TooBig, BadOrder, OutOfMemory}
-use Rattle.cpg_laws.specs.Graphs.{RefusesCycles, CyclesAreRefusedFirst, HasTwoInputs, place_of, IsFirstCause, GraphsShowFirstCauses}
+use Rattle.cpg_laws.specs.Graphs.{RefusesCycles, CyclesAreRefusedFirst, HasTwoInputs, rank_of_fault, IsFirstCause, GraphsShowFirstCauses}
 
 -- a graph in order is refused for no cycle
 none : (g : Graph) (answer : Result Admission RuleFault) → ((walk : List ℕ) → answer ≢ Err (Cycle walk)) → (HasCycle g → ⊥) → RefusesCycles g answer
@@ -59,7 +59,7 @@ first g OutOfMemory h = tt
 -- What a later cause says of the earlier ones.
 
 module _ (g : Graph) where
-  no_cycle_then : (fault : RuleFault) → 0 < place_of fault → place_of fault < 6 → IsFirstCause g fault → HasCycle g → ⊥
+  no_cycle_then : (fault : RuleFault) → 0 < rank_of_fault fault → rank_of_fault fault < 6 → IsFirstCause g fault → HasCycle g → ⊥
   no_cycle_then (Cycle walk) l m h = absurd (omega (arith, l))
   no_cycle_then TooManyTracks l m h = h.0
   no_cycle_then (TwoAlternatives p least) l m h = h.0
@@ -68,7 +68,7 @@ module _ (g : Graph) where
   no_cycle_then (BadOrder p) l m h = h.0
   no_cycle_then OutOfMemory l m h = absurd (omega (arith, m))
 
-  few_then : (fault : RuleFault) → 1 < place_of fault → place_of fault < 6 → IsFirstCause g fault → track_count g ≤ most_tracks
+  few_then : (fault : RuleFault) → 1 < rank_of_fault fault → rank_of_fault fault < 6 → IsFirstCause g fault → track_count g ≤ most_tracks
   few_then (Cycle walk) l m h = absurd (omega (arith, l))
   few_then TooManyTracks l m h = absurd (omega (arith, l))
   few_then (TwoAlternatives p least) l m h = h.1
@@ -77,7 +77,7 @@ module _ (g : Graph) where
   few_then (BadOrder p) l m h = h.1
   few_then OutOfMemory l m h = absurd (omega (arith, m))
 
-  joins_then : (fault : RuleFault) → 2 < place_of fault → place_of fault < 6 → IsFirstCause g fault → HasSingleJoins g
+  joins_then : (fault : RuleFault) → 2 < rank_of_fault fault → rank_of_fault fault < 6 → IsFirstCause g fault → HasSingleJoins g
   joins_then (Cycle walk) l m h = absurd (omega (arith, l))
   joins_then TooManyTracks l m h = absurd (omega (arith, l))
   joins_then (TwoAlternatives p least) l m h = absurd (omega (arith, l))
@@ -86,7 +86,7 @@ module _ (g : Graph) where
   joins_then (BadOrder p) l m h = h.2
   joins_then OutOfMemory l m h = absurd (omega (arith, m))
 
-  slots_then : (fault : RuleFault) → 3 < place_of fault → place_of fault < 6 → IsFirstCause g fault → HasSenderSlots g
+  slots_then : (fault : RuleFault) → 3 < rank_of_fault fault → rank_of_fault fault < 6 → IsFirstCause g fault → HasSenderSlots g
   slots_then (Cycle walk) l m h = absurd (omega (arith, l))
   slots_then TooManyTracks l m h = absurd (omega (arith, l))
   slots_then (TwoAlternatives p least) l m h = absurd (omega (arith, l))
@@ -95,7 +95,7 @@ module _ (g : Graph) where
   slots_then (BadOrder p) l m h = h.3
   slots_then OutOfMemory l m h = absurd (omega (arith, m))
 
-  sizes_then : (fault : RuleFault) → 4 < place_of fault → place_of fault < 6 → IsFirstCause g fault → AllFit g
+  sizes_then : (fault : RuleFault) → 4 < rank_of_fault fault → rank_of_fault fault < 6 → IsFirstCause g fault → AllFit g
   sizes_then (Cycle walk) l m h = absurd (omega (arith, l))
   sizes_then TooManyTracks l m h = absurd (omega (arith, l))
   sizes_then (TwoAlternatives p least) l m h = absurd (omega (arith, l))
@@ -104,7 +104,7 @@ module _ (g : Graph) where
   sizes_then (BadOrder p) l m h = h.4
   sizes_then OutOfMemory l m h = absurd (omega (arith, m))
 
-  apart : (fault other : RuleFault) → place_of fault < place_of other → place_of other < 6 → IsFirstCause g fault → IsFirstCause g other → ⊥
+  apart : (fault other : RuleFault) → rank_of_fault fault < rank_of_fault other → rank_of_fault other < 6 → IsFirstCause g fault → IsFirstCause g other → ⊥
   apart (Cycle walk) other l m h k = no_cycle_then other l m k (walk, h)
   apart TooManyTracks other l m h k = let f = few_then other l m k in let n = h.1 in omega (arith, f, n)
   apart (TwoAlternatives p least) other l m h k =
@@ -117,7 +117,7 @@ module _ (g : Graph) where
   apart (BadOrder p) other l m h k = omega (arith, l, m)
   apart OutOfMemory other l m h k = omega (arith, l, m)
 
-  below : (fault : RuleFault) → fault ≢ OutOfMemory → place_of fault < 6
+  below : (fault : RuleFault) → fault ≢ OutOfMemory → rank_of_fault fault < 6
   below (Cycle walk) kept = omega arith
   below TooManyTracks kept = omega arith
   below (TwoAlternatives p least) kept = omega arith
@@ -126,10 +126,10 @@ module _ (g : Graph) where
   below (BadOrder p) kept = omega arith
   below OutOfMemory kept = absurd (kept refl)
 
-  one : (fault other : RuleFault) → fault ≢ OutOfMemory → other ≢ OutOfMemory → IsFirstCause g fault → IsFirstCause g other → place_of fault ≡ place_of other
-  one fault other kept kept' h k = elim (cases_lt (place_of fault) (place_of other)) [
+  one : (fault other : RuleFault) → fault ≢ OutOfMemory → other ≢ OutOfMemory → IsFirstCause g fault → IsFirstCause g other → rank_of_fault fault ≡ rank_of_fault other
+  one fault other kept kept' h k = elim (cases_lt (rank_of_fault fault) (rank_of_fault other)) [
     | inl l ↦ absurd (apart fault other l (below other kept') h k)
-    | inr m ↦ elim (cases_lt (place_of other) (place_of fault)) [
+    | inr m ↦ elim (cases_lt (rank_of_fault other) (rank_of_fault fault)) [
       | inl l ↦ absurd (apart other fault l (below fault kept) k h)
       | inr n ↦ omega (arith, m, n)
     ]
@@ -165,9 +165,10 @@ module _ (g : Graph) where
       let join = one_join h.order k.order p q s t h.two k.two in
       let order = one_urgency_order g k.order h.order k.urgency h.urgency in
       let least = subst (λ (o : List ℕ). IsLeast g o (λ u. has_two_live g u.values q ≡ true) t) order k.two.least in
-      λ i. TwoAlternatives (join i) (one_least g h.order h.urgency.all (λ u. has_two_live g u.values q ≡ true) s t (subst (λ r. IsLeast g h.order (λ u. has_two_live g u.values r ≡ true) s) join h.two.least) least i)
+      λ i. TwoAlternatives (join i) (one_least g h.order h.urgency.all (λ u. has_two_live g u.values q ≡ true) s t
+      (subst (λ r. IsLeast g h.order (λ u. has_two_live g u.values r ≡ true) s) join h.two.least) least i)
 
-  alike : (fault other : RuleFault) → place_of fault ≡ place_of other → 0 < place_of fault → place_of fault < 6 → IsFirstCause g fault → IsFirstCause g other → fault ≡ other
+  alike : (fault other : RuleFault) → rank_of_fault fault ≡ rank_of_fault other → 0 < rank_of_fault fault → rank_of_fault fault < 6 → IsFirstCause g fault → IsFirstCause g other → fault ≡ other
   alike (Cycle walk) other e l m h k = absurd (omega (arith, l))
   alike OutOfMemory other e l m h k = absurd (omega (arith, m))
   alike TooManyTracks TooManyTracks e l m h k = refl

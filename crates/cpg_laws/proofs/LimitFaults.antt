@@ -1,5 +1,6 @@
 -- What is beyond its limit is so in the document.
-use Rattle.std.proofs.Common.{◌≡◌, ℕ, zero, suc, ◌<◌, ℤ, pos, Bool, true, false, List, [], ◌∷◌, ◌++◌, Option, Some, None, is_some, unwrap_or, option_and_then, option_map, Contains, length, map, filter, cond, slice_get, refl, sym, ap, ◌∙◌, subst, inl, inr, true≢false, le-leb, leb-false, arith}
+use Rattle.std.proofs.Common.{◌≡◌, ℕ, zero, suc, ◌<◌, ℤ, pos, Bool, true, false, List, [], ◌∷◌, ◌++◌, Option, Some, None, is_some, unwrap_or, option_and_then, option_map, Contains, length, map}
+use Rattle.std.proofs.Common.{filter, cond, slice_get, refl, sym, ap, ◌∙◌, subst, inl, inr, true≢false, le-leb, leb-false, arith}
 use Rattle.std.specs.Prelude.{nat_le}
 use Rattle.std.specs.List.{list_all}
 use Rattle.std.proofs.lemmas.Bool.{and_parts, and_from, true_from_ne_false, lt-leb}
@@ -17,7 +18,7 @@ use Rattle.cpg_reader.specs.declared.place.What.{What}
 use Rattle.cpg_reader.specs.declared.place.What.TheVariants.{Nodes, Slots, Processes, Edges, Number, Conditions}
 use Rattle.cpg_reader.specs.declared.place.ReadFault.{ReadFault}
 use Rattle.cpg_reader.specs.declared.place.ReadFault.TheVariants.{OverLimit}
-use Rattle.cpg_reader.specs.declared.ranges.Bounded.{Bounded}
+use Rattle.cpg_reader.specs.declared.ranges.BoundedField.{BoundedField}
 use Rattle.cpg_reader.specs.declared.shape.RawEdge.{RawEdge}
 use Rattle.cpg_reader.specs.Rows.{text_of}
 use Rattle.cpg_reader.specs.Ranges.{top_numbers, slot_numbers, process_numbers, edge_numbers, is_within, sources, different}
@@ -28,7 +29,8 @@ use Rattle.cpg_laws.proofs.FaultLists.{Each, each_joined, each_unless, each_of_e
 
 -- ---- what stands at a place
 
-pub good_value : (ms : Members) → HasGoodFields ms → (t : Table) (i : ℕ) (row : Members) → table_at ms t i ≡ Some row → (f : Field) → Contains (fields_of t) f → is_good_value f (get_member (text_of f.key) row) ≡ true
+pub good_value : (ms : Members) → HasGoodFields ms → (t : Table) (i : ℕ) (row : Members) → table_at ms t i ≡ Some row → (f : Field) → Contains (fields_of t) f →
+    is_good_value f (get_member (text_of f.key) row) ≡ true
 good_value ms good t i row at f c = true_from_ne_false (is_good_value f (get_member (text_of f.key) row)) (λ e. good (record { table = t; index = i; key = f.key }) (row, at, inl (f, c, refl, e)))
 
 pub found_in : (ms : Members) (t : Table) (i : ℕ) (row : Members) (key : Key) → table_at ms t i ≡ Some row → found_at ms t i key ≡ get_member (text_of key) row
@@ -41,7 +43,7 @@ found_parts (Some row) text d e = (row, refl, e)
 -- ---- numbers
 
 -- if it is missing, a number counts as the least that it may be
-abbrev numbers_in : Members → List Range → List Bounded
+abbrev numbers_in : Members → List Range → List BoundedField
 numbers_in row [] = []
 numbers_in row (r ∷ rs) = record { key = r.key; value = integer_in row r.key (pos r.low); low = r.low; high = r.high } ∷ numbers_in row rs
 
@@ -51,7 +53,8 @@ IsOver ms fault = (what : What) × (fault ≡ OverLimit what) × IsOverLimit ms 
 low_is_within : (low high : ℕ) → nat_le low high ≡ true → is_within low high (pos low) ≡ true
 low_is_within low high h = and_from (nat_le low low) (nat_le low high) (le-leb low low (omega arith)) h
 
-outside : (low high : ℕ) (o : Option Data) → nat_le low high ≡ true → is_within low high (unwrap_or (option_and_then as_integer o) (pos low)) ≡ false → (z : ℤ) × (o ≡ Some (integer z)) × (is_within low high z ≡ false)
+outside : (low high : ℕ) (o : Option Data) → nat_le low high ≡ true → is_within low high (unwrap_or (option_and_then as_integer o) (pos low)) ≡ false → (z : ℤ) × (o ≡ Some (integer z)) ×
+    (is_within low high z ≡ false)
 outside low high None h e = absurd (true≢false (sym (low_is_within low high h) ∙ e))
 outside low high (Some (integer z)) h e = (z, refl, e)
 outside low high (Some (string s)) h e = absurd (true≢false (sym (low_is_within low high h) ∙ e))
@@ -88,18 +91,24 @@ module _ (ms : Members) (t : Table) (i : ℕ) (row : Members) (at : table_at ms 
   row_over : Each (IsOver ms) (out_of_range t i (numbers_in row (ranges_of t)))
   row_over = numbers_over (ranges_of t) (λ r c. c) (ranges_are t)
 
-rows_over : {T : Type 0} (ms : Members) (t : Table) (said : Members → T) (numbers : T → List Bounded) (rows : List Members) → ((row : Members) → numbers (said row) ≡ numbers_in row (ranges_of t)) → ((i : ℕ) → table_at ms t i ≡ slice_get rows i) →
+rows_over : {T : Type 0} (ms : Members) (t : Table) (said : Members → T) (numbers : T → List BoundedField) (rows : List Members) →
+    ((row : Members) → numbers (said row) ≡ numbers_in row (ranges_of t)) → ((i : ℕ) → table_at ms t i ≡ slice_get rows i) →
     Each (IsOver ms) (all_out_of_range t numbers (map said rows))
 rows_over ms t said numbers rows same are = subst (Each (IsOver ms)) (sym (of_each_mapped (λ i x. out_of_range t i (numbers x)) said 0 rows))
-    (each_of_each (IsOver ms) (λ i row. slice_get rows i ≡ Some row) (λ i row. out_of_range t i (numbers (said row))) (λ i row e. subst (λ ns. Each (IsOver ms) (out_of_range t i ns)) (sym (same row)) (row_over ms t i row (are i ∙ e))) 0 rows (stand_all (λ i row. slice_get rows i ≡ Some row) rows (λ k row e. e)))
+    (each_of_each (IsOver ms) (λ i row. slice_get rows i ≡ Some row) (λ i row. out_of_range t i (numbers (said row)))
+    (λ i row e. subst (λ ns. Each (IsOver ms) (out_of_range t i ns)) (sym (same row)) (row_over ms t i row (are i ∙ e))) 0 rows
+    (stand_all (λ i row. slice_get rows i ≡ Some row) rows (λ k row e. e)))
 
-number_there : (t : Table) (i : ℕ) (row : Members) (z : ℤ) (rs : List Range) (r : Range) → Contains rs r → get_member (text_of r.key) row ≡ Some (integer z) → is_within r.low r.high z ≡ false → Contains (out_of_range t i (numbers_in row rs)) (number_fault t i r.key)
+number_there : (t : Table) (i : ℕ) (row : Members) (z : ℤ) (rs : List Range) (r : Range) → Contains rs r → get_member (text_of r.key) row ≡ Some (integer z) → is_within r.low r.high z ≡ false →
+    Contains (out_of_range t i (numbers_in row rs)) (number_fault t i r.key)
 number_there t i row z [] r c found out = absurd (Contains-nil r c)
 number_there t i row z (q ∷ rs) r c found out = elim (Contains-cases q rs r c) [
   | inl same ↦ Contains-append_left (unless (is_within q.low q.high (integer_in row q.key (pos q.low))) (number_fault t i q.key)) (out_of_range t i (numbers_in row rs)) (number_fault t i r.key)
       (subst (λ q. Contains (unless (is_within q.low q.high (integer_in row q.key (pos q.low))) (number_fault t i q.key)) (number_fault t i r.key)) (sym same)
-      (unless_contains (is_within r.low r.high (integer_in row r.key (pos r.low))) (number_fault t i r.key) (ap (λ o. is_within r.low r.high (unwrap_or (option_and_then as_integer o) (pos r.low))) found ∙ out)))
-  | inr rest ↦ Contains-append_right (unless (is_within q.low q.high (integer_in row q.key (pos q.low))) (number_fault t i q.key)) (out_of_range t i (numbers_in row rs)) (number_fault t i r.key) (number_there t i row z rs r rest found out)
+      (unless_contains (is_within r.low r.high (integer_in row r.key (pos r.low))) (number_fault t i r.key)
+      (ap (λ o. is_within r.low r.high (unwrap_or (option_and_then as_integer o) (pos r.low))) found ∙ out)))
+  | inr rest ↦ Contains-append_right (unless (is_within q.low q.high (integer_in row q.key (pos q.low))) (number_fault t i q.key)) (out_of_range t i (numbers_in row rs)) (number_fault t i r.key)
+      (number_there t i row z rs r rest found out)
 ]
 
 -- ---- counts
@@ -108,7 +117,8 @@ more_than : {T : Type 0} (said : Members → T) (limit : ℕ) (rows : List Membe
 more_than said limit rows e = subst (λ n. limit < n) (length-map rows said) (leb-false (length (map said rows)) limit e)
 
 too_many_there : {T : Type 0} (said : Members → T) (limit : ℕ) (what : What) (rows : List Members) → limit < length rows → Contains (too_many limit what (map said rows)) (OverLimit what)
-too_many_there said limit what rows l = unless_contains (nat_le (length (map said rows)) limit) (OverLimit what) (lt-leb (length (map said rows)) limit (subst (λ n. limit < n) (sym (length-map rows said)) l))
+too_many_there said limit what rows l = unless_contains (nat_le (length (map said rows)) limit) (OverLimit what)
+    (lt-leb (length (map said rows)) limit (subst (λ n. limit < n) (sym (length-map rows said)) l))
 
 -- ---- conditions
 
@@ -116,11 +126,15 @@ is_flag_there : (key : Key) (o : Option Data) → is_good_value (flag key) o ≡
 is_flag_there key None e = refl
 is_flag_there key (Some d) e = e
 
-edges_are_conditional : (es : List Members) → ((e : Members) → Contains es e → is_some (value_in as_bool e When) ≡ is_some (get_member (text_of When) e)) → sources (map edge_in es) ≡ map source_of (filter (λ e. is_some (get_member (text_of When) e)) es)
+edges_are_conditional : (es : List Members) → ((e : Members) → Contains es e → is_some (value_in as_bool e When) ≡ is_some (get_member (text_of When) e)) →
+    sources (map edge_in es) ≡ map source_of (filter (λ e. is_some (get_member (text_of When) e)) es)
 edges_are_conditional [] h = refl
-edges_are_conditional (e ∷ es) h = by (is_some (value_in as_bool e When)) (is_some (get_member (text_of When) e)) (h e (Contains-first e es)) (edges_are_conditional es (λ x c. h x (Contains-rest e es x c)))
+edges_are_conditional (e ∷ es) h = by (is_some (value_in as_bool e When)) (is_some (get_member (text_of When) e)) (h e (Contains-first e es))
+    (edges_are_conditional es (λ x c. h x (Contains-rest e es x c)))
   where
-    by : (b c : Bool) → b ≡ c → sources (map edge_in es) ≡ map source_of (filter (λ e. is_some (get_member (text_of When) e)) es) → map (λ (x : RawEdge). x.from) (cond b (edge_in e ∷ filter (λ x. is_some x.when) (map edge_in es)) (filter (λ x. is_some x.when) (map edge_in es))) ≡ map source_of (cond c (e ∷ filter (λ e. is_some (get_member (text_of When) e)) es) (filter (λ e. is_some (get_member (text_of When) e)) es))
+    by : (b c : Bool) → b ≡ c → sources (map edge_in es) ≡ map source_of (filter (λ e. is_some (get_member (text_of When) e)) es) →
+        map (λ (x : RawEdge). x.from) (cond b (edge_in e ∷ filter (λ x. is_some x.when) (map edge_in es)) (filter (λ x. is_some x.when) (map edge_in es))) ≡ map source_of
+        (cond c (e ∷ filter (λ e. is_some (get_member (text_of When) e)) es) (filter (λ e. is_some (get_member (text_of When) e)) es))
     by true true same rest = ap (λ names. source_of e ∷ names) rest
     by false false same rest = rest
     by true false same rest = absurd (true≢false same)
@@ -144,7 +158,13 @@ module _ (ms : Members) (good : HasGoodFields ms) where
       (each_joined (IsOver ms) _ _ (rows_over ms tables.Slot slot_in slot_numbers (elements ms Slot) (λ row. refl) (λ i. refl))
       (each_joined (IsOver ms) _ _ (rows_over ms tables.Process process_in process_numbers (elements ms Process) (λ row. refl) (λ i. refl))
       (each_joined (IsOver ms) _ _ (rows_over ms tables.Edge edge_in edge_numbers (elements ms Edge) (λ row. refl) (λ i. refl))
-      (each_unless (IsOver ms) _ (OverLimit Conditions) (λ e. (Conditions, refl, subst (λ names. MOST_CONDITIONS < length (different [] names)) (sources_are ms good) (leb-false (length (different [] (sources (map edge_in (elements ms Edge))))) MOST_CONDITIONS e)))))))))))
+      (each_unless (IsOver ms) _ (OverLimit Conditions)
+      (λ e. (
+        Conditions,
+        refl,
+        subst (λ names. MOST_CONDITIONS < length (different [] names)) (sources_are ms good)
+            (leb-false (length (different [] (sources (map edge_in (elements ms Edge))))) MOST_CONDITIONS e),
+      ))))))))))
 
   -- the parts of the limits
   abbrev node_count : List ReadFault
@@ -176,7 +196,9 @@ module _ (ms : Members) (good : HasGoodFields ms) where
 
   module _ (fault : ReadFault) where
     past_counts : Contains (top_part ++ (slot_part ++ (process_part ++ (edge_part ++ last_part)))) fault → Contains (limit_faults (graph_in ms)) fault
-    past_counts c = Contains-append_right node_count _ fault (Contains-append_right slot_count _ fault (Contains-append_right process_count _ fault (Contains-append_right edge_count (top_part ++ (slot_part ++ (process_part ++ (edge_part ++ last_part)))) fault c)))
+    past_counts c = Contains-append_right node_count _ fault
+        (Contains-append_right slot_count _ fault
+        (Contains-append_right process_count _ fault (Contains-append_right edge_count (top_part ++ (slot_part ++ (process_part ++ (edge_part ++ last_part)))) fault c)))
 
     past_top : Contains (slot_part ++ (process_part ++ (edge_part ++ last_part))) fault → Contains (limit_faults (graph_in ms)) fault
     past_top c = past_counts (Contains-append_right top_part (slot_part ++ (process_part ++ (edge_part ++ last_part))) fault c)
@@ -188,26 +210,37 @@ module _ (ms : Members) (good : HasGoodFields ms) where
     past_processes c = past_slots (Contains-append_right process_part (edge_part ++ last_part) fault c)
 
     -- what stands in the numbers of a table stands in the limits of the document
-    numbers_are_there : (t : Table) (i : ℕ) (row : Members) → table_at ms t i ≡ Some row → Contains (out_of_range t i (numbers_in row (ranges_of t))) fault → Contains (limit_faults (graph_in ms)) fault
-    numbers_are_there tables.Top zero row at c = past_counts (Contains-append_left top_part (slot_part ++ (process_part ++ (edge_part ++ last_part))) fault (subst (λ z. Contains (out_of_range tables.Top 0 (numbers_in z (ranges_of tables.Top))) fault) (let same : row ≡ ms = cc in same) c))
+    numbers_are_there : (t : Table) (i : ℕ) (row : Members) → table_at ms t i ≡ Some row → Contains (out_of_range t i (numbers_in row (ranges_of t))) fault →
+        Contains (limit_faults (graph_in ms)) fault
+    numbers_are_there tables.Top zero row at c =
+        past_counts (Contains-append_left top_part (slot_part ++ (process_part ++ (edge_part ++ last_part))) fault
+        (subst (λ z. Contains (out_of_range tables.Top 0 (numbers_in z (ranges_of tables.Top))) fault) (let same : row ≡ ms = cc in same) c))
     numbers_are_there tables.Top (suc i) row at c = cc
     numbers_are_there tables.Node i row at c = absurd (Contains-nil fault c)
     numbers_are_there tables.Slot i row at c = past_top (Contains-append_left slot_part (process_part ++ (edge_part ++ last_part)) fault
-        (of_each_contains (λ i s. out_of_range tables.Slot i (slot_numbers s)) fault i (map slot_in (elements ms Slot)) (slot_in row) (slice_get-map slot_in (elements ms Slot) i ∙ ap (option_map slot_in) at) c))
+        (of_each_contains (λ i s. out_of_range tables.Slot i (slot_numbers s)) fault i (map slot_in (elements ms Slot)) (slot_in row)
+        (slice_get-map slot_in (elements ms Slot) i ∙ ap (option_map slot_in) at) c))
     numbers_are_there tables.Process i row at c = past_slots (Contains-append_left process_part (edge_part ++ last_part) fault
-        (of_each_contains (λ i p. out_of_range tables.Process i (process_numbers p)) fault i (map process_in (elements ms Process)) (process_in row) (slice_get-map process_in (elements ms Process) i ∙ ap (option_map process_in) at) c))
+        (of_each_contains (λ i p. out_of_range tables.Process i (process_numbers p)) fault i (map process_in (elements ms Process)) (process_in row)
+        (slice_get-map process_in (elements ms Process) i ∙ ap (option_map process_in) at) c))
     numbers_are_there tables.Edge i row at c = past_processes (Contains-append_left edge_part last_part fault
-        (of_each_contains (λ i e. out_of_range tables.Edge i (edge_numbers e)) fault i (map edge_in (elements ms Edge)) (edge_in row) (slice_get-map edge_in (elements ms Edge) i ∙ ap (option_map edge_in) at) c))
+        (of_each_contains (λ i e. out_of_range tables.Edge i (edge_numbers e)) fault i (map edge_in (elements ms Edge)) (edge_in row)
+        (slice_get-map edge_in (elements ms Edge) i ∙ ap (option_map edge_in) at) c))
 
   pub limit_there : (what : What) → IsOverLimit ms what → Contains (limit_faults (graph_in ms)) (OverLimit what)
   limit_there Nodes l = Contains-append_left node_count _ (OverLimit Nodes) (too_many_there node_in MOST_NODES Nodes (elements ms Node) l)
   limit_there Slots l = Contains-append_right node_count _ (OverLimit Slots) (Contains-append_left slot_count _ (OverLimit Slots) (too_many_there slot_in MOST_NODES Slots (elements ms Slot) l))
-  limit_there Processes l = Contains-append_right node_count _ (OverLimit Processes) (Contains-append_right slot_count _ (OverLimit Processes) (Contains-append_left process_count _ (OverLimit Processes) (too_many_there process_in MOST_PROCESSES Processes (elements ms Process) l)))
-  limit_there Edges l = Contains-append_right node_count _ (OverLimit Edges) (Contains-append_right slot_count _ (OverLimit Edges) (Contains-append_right process_count _ (OverLimit Edges) (Contains-append_left edge_count _ (OverLimit Edges) (too_many_there edge_in MOST_EDGES Edges (elements ms Edge) l))))
+  limit_there Processes l = Contains-append_right node_count _ (OverLimit Processes)
+      (Contains-append_right slot_count _ (OverLimit Processes)
+      (Contains-append_left process_count _ (OverLimit Processes) (too_many_there process_in MOST_PROCESSES Processes (elements ms Process) l)))
+  limit_there Edges l = Contains-append_right node_count _ (OverLimit Edges)
+      (Contains-append_right slot_count _ (OverLimit Edges)
+      (Contains-append_right process_count _ (OverLimit Edges) (Contains-append_left edge_count _ (OverLimit Edges) (too_many_there edge_in MOST_EDGES Edges (elements ms Edge) l))))
   limit_there (Number place) (r, c, same, z, found, out) =
       let (row, at, value) = found_parts (table_at ms place.table place.index) (text_of place.key) (integer z) found in
       numbers_are_there (OverLimit (Number place)) place.table place.index row at
       (subst (λ key. Contains (out_of_range place.table place.index (numbers_in row (ranges_of place.table))) (number_fault place.table place.index key)) same
       (number_there place.table place.index row z (ranges_of place.table) r c (ap (λ key. get_member (text_of key) row) same ∙ value) out))
   limit_there Conditions l = past_processes (OverLimit Conditions) (Contains-append_right edge_part last_part (OverLimit Conditions)
-      (unless_contains (nat_le (length (different [] (sources (map edge_in (elements ms Edge))))) MOST_CONDITIONS) (OverLimit Conditions) (lt-leb (length (different [] (sources (map edge_in (elements ms Edge))))) MOST_CONDITIONS (subst (λ names. MOST_CONDITIONS < length (different [] names)) (sym (sources_are ms good)) l))))
+      (unless_contains (nat_le (length (different [] (sources (map edge_in (elements ms Edge))))) MOST_CONDITIONS) (OverLimit Conditions)
+      (lt-leb (length (different [] (sources (map edge_in (elements ms Edge))))) MOST_CONDITIONS (subst (λ names. MOST_CONDITIONS < length (different [] names)) (sym (sources_are ms good)) l))))

@@ -1,5 +1,6 @@
 -- Names that stand twice, or name nothing, do so in the document.
-use Rattle.std.proofs.Common.{◌≡◌, ◌≢◌, ℕ, zero, suc, ◌+◌, ◌<◌, ◌⊎◌, Bool, true, false, not, ◌&&◌, ◌||◌, List, [], ◌∷◌, ◌++◌, Option, Some, None, is_some, unwrap_or, option_and_then, option_map, Contains, length, map, position, append_assoc, cond, slice_get, refl, sym, ap, ◌∙◌, subst, inl, inr, true≢false, arith, add-zero, zero-add}
+use Rattle.std.proofs.Common.{◌≡◌, ◌≢◌, ℕ, zero, suc, ◌+◌, ◌<◌, ◌⊎◌, Bool, true, false, not, ◌&&◌, ◌||◌, List, [], ◌∷◌, ◌++◌, Option, Some, None, is_some, unwrap_or, option_and_then, option_map}
+use Rattle.std.proofs.Common.{Contains, length, map, position, append_assoc, cond, slice_get, refl, sym, ap, ◌∙◌, subst, inl, inr, true≢false, arith, add-zero, zero-add}
 use Rattle.std.specs.Prelude.{bytes_eq}
 use Rattle.std.specs.List.{list_any, list_all}
 use Rattle.std.proofs.Math.Bool.{or-false}
@@ -19,7 +20,8 @@ use Rattle.cpg_reader.specs.declared.place.ReadFault.{ReadFault}
 use Rattle.cpg_reader.specs.declared.place.ReadFault.TheVariants.{DoubleName, UnknownName}
 use Rattle.cpg_reader.specs.Rows.{text_of, as_name, is_name}
 use Rattle.cpg_reader.specs.Names.{place, slot_names, process_names}
-use Rattle.cpg_laws.specs.GraphFiles.{unless, of_each, is_good_value, needed_name, elements, doubles_from, differ_from, order_place, order_doubles, double_faults, is_known, order_unknowns, unknown, unknown_ends, unknown_faults}
+use Rattle.cpg_laws.specs.GraphFiles.{unless, of_each, is_good_value, needed_name, elements, doubles_from, differ_from, order_place, order_doubles, double_faults, is_known, order_unknowns, unknown}
+use Rattle.cpg_laws.specs.GraphFiles.{unknown_ends, unknown_faults}
 use Rattle.cpg_laws.specs.DocumentFaults.{table_at, found_at, fields_of, HasGoodFields, is_own_name, order_names, HasTwice, IsDouble, named_in, IsUnknown}
 use Rattle.cpg_laws.proofs.DocumentValues.{name_in, slot_in, process_in, edge_in, graph_in}
 use Rattle.cpg_laws.proofs.FaultLists.{Each, Stand, each_joined, each_unless, each_of_each, unless_contains, stand_all, of_each_contains, of_each_mapped, some_position}
@@ -60,7 +62,8 @@ module _ (ms : Members) (good : HasGoodFields ms) where
   name_stands : (t : Table) (i : ℕ) (row : Members) (key : Key) → table_at ms t i ≡ Some row → Contains (fields_of t) (needed_name key) → found_at ms t i key ≡ Some (string (name_in row key))
   name_stands t i row key at field = found_in ms t i row key at ∙ said (get_member (text_of key) row) (good_value ms good t i row at (needed_name key) field)
 
-  name_is : (t : Table) (i : ℕ) (key : Key) (name : List ℕ) → Contains (fields_of t) (needed_name key) → found_at ms t i key ≡ Some (string name) → (row : Members) × (table_at ms t i ≡ Some row) × (name_in row key ≡ name)
+  name_is : (t : Table) (i : ℕ) (key : Key) (name : List ℕ) → Contains (fields_of t) (needed_name key) → found_at ms t i key ≡ Some (string name) → (row : Members) × (table_at ms t i ≡ Some row) ×
+      (name_in row key ≡ name)
   name_is t i key name field found =
       let (row, at, value) = found_parts (table_at ms t i) (text_of key) (string name) found in
       let stands = name_stands t i row key at field in
@@ -85,7 +88,8 @@ module _ (ms : Members) (good : HasGoodFields ms) where
 
     -- a name is none of these exactly if none of the tables has it
     no_name : (name : List ℕ) → is_some (position (bytes_eq name) names) ≡ false → (j : ℕ) → found_at ms t j key ≢ Some (string name)
-    no_name name e j found = true≢false (sym (some_position (bytes_eq name) names ∙ list_any_true (bytes_eq name) names name (Contains-slice_get names j name (found_name j name found)) ((bytes_eq-Decides name name).1 refl)) ∙ e)
+    no_name name e j found = true≢false (sym (some_position (bytes_eq name) names ∙ list_any_true (bytes_eq name) names name (Contains-slice_get names j name (found_name j name found))
+        ((bytes_eq-Decides name name).1 refl)) ∙ e)
 
     name_missing : (name : List ℕ) → ((j : ℕ) → found_at ms t j key ≢ Some (string name)) → is_some (position (bytes_eq name) names) ≡ false
     name_missing name none = false_from_ne_true (is_some (position (bytes_eq name) names)) (λ e.
@@ -109,7 +113,8 @@ module _ (name : List ℕ) (before : List (List ℕ)) (last : List ℕ) where
   still_among e = list_any-append (bytes_eq name) before (last ∷ []) ∙ or_left (list_any (bytes_eq name) before) (bytes_eq name last || false) e
 
   now_among : last ≡ name → list_any (bytes_eq name) (before ++ last ∷ []) ≡ true
-  now_among same = list_any-append (bytes_eq name) before (last ∷ []) ∙ or_right (list_any (bytes_eq name) before) (bytes_eq name last || false) (or_left (bytes_eq name last) false ((bytes_eq-Decides name last).1 (sym same)))
+  now_among same = list_any-append (bytes_eq name) before (last ∷ []) ∙ or_right (list_any (bytes_eq name) before) (bytes_eq name last || false)
+      (or_left (bytes_eq name last) false ((bytes_eq-Decides name last).1 (sym same)))
 
 onward : (i k : ℕ) → (i + 1) + k ≡ i + suc k
 onward i k = omega arith
@@ -118,10 +123,13 @@ module _ (ms : Members) (t : Table) (key : Key) (own : is_own_name t key ≡ tru
   abbrev StandsBefore : ℕ → List ℕ → Type 0
   StandsBefore i name = (j : ℕ) × (j < i) × (found_at ms t j key ≡ Some (string name))
 
-  doubles_are_twice : (i : ℕ) (before names : List (List ℕ)) → ((name : List ℕ) → list_any (bytes_eq name) before ≡ true → StandsBefore i name) → Stand (λ i name. found_at ms t i key ≡ Some (string name)) i names → Each (IsTwice ms) (doubles_from t key i before names)
+  doubles_are_twice : (i : ℕ) (before names : List (List ℕ)) → ((name : List ℕ) → list_any (bytes_eq name) before ≡ true → StandsBefore i name) →
+      Stand (λ i name. found_at ms t i key ≡ Some (string name)) i names → Each (IsTwice ms) (doubles_from t key i before names)
   doubles_are_twice i before [] seen stand = tt
-  doubles_are_twice i before (name ∷ names) seen stand = each_joined (IsTwice ms) (unless (not (list_any (bytes_eq name) before)) (DoubleName (place t i key))) (doubles_from t key (i + 1) (before ++ name ∷ []) names)
-      (each_unless (IsTwice ms) (not (list_any (bytes_eq name) before)) (DoubleName (place t i key)) (λ e. let (j, l, found) = seen name (not-false (list_any (bytes_eq name) before) e) in (place t i key, refl, inl (own, name, stand.0, j, l, found))))
+  doubles_are_twice i before (name ∷ names) seen stand = each_joined (IsTwice ms) (unless (not (list_any (bytes_eq name) before)) (DoubleName (place t i key)))
+      (doubles_from t key (i + 1) (before ++ name ∷ []) names)
+      (each_unless (IsTwice ms) (not (list_any (bytes_eq name) before)) (DoubleName (place t i key))
+      (λ e. let (j, l, found) = seen name (not-false (list_any (bytes_eq name) before) e) in (place t i key, refl, inl (own, name, stand.0, j, l, found))))
       (doubles_are_twice (i + 1) (before ++ name ∷ []) names (λ other e. more other (among_more other before name e)) stand.1)
     where
       more : (other : List ℕ) → (list_any (bytes_eq other) before ≡ true) ⊎ (other ≡ name) → StandsBefore (i + 1) other
@@ -129,21 +137,26 @@ module _ (ms : Members) (t : Table) (key : Key) (own : is_own_name t key ≡ tru
       more other (inr same) = (i, omega arith, stand.0 ∙ ap (λ n. Some (string n)) (sym same))
 
 module _ (t : Table) (key : Key) where
-  double_from : (i k : ℕ) (before names : List (List ℕ)) (name : List ℕ) → slice_get names k ≡ Some name → (list_any (bytes_eq name) before ≡ true) ⊎ ((j : ℕ) × (j < k) × (slice_get names j ≡ Some name)) → Contains (doubles_from t key i before names) (DoubleName (place t (i + k) key))
+  double_from : (i k : ℕ) (before names : List (List ℕ)) (name : List ℕ) → slice_get names k ≡ Some name → (list_any (bytes_eq name) before ≡ true) ⊎
+      ((j : ℕ) × (j < k) × (slice_get names j ≡ Some name)) → Contains (doubles_from t key i before names) (DoubleName (place t (i + k) key))
   double_from i k before [] name e seen = cc
-  double_from i zero before (n ∷ names) name e (inl seen) = Contains-append_left (unless (not (list_any (bytes_eq n) before)) (DoubleName (place t i key))) (doubles_from t key (i + 1) (before ++ n ∷ []) names) (DoubleName (place t (i + 0) key))
+  double_from i zero before (n ∷ names) name e (inl seen) = Contains-append_left (unless (not (list_any (bytes_eq n) before)) (DoubleName (place t i key)))
+      (doubles_from t key (i + 1) (before ++ n ∷ []) names) (DoubleName (place t (i + 0) key))
       (subst (λ at. Contains (unless (not (list_any (bytes_eq n) before)) (DoubleName (place t i key))) (DoubleName (place t at key))) (sym (add-zero i))
       (unless_contains (not (list_any (bytes_eq n) before)) (DoubleName (place t i key)) (ap not (ap (λ z. list_any (bytes_eq z) before) (let same : n ≡ name = cc in same) ∙ seen))))
   double_from i zero before (n ∷ names) name e (inr seen) = absurd (let l = seen.1 in omega (arith, l))
-  double_from i (suc k) before (n ∷ names) name e seen = Contains-append_right (unless (not (list_any (bytes_eq n) before)) (DoubleName (place t i key))) (doubles_from t key (i + 1) (before ++ n ∷ []) names) (DoubleName (place t (i + suc k) key))
+  double_from i (suc k) before (n ∷ names) name e seen = Contains-append_right (unless (not (list_any (bytes_eq n) before)) (DoubleName (place t i key)))
+      (doubles_from t key (i + 1) (before ++ n ∷ []) names) (DoubleName (place t (i + suc k) key))
       (subst (λ at. Contains (doubles_from t key (i + 1) (before ++ n ∷ []) names) (DoubleName (place t at key))) (onward i k) (double_from (i + 1) k (before ++ n ∷ []) names name e (more seen)))
     where
-      more : (list_any (bytes_eq name) before ≡ true) ⊎ ((j : ℕ) × (j < suc k) × (slice_get (n ∷ names) j ≡ Some name)) → (list_any (bytes_eq name) (before ++ n ∷ []) ≡ true) ⊎ ((j : ℕ) × (j < k) × (slice_get names j ≡ Some name))
+      more : (list_any (bytes_eq name) before ≡ true) ⊎ ((j : ℕ) × (j < suc k) × (slice_get (n ∷ names) j ≡ Some name)) → (list_any (bytes_eq name) (before ++ n ∷ []) ≡ true) ⊎
+          ((j : ℕ) × (j < k) × (slice_get names j ≡ Some name))
       more (inl h) = inl (still_among name before n h)
       more (inr (zero, l, is)) = inl (now_among name before n (let same : n ≡ name = cc in same))
       more (inr (suc j, l, is)) = inr (j, omega (arith, l), is)
 
-  double_at : (i j : ℕ) (names : List (List ℕ)) (name : List ℕ) → slice_get names i ≡ Some name → j < i → slice_get names j ≡ Some name → Contains (doubles_from t key 0 [] names) (DoubleName (place t i key))
+  double_at : (i j : ℕ) (names : List (List ℕ)) (name : List ℕ) → slice_get names i ≡ Some name → j < i → slice_get names j ≡ Some name →
+      Contains (doubles_from t key 0 [] names) (DoubleName (place t i key))
   double_at i j names name here l there = subst (λ at. Contains (doubles_from t key 0 [] names) (DoubleName (place t at key))) (zero-add i) (double_from 0 i [] names name here (inr (j, l, there)))
 
 -- ---- names of a list
@@ -194,7 +207,8 @@ none_double t key i before (name ∷ names) e = by (list_any (bytes_eq name) bef
 
 two_differ_not : (names : List (List ℕ)) → HasTwice names → differ_from [] names ≡ false
 two_differ_not names (name, i, here, j, l, there) = false_from_ne_true (differ_from [] names)
-    (λ e. Contains-nil (DoubleName (place tables.Node i Name)) (subst (λ faults. Contains faults (DoubleName (place tables.Node i Name))) (none_double tables.Node Name 0 [] names e) (double_at tables.Node Name i j names name here l there)))
+    (λ e. Contains-nil (DoubleName (place tables.Node i Name))
+    (subst (λ faults. Contains faults (DoubleName (place tables.Node i Name))) (none_double tables.Node Name 0 [] names e) (double_at tables.Node Name i j names name here l there)))
 
 some_fails : (test : List ℕ → Bool) (xs : List (List ℕ)) → list_all test xs ≡ false → (x : List ℕ) × Contains xs x × (test x ≡ false)
 some_fails test [] e = absurd (true≢false e)
@@ -232,7 +246,8 @@ module _ (ms : Members) (good : HasGoodFields ms) where
   processes_named : process_names (map process_in (elements ms Process)) ≡ all_processes
   processes_named = mapped_twice process_in (λ p. p.name) (elements ms Process)
 
-  stand_twice : (t : Table) (key : Key) (rows : List Members) → ((i : ℕ) → table_at ms t i ≡ slice_get rows i) → Contains (fields_of t) (needed_name key) → is_own_name t key ≡ true → (texts : List (List ℕ)) → texts ≡ map (λ row. name_in row key) rows → Each (IsTwice ms) (doubles_from t key 0 [] texts)
+  stand_twice : (t : Table) (key : Key) (rows : List Members) → ((i : ℕ) → table_at ms t i ≡ slice_get rows i) → Contains (fields_of t) (needed_name key) → is_own_name t key ≡ true →
+      (texts : List (List ℕ)) → texts ≡ map (λ row. name_in row key) rows → Each (IsTwice ms) (doubles_from t key 0 [] texts)
   stand_twice t key rows are field own texts same = subst (λ names. Each (IsTwice ms) (doubles_from t key 0 [] names)) (sym same)
       (doubles_are_twice ms t key own 0 [] (map (λ row. name_in row key) rows) (λ name e. absurd (true≢false (sym e))) (names_stand ms good t key rows are field))
 
@@ -240,15 +255,18 @@ module _ (ms : Members) (good : HasGoodFields ms) where
   doubles_stand =
       each_joined (IsTwice ms) _ _ (stand_twice tables.Node Name (elements ms Node) (λ i. refl) (0, omega arith, refl) refl node_names refl)
       (each_joined (IsTwice ms) _ _ (stand_twice tables.Slot Node (elements ms Slot) (λ i. refl) (0, omega arith, refl) refl (slot_names (map slot_in (elements ms Slot))) slots_named)
-      (each_joined (IsTwice ms) _ _ (stand_twice tables.Process Name (elements ms Process) (λ i. refl) (0, omega arith, refl) refl (process_names (map process_in (elements ms Process))) processes_named)
+      (each_joined (IsTwice ms) _ _ (stand_twice tables.Process Name (elements ms Process) (λ i. refl) (0, omega arith, refl) refl
+      (process_names (map process_in (elements ms Process))) processes_named)
       (each_unless (IsTwice ms) (differ_from [] (order_names ms)) (DoubleName order_place) (λ e. (order_place, refl, inr (refl, stand_in_two (order_names ms) e))))))
 
-  double_of : (t : Table) (key : Key) (rows : List Members) → ((i : ℕ) → table_at ms t i ≡ slice_get rows i) → Contains (fields_of t) (needed_name key) → (texts : List (List ℕ)) → texts ≡ map (λ row. name_in row key) rows →
+  double_of : (t : Table) (key : Key) (rows : List Members) → ((i : ℕ) → table_at ms t i ≡ slice_get rows i) → Contains (fields_of t) (needed_name key) → (texts : List (List ℕ)) →
+      texts ≡ map (λ row. name_in row key) rows →
       (i j : ℕ) (name : List ℕ) → found_at ms t i key ≡ Some (string name) → j < i → found_at ms t j key ≡ Some (string name) → Contains (doubles_from t key 0 [] texts) (DoubleName (place t i key))
   double_of t key rows are field texts same i j name here l there = subst (λ names. Contains (doubles_from t key 0 [] names) (DoubleName (place t i key))) (sym same)
       (double_at t key i j (map (λ row. name_in row key) rows) name (found_name ms good t key rows are field i name here) l (found_name ms good t key rows are field j name there))
 
-  double_in : (t : Table) (key : Key) → is_own_name t key ≡ true → (i j : ℕ) (name : List ℕ) → found_at ms t i key ≡ Some (string name) → j < i → found_at ms t j key ≡ Some (string name) → Contains (double_faults (graph_in ms)) (DoubleName (place t i key))
+  double_in : (t : Table) (key : Key) → is_own_name t key ≡ true → (i j : ℕ) (name : List ℕ) → found_at ms t i key ≡ Some (string name) → j < i → found_at ms t j key ≡ Some (string name) →
+      Contains (double_faults (graph_in ms)) (DoubleName (place t i key))
   double_in tables.Node Name own i j name here l there = Contains-append_left (doubles_from tables.Node Name 0 [] node_names) _ (DoubleName (place tables.Node i Name))
       (double_of tables.Node Name (elements ms Node) (λ i. refl) (0, omega arith, refl) node_names refl i j name here l there)
   double_in tables.Slot Node own i j name here l there = Contains-append_right (doubles_from tables.Node Name 0 [] node_names) _ (DoubleName (place tables.Slot i Node))
@@ -281,16 +299,19 @@ module _ (ms : Members) (good : HasGoodFields ms) where
   no_node name e = no_name ms good tables.Node Name (elements ms Node) (λ i. refl) (0, omega arith, refl) name e
 
   no_process : (name : List ℕ) → is_some (position (bytes_eq name) process_texts) ≡ false → (j : ℕ) → found_at ms tables.Process j Name ≢ Some (string name)
-  no_process name e = no_name ms good tables.Process Name (elements ms Process) (λ i. refl) (0, omega arith, refl) name (ap (λ names. is_some (position (bytes_eq name) names)) (sym (processes_named ms good)) ∙ e)
+  no_process name e = no_name ms good tables.Process Name (elements ms Process) (λ i. refl) (0, omega arith, refl) name
+      (ap (λ names. is_some (position (bytes_eq name) names)) (sym (processes_named ms good)) ∙ e)
 
   node_missing : (name : List ℕ) → ((j : ℕ) → found_at ms tables.Node j Name ≢ Some (string name)) → is_some (position (bytes_eq name) (node_names ms good)) ≡ false
   node_missing name none = name_missing ms good tables.Node Name (elements ms Node) (λ i. refl) (0, omega arith, refl) name none
 
   process_missing : (name : List ℕ) → ((j : ℕ) → found_at ms tables.Process j Name ≢ Some (string name)) → is_some (position (bytes_eq name) process_texts) ≡ false
-  process_missing name none = ap (λ names. is_some (position (bytes_eq name) names)) (processes_named ms good) ∙ name_missing ms good tables.Process Name (elements ms Process) (λ i. refl) (0, omega arith, refl) name none
+  process_missing name none = ap (λ names. is_some (position (bytes_eq name) names)) (processes_named ms good) ∙
+      name_missing ms good tables.Process Name (elements ms Process) (λ i. refl) (0, omega arith, refl) name none
 
   -- one name of a table
-  nameless : (t : Table) (key : Key) (others : Table) (names : List (List ℕ)) (i : ℕ) (row : Members) → table_at ms t i ≡ Some row → Contains (fields_of t) (needed_name key) → named_in t key ≡ Some others →
+  nameless : (t : Table) (key : Key) (others : Table) (names : List (List ℕ)) (i : ℕ) (row : Members) → table_at ms t i ≡ Some row → Contains (fields_of t) (needed_name key) →
+      named_in t key ≡ Some others →
       ((name : List ℕ) → is_some (position (bytes_eq name) names) ≡ false → (j : ℕ) → found_at ms others j Name ≢ Some (string name)) → Each (IsNameless ms) (unknown names (name_in row key) t i key)
   nameless t key others names i row at field named missing = each_unless (IsNameless ms) (is_some (position (bytes_eq (name_in row key)) names)) (UnknownName (place t i key))
       (λ e. (place t i key, refl, inl (others, named, name_in row key, name_stands ms good t i row key at field, missing (name_in row key) e)))
@@ -301,12 +322,18 @@ module _ (ms : Members) (good : HasGoodFields ms) where
   pub unknowns_stand : Each (IsNameless ms) (unknown_faults (graph_in ms))
   unknowns_stand =
       each_joined (IsNameless ms) _ _ (subst (Each (IsNameless ms)) (sym (of_each_mapped (λ i s. unknown (node_names ms good) s.node tables.Slot i Node) slot_in 0 (elements ms Slot)))
-      (each_of_each (IsNameless ms) (stands_in Slot) (λ i row. unknown (node_names ms good) (name_in row Node) tables.Slot i Node) (λ i row at. nameless tables.Slot Node tables.Node (node_names ms good) i row at (0, omega arith, refl) refl no_node) 0 (elements ms Slot) (stand_all (stands_in Slot) (elements ms Slot) (λ k row e. e))))
+      (each_of_each (IsNameless ms) (stands_in Slot) (λ i row. unknown (node_names ms good) (name_in row Node) tables.Slot i Node)
+      (λ i row at. nameless tables.Slot Node tables.Node (node_names ms good) i row at (0, omega arith, refl) refl no_node) 0 (elements ms Slot)
+      (stand_all (stands_in Slot) (elements ms Slot) (λ k row e. e))))
       (each_joined (IsNameless ms) _ _ (subst (Each (IsNameless ms)) (sym (of_each_mapped (λ i p. unknown (node_names ms good) p.node tables.Process i Node) process_in 0 (elements ms Process)))
-      (each_of_each (IsNameless ms) (stands_in Process) (λ i row. unknown (node_names ms good) (name_in row Node) tables.Process i Node) (λ i row at. nameless tables.Process Node tables.Node (node_names ms good) i row at (1, omega arith, refl) refl no_node) 0 (elements ms Process) (stand_all (stands_in Process) (elements ms Process) (λ k row e. e))))
+      (each_of_each (IsNameless ms) (stands_in Process) (λ i row. unknown (node_names ms good) (name_in row Node) tables.Process i Node)
+      (λ i row at. nameless tables.Process Node tables.Node (node_names ms good) i row at (1, omega arith, refl) refl no_node) 0 (elements ms Process)
+      (stand_all (stands_in Process) (elements ms Process) (λ k row e. e))))
       (each_joined (IsNameless ms) _ _ (subst (Each (IsNameless ms)) (sym (of_each_mapped (unknown_ends process_texts) edge_in 0 (elements ms Edge)))
       (each_of_each (IsNameless ms) (stands_in Edge) (λ i row. unknown_ends process_texts i (edge_in row))
-      (λ i row at. each_joined (IsNameless ms) (unknown process_texts (name_in row From) tables.Edge i From) (unknown process_texts (name_in row To) tables.Edge i To) (nameless tables.Edge From tables.Process process_texts i row at (0, omega arith, refl) refl no_process) (nameless tables.Edge To tables.Process process_texts i row at (1, omega arith, refl) refl no_process))
+      (λ i row at. each_joined (IsNameless ms) (unknown process_texts (name_in row From) tables.Edge i From) (unknown process_texts (name_in row To) tables.Edge i To)
+      (nameless tables.Edge From tables.Process process_texts i row at (0, omega arith, refl) refl no_process)
+      (nameless tables.Edge To tables.Process process_texts i row at (1, omega arith, refl) refl no_process))
       0 (elements ms Edge) (stand_all (stands_in Edge) (elements ms Edge) (λ k row e. e))))
       (each_unless (IsNameless ms) (list_all (is_known process_texts) (order_names ms)) (UnknownName order_place)
       (λ e. let (name, c, not_known) = some_fails (is_known process_texts) (order_names ms) e in (order_place, refl, inr (refl, (name, c, no_process name not_known)))))))
@@ -325,34 +352,43 @@ module _ (ms : Members) (good : HasGoodFields ms) where
   order_part = order_unknowns process_texts (order_names ms)
 
   -- a name that names nothing is told of its place
-  name_told : (names : List (List ℕ)) (name other : List ℕ) (t : Table) (i : ℕ) (key : Key) → other ≡ name → is_some (position (bytes_eq name) names) ≡ false → Contains (unknown names other t i key) (UnknownName (place t i key))
+  name_told : (names : List (List ℕ)) (name other : List ℕ) (t : Table) (i : ℕ) (key : Key) → other ≡ name → is_some (position (bytes_eq name) names) ≡ false →
+      Contains (unknown names other t i key) (UnknownName (place t i key))
   name_told names name other t i key same e = unless_contains (is_some (position (bytes_eq other) names)) (UnknownName (place t i key)) (ap (λ n. is_some (position (bytes_eq n) names)) same ∙ e)
 
-  unknown_in : (t : Table) (key : Key) (others : Table) → named_in t key ≡ Some others → (i : ℕ) (name : List ℕ) → found_at ms t i key ≡ Some (string name) → ((j : ℕ) → found_at ms others j Name ≢ Some (string name)) → Contains (unknown_faults (graph_in ms)) (UnknownName (place t i key))
+  unknown_in : (t : Table) (key : Key) (others : Table) → named_in t key ≡ Some others → (i : ℕ) (name : List ℕ) → found_at ms t i key ≡ Some (string name) →
+      ((j : ℕ) → found_at ms others j Name ≢ Some (string name)) → Contains (unknown_faults (graph_in ms)) (UnknownName (place t i key))
   unknown_in tables.Slot Node others named i name found none =
       let (row, at, same) = name_is ms good tables.Slot i Node name (0, omega arith, refl) found in
       let is : others ≡ tables.Node = cc in
       Contains-append_left slots_part (processes_part ++ (edges_part ++ order_part)) (UnknownName (place tables.Slot i Node))
-      (of_each_contains (λ i s. unknown (node_names ms good) s.node tables.Slot i Node) (UnknownName (place tables.Slot i Node)) i (map slot_in (elements ms Slot)) (slot_in row) (slice_get-map slot_in (elements ms Slot) i ∙ ap (option_map slot_in) at)
+      (of_each_contains (λ i s. unknown (node_names ms good) s.node tables.Slot i Node) (UnknownName (place tables.Slot i Node)) i (map slot_in (elements ms Slot)) (slot_in row)
+      (slice_get-map slot_in (elements ms Slot) i ∙ ap (option_map slot_in) at)
       (name_told (node_names ms good) name (name_in row Node) tables.Slot i Node same (node_missing name (subst (λ t. (j : ℕ) → found_at ms t j Name ≢ Some (string name)) is none))))
   unknown_in tables.Process Node others named i name found none =
       let (row, at, same) = name_is ms good tables.Process i Node name (1, omega arith, refl) found in
       let is : others ≡ tables.Node = cc in
-      Contains-append_right slots_part (processes_part ++ (edges_part ++ order_part)) (UnknownName (place tables.Process i Node)) (Contains-append_left processes_part (edges_part ++ order_part) (UnknownName (place tables.Process i Node))
-      (of_each_contains (λ i p. unknown (node_names ms good) p.node tables.Process i Node) (UnknownName (place tables.Process i Node)) i (map process_in (elements ms Process)) (process_in row) (slice_get-map process_in (elements ms Process) i ∙ ap (option_map process_in) at)
+      Contains-append_right slots_part (processes_part ++ (edges_part ++ order_part)) (UnknownName (place tables.Process i Node))
+      (Contains-append_left processes_part (edges_part ++ order_part) (UnknownName (place tables.Process i Node))
+      (of_each_contains (λ i p. unknown (node_names ms good) p.node tables.Process i Node) (UnknownName (place tables.Process i Node)) i (map process_in (elements ms Process)) (process_in row)
+      (slice_get-map process_in (elements ms Process) i ∙ ap (option_map process_in) at)
       (name_told (node_names ms good) name (name_in row Node) tables.Process i Node same (node_missing name (subst (λ t. (j : ℕ) → found_at ms t j Name ≢ Some (string name)) is none)))))
   unknown_in tables.Edge From others named i name found none =
       let (row, at, same) = name_is ms good tables.Edge i From name (0, omega arith, refl) found in
       let is : others ≡ tables.Process = cc in
-      Contains-append_right slots_part (processes_part ++ (edges_part ++ order_part)) (UnknownName (place tables.Edge i From)) (Contains-append_right processes_part (edges_part ++ order_part) (UnknownName (place tables.Edge i From)) (Contains-append_left edges_part order_part (UnknownName (place tables.Edge i From))
-      (of_each_contains (unknown_ends process_texts) (UnknownName (place tables.Edge i From)) i (map edge_in (elements ms Edge)) (edge_in row) (slice_get-map edge_in (elements ms Edge) i ∙ ap (option_map edge_in) at)
+      Contains-append_right slots_part (processes_part ++ (edges_part ++ order_part)) (UnknownName (place tables.Edge i From))
+      (Contains-append_right processes_part (edges_part ++ order_part) (UnknownName (place tables.Edge i From)) (Contains-append_left edges_part order_part (UnknownName (place tables.Edge i From))
+      (of_each_contains (unknown_ends process_texts) (UnknownName (place tables.Edge i From)) i (map edge_in (elements ms Edge)) (edge_in row)
+      (slice_get-map edge_in (elements ms Edge) i ∙ ap (option_map edge_in) at)
       (Contains-append_left (unknown process_texts (name_in row From) tables.Edge i From) (unknown process_texts (name_in row To) tables.Edge i To) (UnknownName (place tables.Edge i From))
       (name_told process_texts name (name_in row From) tables.Edge i From same (process_missing name (subst (λ t. (j : ℕ) → found_at ms t j Name ≢ Some (string name)) is none)))))))
   unknown_in tables.Edge To others named i name found none =
       let (row, at, same) = name_is ms good tables.Edge i To name (1, omega arith, refl) found in
       let is : others ≡ tables.Process = cc in
-      Contains-append_right slots_part (processes_part ++ (edges_part ++ order_part)) (UnknownName (place tables.Edge i To)) (Contains-append_right processes_part (edges_part ++ order_part) (UnknownName (place tables.Edge i To)) (Contains-append_left edges_part order_part (UnknownName (place tables.Edge i To))
-      (of_each_contains (unknown_ends process_texts) (UnknownName (place tables.Edge i To)) i (map edge_in (elements ms Edge)) (edge_in row) (slice_get-map edge_in (elements ms Edge) i ∙ ap (option_map edge_in) at)
+      Contains-append_right slots_part (processes_part ++ (edges_part ++ order_part)) (UnknownName (place tables.Edge i To))
+      (Contains-append_right processes_part (edges_part ++ order_part) (UnknownName (place tables.Edge i To)) (Contains-append_left edges_part order_part (UnknownName (place tables.Edge i To))
+      (of_each_contains (unknown_ends process_texts) (UnknownName (place tables.Edge i To)) i (map edge_in (elements ms Edge)) (edge_in row)
+      (slice_get-map edge_in (elements ms Edge) i ∙ ap (option_map edge_in) at)
       (Contains-append_right (unknown process_texts (name_in row From) tables.Edge i From) (unknown process_texts (name_in row To) tables.Edge i To) (UnknownName (place tables.Edge i To))
       (name_told process_texts name (name_in row To) tables.Edge i To same (process_missing name (subst (λ t. (j : ℕ) → found_at ms t j Name ≢ Some (string name)) is none)))))))
   unknown_in t key others named i name found none = absurd (nothing others named)
@@ -360,5 +396,6 @@ module _ (ms : Members) (good : HasGoodFields ms) where
   pub unknown_there : (at : Place) → IsUnknown ms at → Contains (unknown_faults (graph_in ms)) (UnknownName at)
   unknown_there at (inl (others, named, name, found, none)) = unknown_in at.table at.key others named at.index name found none
   unknown_there at (inr (same, other)) = let (name, c, none) = other in subst (λ p. Contains (unknown_faults (graph_in ms)) (UnknownName p)) (sym same)
-      (Contains-append_right slots_part (processes_part ++ (edges_part ++ order_part)) (UnknownName order_place) (Contains-append_right processes_part (edges_part ++ order_part) (UnknownName order_place) (Contains-append_right edges_part order_part (UnknownName order_place)
+      (Contains-append_right slots_part (processes_part ++ (edges_part ++ order_part)) (UnknownName order_place)
+      (Contains-append_right processes_part (edges_part ++ order_part) (UnknownName order_place) (Contains-append_right edges_part order_part (UnknownName order_place)
       (unless_contains (list_all (is_known process_texts) (order_names ms)) (UnknownName order_place) (one_fails (is_known process_texts) (order_names ms) name c (process_missing name none))))))

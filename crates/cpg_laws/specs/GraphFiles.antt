@@ -12,10 +12,10 @@ use Rattle.cpg_reader.specs.declared.place.What.{What}
 use Rattle.cpg_reader.specs.declared.place.What.TheVariants.{Nodes, Slots, Processes, Edges, Number, Conditions}
 use Rattle.cpg_reader.specs.declared.place.ReadFault.{ReadFault}
 use Rattle.cpg_reader.specs.declared.place.ReadFault.TheVariants.{BadField, DoubleName, UnknownName, OverLimit}
-use Rattle.cpg_reader.specs.declared.ranges.Bounded.{Bounded}
+use Rattle.cpg_reader.specs.declared.ranges.BoundedField.{BoundedField}
 use Rattle.cpg_reader.specs.declared.shape.RawEdge.{RawEdge}
 use Rattle.cpg_reader.specs.Reading.{Reading}
-use Rattle.cpg_reader.specs.Rows.{Row, place_in, value_at, as_name, as_names, as_tables, are_listed}
+use Rattle.cpg_reader.specs.Rows.{DocumentRow, place_in, value_at, as_name, as_names, as_tables, are_listed}
 use Rattle.cpg_reader.specs.Shape.{RawGraph, raw_graph_at}
 use Rattle.cpg_reader.specs.Ranges.{top_numbers, slot_numbers, process_numbers, edge_numbers, is_within, sources, different}
 use Rattle.cpg_reader.specs.Names.{place, slot_names, process_names}
@@ -92,14 +92,14 @@ abbrev pub edge_fields : List Field
 edge_fields = needed_name From ∷ needed_name To ∷ integer Bytes ∷ flag When ∷ flag Frozen ∷ []
 
 -- the fields that aren't good, and then a key that is none of theirs
-abbrev pub bad_fields : Row → List Key → List Field → List ReadFault
+abbrev pub bad_fields : DocumentRow → List Key → List Field → List ReadFault
 bad_fields row keys [] = unless (are_listed keys row.members) (BadField (place_in row Unknown))
 bad_fields row keys (f ∷ fs) = unless (is_good_value f (value_at row f.key)) (BadField (place_in row f.key)) ++ bad_fields row keys fs
 
-abbrev pub bad_in : List Field → Row → List ReadFault
+abbrev pub bad_in : List Field → DocumentRow → List ReadFault
 bad_in fields row = bad_fields row (map (λ f. f.key) fields) fields
 
-abbrev pub top_of : Members → Row
+abbrev pub top_of : Members → DocumentRow
 top_of ms = record { table = tables.Top; index = 0; members = ms }
 
 -- the elements of a list of the document, if it is one
@@ -122,12 +122,12 @@ field_faults ms = bad_in top_fields (top_of ms)
 abbrev pub too_many : {T : Type 0} → ℕ → What → List T → List ReadFault
 too_many limit what xs = unless (nat_le (length xs) limit) (OverLimit what)
 
-abbrev pub out_of_range : Table → ℕ → List Bounded → List ReadFault
+abbrev pub out_of_range : Table → ℕ → List BoundedField → List ReadFault
 out_of_range table i [] = []
 out_of_range table i (n ∷ ns) = unless (is_within n.low n.high n.value)
     (OverLimit (Number (record { table = table; index = i; key = n.key }))) ++ out_of_range table i ns
 
-abbrev pub all_out_of_range : {T : Type 0} → Table → (T → List Bounded) → List T → List ReadFault
+abbrev pub all_out_of_range : {T : Type 0} → Table → (T → List BoundedField) → List T → List ReadFault
 all_out_of_range table numbers_of xs = of_each (λ i x. out_of_range table i (numbers_of x)) 0 xs
 
 abbrev pub limit_faults : RawGraph → List ReadFault

@@ -34,14 +34,14 @@ abbrev pub CyclesAreRefusedFirst : Type 0
 CyclesAreRefusedFirst = (g : Graph) (answer : Result Admission RuleFault) → MayAnswer g answer → answer ≢ Err OutOfMemory → RefusesCycles g answer
 
 -- which cause a refusal tells, by its place among them
-abbrev pub place_of : RuleFault → ℕ
-place_of (Cycle walk) = 0
-place_of TooManyTracks = 1
-place_of (TwoAlternatives p least) = 2
-place_of (NoSlot node) = 3
-place_of (TooBig e) = 4
-place_of (BadOrder p) = 5
-place_of OutOfMemory = 6
+abbrev pub rank_of_fault : RuleFault → ℕ
+rank_of_fault (Cycle walk) = 0
+rank_of_fault TooManyTracks = 1
+rank_of_fault (TwoAlternatives p least) = 2
+rank_of_fault (NoSlot node) = 3
+rank_of_fault (TooBig e) = 4
+rank_of_fault (BadOrder p) = 5
+rank_of_fault OutOfMemory = 6
 
 -- a join with two live inputs: the least, with the least scenario along the urgency order
 pub record HasTwoInputs (g : Graph) (p : ℕ) (least : Scenario) : Type 0 where
@@ -63,8 +63,8 @@ IsFirstCause g OutOfMemory = ⊤
 pub record AreFirstCauses (g : Graph) : Type 0 where
   pub first : (fault : RuleFault) → ShowsFault g fault → IsFirstCause g fault
   pub one : (fault other : RuleFault) → fault ≢ OutOfMemory → other ≢ OutOfMemory → IsFirstCause g fault → IsFirstCause g other →
-      place_of fault ≡ place_of other
-  pub same : (fault other : RuleFault) → fault ≢ OutOfMemory → other ≢ OutOfMemory → 0 < place_of fault → IsFirstCause g fault →
+      rank_of_fault fault ≡ rank_of_fault other
+  pub same : (fault other : RuleFault) → fault ≢ OutOfMemory → other ≢ OutOfMemory → 0 < rank_of_fault fault → IsFirstCause g fault →
       IsFirstCause g other → fault ≡ other
 
 -- the refusal of each graph tells the first cause

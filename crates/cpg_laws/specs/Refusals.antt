@@ -86,13 +86,13 @@ limit_of (Number place) = 4 ∷ numbers_of place
 limit_of Conditions = 5 ∷ []
 
 -- where a fault stands among those of its kind
-abbrev pub place_of : ReadFault → List ℕ
-place_of NotToml = []
-place_of (BadField place) = numbers_of place
-place_of (OverLimit what) = limit_of what
-place_of (DoubleName place) = name_numbers_of place
-place_of (UnknownName place) = name_numbers_of place
-place_of OutOfMemory = []
+abbrev pub place_of_fault : ReadFault → List ℕ
+place_of_fault NotToml = []
+place_of_fault (BadField place) = numbers_of place
+place_of_fault (OverLimit what) = limit_of what
+place_of_fault (DoubleName place) = name_numbers_of place
+place_of_fault (UnknownName place) = name_numbers_of place
+place_of_fault OutOfMemory = []
 
 -- the first number that differs decides, and a list comes before those that go on after it
 abbrev pub IsEarlier : List ℕ → List ℕ → Type 0
@@ -102,14 +102,14 @@ IsEarlier (n ∷ ns) (m ∷ ms) = (n < m) ⊎ ((n ≡ m) × IsEarlier ns ms)
 
 -- a fault is of an earlier kind than another, or at an earlier place in its kind
 abbrev pub ComesBefore : ReadFault → ReadFault → Type 0
-ComesBefore fault other = (kind_of fault < kind_of other) ⊎ ((kind_of fault ≡ kind_of other) × IsEarlier (place_of fault) (place_of other))
+ComesBefore fault other = (kind_of fault < kind_of other) ⊎ ((kind_of fault ≡ kind_of other) × IsEarlier (place_of_fault fault) (place_of_fault other))
 
 -- a fault is the first of those that stand: none of an earlier kind stands anywhere, and none of its kind at an
 -- earlier place
 pub record IsFirstOf (Stands : ReadFault → Type 0) (fault : ReadFault) : Type 0 where
   pub stands : Stands fault
   pub kinds : (other : ReadFault) → Stands other → kind_of fault ≤ kind_of other
-  pub places : (other : ReadFault) → Stands other → kind_of other ≡ kind_of fault → IsEarlier (place_of other) (place_of fault) → ⊥
+  pub places : (other : ReadFault) → Stands other → kind_of other ≡ kind_of fault → IsEarlier (place_of_fault other) (place_of_fault fault) → ⊥
 
 abbrev pub IsFirstRefusal : List ℕ → ReadFault → Type 0
 IsFirstRefusal bytes fault = IsFirstOf (Contains (faults_of bytes)) fault

@@ -48,14 +48,16 @@ module _ (g : Graph) (order : List ℕ) where
   none_sent node = filter_none (λ y. is_sent g y && (home g y == node) && ltb (place order (producer g y)) 0) (numbers_below (item_count g))
       (λ y j. ap (λ b. is_sent g y && (home g y == node) && b) (le-ltb (place order (producer g y)) 0 (omega arith)) ∙ and_false (is_sent g y && (home g y == node)))
 
-  wholes : (k : ℕ) (scenarios : List Scenario) (literals : Scenario → List Literal) (cubes : List (List Literal)) → ((s : Scenario) → literals s ≡ []) → cubes ≡ replicate (length scenarios) [] → AreCubesOf k scenarios literals cubes
+  wholes : (k : ℕ) (scenarios : List Scenario) (literals : Scenario → List Literal) (cubes : List (List Literal)) → ((s : Scenario) → literals s ≡ []) → cubes ≡ replicate (length scenarios) [] →
+      AreCubesOf k scenarios literals cubes
   wholes k scenarios literals cubes none e = record {
     count = ap length e ∙ length-replicate (length scenarios) [];
     each = λ i d l. subst (λ ls. IsCubeOf k ls (get_or cubes i [])) (sym (none (get_or scenarios i d)))
         (subst (IsCubeOf k []) (sym (ap (λ cs. get_or cs i []) e ∙ get_or-replicate (length scenarios) i [] [] l)) (whole_cube k));
   }
 
-  pub none_carried : (rows : List (List Column)) (scenarios : List Scenario) (known sent : List (List (List Literal))) → known ≡ replicate (length g.nodes) (replicate (length scenarios) []) → sent ≡ replicate (length g.nodes) (replicate (length scenarios) [])
+  pub none_carried : (rows : List (List Column)) (scenarios : List Scenario) (known sent : List (List (List Literal))) → known ≡ replicate (length g.nodes) (replicate (length scenarios) []) →
+      sent ≡ replicate (length g.nodes) (replicate (length scenarios) [])
       → AreCarried g order rows scenarios 0 known sent
   none_carried rows scenarios known sent e f = record {
     known_count = ap length e ∙ length-replicate (length g.nodes) (replicate (length scenarios) []);
@@ -66,7 +68,8 @@ module _ (g : Graph) (order : List ℕ) where
         (ap (λ cs. get_or cs node []) f ∙ get_or-replicate (length g.nodes) node (replicate (length scenarios) []) [] l);
   }
 
-  pub all_rows : (topological : IsTopological g order) (urgency : List ℕ) (frozen : List (Option ℕ)) (rows : List Row) → AreMade g urgency order frozen (IsBefore g order (process_count g)) rows → AreRows g urgency order frozen (columns_of_rows rows)
+  pub all_rows : (topological : IsTopological g order) (urgency : List ℕ) (frozen : List (Option ℕ)) (rows : List Row) → AreMade g urgency order frozen (IsBefore g order (process_count g)) rows →
+      AreRows g urgency order frozen (columns_of_rows rows)
   all_rows topological urgency frozen rows are = record {
     count = length-map rows (λ (r : Row). r.columns) ∙ count_of rows (item_count g) are.items;
     each = λ x l. are.each x l (place_in_order (process_count g) order topological.all (producer g x) (omega (arith, producer_in_range g order topological x l)));

@@ -1,5 +1,6 @@
 -- Rows that are made one after another: what holds of those that are there, and of one more.
-use Rattle.std.proofs.Common.{◌≡◌, ◌≢◌, ◌∙◌, ℕ, ◌<◌, ◌≤◌, ◌⊎◌, true, false, List, [], length, get_or, set, All, Bool, Option, Some, arith, refl, sym, ap, inl, inr, subst, get_or-set_same, get_or-set_other}
+use Rattle.std.proofs.Common.{◌≡◌, ◌≢◌, ◌∙◌, ℕ, ◌<◌, ◌≤◌, ◌⊎◌, true, false, List, [], length, get_or, set, All, Bool, Option, Some, arith, refl, sym, ap, inl, inr, subst, get_or-set_same}
+use Rattle.std.proofs.Common.{get_or-set_other}
 use Rattle.std.specs.Prelude.{slice_get}
 use Rattle.std.proofs.lemmas.Bool.{both_ways, and_parts}
 use Rattle.std.proofs.lemmas.List.{get_or-map, map-set, length-map}
@@ -36,7 +37,8 @@ use Rattle.cpg_run.proofs.EntriesMerge.{entries_have_times}
 use Rattle.cpg_run.proofs.RowsTimed.{row_alike, entries_alike, rows_before}
 
 -- with its orders and frozen times an admitted graph has the runs that the laws speak of
-pub timed_of : (g : Graph) (urgency order : List ℕ) (trees : Guards) (frozen : List (Option ℕ)) → IsAdmitted g urgency trees → IsTopological g order → AreFrozenTimes g order frozen → IsTimed g urgency order frozen
+pub timed_of : (g : Graph) (urgency order : List ℕ) (trees : Guards) (frozen : List (Option ℕ)) → IsAdmitted g urgency trees → IsTopological g order → AreFrozenTimes g order frozen →
+    IsTimed g urgency order frozen
 timed_of g urgency order trees frozen is topological times = record {
   admitted = admitted_under g urgency order trees is topological;
   frozen_times = times;
@@ -61,17 +63,20 @@ module _ (rows next : List Row) (x : ℕ) (columns : List Column) (l : x < lengt
   pub items_set : (n : ℕ) → items_of rows ≡ numbers_below n → items_of next ≡ numbers_below n
   items_set n e =
       let blank : Row = record { item = 0; columns = [] } in
-      let own : x ≡ (get_or rows x blank).item = sym (get_or-range_with_len 0 n x 0 (omega (arith, l, count_of rows n e)) ∙ omega arith) ∙ ap (λ xs. get_or xs x 0) (sym e) ∙ get_or-map (λ (r : Row). r.item) rows x blank 0 l in
+      let own : x ≡ (get_or rows x blank).item = sym (get_or-range_with_len 0 n x 0 (omega (arith, l, count_of rows n e)) ∙ omega arith) ∙ ap (λ xs. get_or xs x 0) (sym e) ∙
+      get_or-map (λ (r : Row). r.item) rows x blank 0 l in
       ap items_of is ∙ map-set_same (λ (r : Row). r.item) rows x (record { item = x; columns = columns }) blank own ∙ e
 
 -- ---- one more item made
 
-module _ (g : Graph) (urgency order : List ℕ) (frozen : List (Option ℕ)) (timed : IsTimed g urgency order frozen) (made : ℕ → Type 0) (rows : List Row) (are : AreMade g urgency order frozen made rows) where
+module _ (g : Graph) (urgency order : List ℕ) (frozen : List (Option ℕ)) (timed : IsTimed g urgency order frozen) (made : ℕ → Type 0) (rows : List Row)
+    (are : AreMade g urgency order frozen made rows) where
   -- the rows of earlier items are there
   before_are : (bound : ℕ) → ((y : ℕ) → place order (producer g y) < bound → made y) → AreRowsBefore g order frozen bound (columns_of_rows rows)
   before_are bound there = rows_before g urgency order frozen timed (columns_of_rows rows) bound (λ y e. are.each y e.0 (there y e.1))
 
-  pub told_from : (p : ℕ) → ((y : ℕ) → place order (producer g y) < place order p → made y) → (s : Scenario) (t : Times) → IsScenario g s → IsRun g order frozen s t → EarlierTell g order (columns_of_rows rows) s t p
+  pub told_from : (p : ℕ) → ((y : ℕ) → place order (producer g y) < place order p → made y) → (s : Scenario) (t : Times) → IsScenario g s → IsRun g order frozen s t →
+      EarlierTell g order (columns_of_rows rows) s t p
   told_from p there s t law run x l h = record {
     there = omega (arith, l, length-map rows (λ (r : Row). r.columns), count_of rows (item_count g) are.items);
     times = (before_are (place order p) there).times x (l, h) s t law run;
@@ -106,7 +111,8 @@ module _ (g : Graph) (urgency order : List ℕ) (frozen : List (Option ℕ)) (ti
       }
 
 -- rows that are made are so under another word for what is made
-pub made_same : (g : Graph) (urgency order : List ℕ) (frozen : List (Option ℕ)) (made also : ℕ → Type 0) (rows : List Row) → AreMade g urgency order frozen made rows → ((x : ℕ) → also x → made x) → ((x : ℕ) → made x → also x)
+pub made_same : (g : Graph) (urgency order : List ℕ) (frozen : List (Option ℕ)) (made also : ℕ → Type 0) (rows : List Row) → AreMade g urgency order frozen made rows → ((x : ℕ) → also x → made x) →
+    ((x : ℕ) → made x → also x)
     → AreMade g urgency order frozen also rows
 made_same g urgency order frozen made also rows are to from = record {
   items = are.items;
@@ -135,7 +141,8 @@ no_merge g urgency = record {
     no_column : (i : ℕ) (c : Column) → slice_get [] i ≡ Some c → ⊥
     no_column i c a = cc
 
-pub unsent_row : (g : Graph) (urgency order : List ℕ) (frozen : List (Option ℕ)) (rows : List (List Column)) (x : ℕ) → x < item_count g → process_count g ≤ x → is_sent g x ≡ false → row_at rows x ≡ [] → IsRowOf g urgency order frozen rows x
+pub unsent_row : (g : Graph) (urgency order : List ℕ) (frozen : List (Option ℕ)) (rows : List (List Column)) (x : ℕ) → x < item_count g → process_count g ≤ x → is_sent g x ≡ false →
+    row_at rows x ≡ [] → IsRowOf g urgency order frozen rows x
 unsent_row g urgency order frozen rows x l above off none = record {
   entries = [];
   are = record {

@@ -1,5 +1,6 @@
 -- What is made and carried on as one process after another, and one item of its queue after another, is done.
-use Rattle.std.proofs.Common.{◌≡◌, ◌≢◌, ◌∙◌, ℕ, ◌+◌, ◌<◌, ◌≤◌, ◌⊎◌, true, false, ◌&&◌, ◌==◌, ltb, List, [], ◌∷◌, ◌++◌, length, get_or, set, take, filter, flat_map, Contains, Option, arith, refl, sym, ap, inl, inr, subst, append_assoc, eq-eqb, eqb-true, ne_eqb, lt-ltb, ltb-true, get_or-set_same, get_or-set_other, length-set}
+use Rattle.std.proofs.Common.{◌≡◌, ◌≢◌, ◌∙◌, ℕ, ◌+◌, ◌<◌, ◌≤◌, ◌⊎◌, true, false, ◌&&◌, ◌==◌, ltb, List, [], ◌∷◌, ◌++◌, length, get_or, set, take, filter, flat_map, Contains, Option, arith, refl, sym}
+use Rattle.std.proofs.Common.{ap, inl, inr, subst, append_assoc, eq-eqb, eqb-true, ne_eqb, lt-ltb, ltb-true, get_or-set_same, get_or-set_other, length-set}
 use Rattle.std.proofs.lemmas.Bool.{cases_eq, cases_lt, cases_Bool, cond-true, cond-false, both_ways, and_parts, and_from, or_cases, or_left, or_right}
 use Rattle.std.proofs.lemmas.List.{append-nil, take_more, take_all}
 use Rattle.std.proofs.lemmas.List.Elements.{Contains-append_left, Contains-append_right, Contains-append_cases, Contains-get_or, filter-append}
@@ -53,7 +54,8 @@ module _ (g : Graph) (order : List ℕ) (node i y : ℕ) where
 -- ---- lists of items and processes with the same elements
 
 module _ (k : ℕ) (g : Graph) (order : List ℕ) (rows : List (List Column)) (scenarios : List Scenario) (cubes : List (List Literal)) where
-  pub queued_members : (xs ys : List ℕ) → ((y : ℕ) → Contains xs y → Contains ys y) → ((y : ℕ) → Contains ys y → Contains xs y) → AreCubesOf k scenarios (queued_by g order rows xs) cubes → AreCubesOf k scenarios (queued_by g order rows ys) cubes
+  pub queued_members : (xs ys : List ℕ) → ((y : ℕ) → Contains xs y → Contains ys y) → ((y : ℕ) → Contains ys y → Contains xs y) → AreCubesOf k scenarios (queued_by g order rows xs) cubes →
+      AreCubesOf k scenarios (queued_by g order rows ys) cubes
   queued_members xs ys to from are = record {
     count = are.count;
     each = λ i d l. let f = queued g order rows (get_or scenarios i d) in
@@ -162,7 +164,8 @@ module _ (g : Graph) (order : List ℕ) (topological : IsTopological g order) (p
     pub sent_next : (y : ℕ) → IsSent g order p m y ⊎ (y ≡ nth) → IsSent g order p (m + 1) y
     sent_next y (inl (inl h)) = inl h
     sent_next y (inl (inr c)) = inr (subst (λ ys. Contains ys y) (sym (take_more (queue_of g p) m 0 inside)) (Contains-append_left (take m (queue_of g p)) (nth ∷ []) y c))
-    sent_next y (inr e) = inr (subst (λ ys. Contains ys y) (sym (take_more (queue_of g p) m 0 inside)) (Contains-append_right (take m (queue_of g p)) (nth ∷ []) y (subst (Contains (nth ∷ [])) (sym e) (Contains-first nth []))))
+    sent_next y (inr e) = inr (subst (λ ys. Contains ys y) (sym (take_more (queue_of g p) m 0 inside))
+        (Contains-append_right (take m (queue_of g p)) (nth ∷ []) y (subst (Contains (nth ∷ [])) (sym e) (Contains-first nth []))))
 
     pub sent_back : (y : ℕ) → IsSent g order p (m + 1) y → IsSent g order p m y ⊎ (y ≡ nth)
     sent_back y (inl h) = inl (inl h)
@@ -182,7 +185,8 @@ module _ (g : Graph) (order : List ℕ) (topological : IsTopological g order) (p
     | inl i ↦ let h = stands g order (node_of g p) (place order p) y i in
         stood g order (node_of g p) (place order p + 1) y (record { within = h.within; sent = h.sent; at = h.at; early = omega (arith, h.early) })
     | inr i ↦ let q = in_queue g p y i in
-        stood g order (node_of g p) (place order p + 1) y (record { within = Contains-numbers (item_count g) y q.within; sent = q.sent; at = ap (node_of g) q.by; early = omega (arith, ap (place order) q.by) })
+        stood g order (node_of g p) (place order p + 1) y
+        (record { within = Contains-numbers (item_count g) y q.within; sent = q.sent; at = ap (node_of g) q.by; early = omega (arith, ap (place order) q.by) })
   ]
 
   -- what comes from an earlier process, or from this one
@@ -194,7 +198,8 @@ module _ (g : Graph) (order : List ℕ) (topological : IsTopological g order) (p
 
   pub all_from : (y : ℕ) → Contains (sent_before g order (node_of g p) (place order p + 1)) y → Contains (sent_before g order (node_of g p) (place order p) ++ queue_of g p) y
   all_from y j = let h = stands g order (node_of g p) (place order p + 1) y j in elim (by_place y h.within h.early) [
-    | inl k ↦ Contains-append_left (sent_before g order (node_of g p) (place order p)) (queue_of g p) y (stood g order (node_of g p) (place order p) y (record { within = h.within; sent = h.sent; at = h.at; early = k }))
+    | inl k ↦ Contains-append_left (sent_before g order (node_of g p) (place order p)) (queue_of g p) y
+        (stood g order (node_of g p) (place order p) y (record { within = h.within; sent = h.sent; at = h.at; early = k }))
     | inr e ↦ Contains-append_right (sent_before g order (node_of g p) (place order p)) (queue_of g p) y (queue-Contains g p y (numbers-Contains (item_count g) y h.within) h.sent e)
   ]
 
@@ -211,7 +216,8 @@ module _ (g : Graph) (order : List ℕ) (topological : IsTopological g order) (p
 
   -- ---- all of an earlier place is made once the queue is
 
-  pub made_next : (urgency : List ℕ) (frozen : List (Option ℕ)) (rows : List Row) → AreMade g urgency order frozen (IsSent g order p (length (queue_of g p))) rows → AreMade g urgency order frozen (IsBefore g order (place order p + 1)) rows
+  pub made_next : (urgency : List ℕ) (frozen : List (Option ℕ)) (rows : List Row) → AreMade g urgency order frozen (IsSent g order p (length (queue_of g p))) rows →
+      AreMade g urgency order frozen (IsBefore g order (place order p + 1)) rows
   made_next urgency frozen rows are = record {
     items = are.items;
     each = λ x m h. elim (by_place x (Contains-numbers (item_count g) x m) h) [
@@ -254,7 +260,8 @@ module _ (g : Graph) (order : List ℕ) (topological : IsTopological g order) (p
   node_own = split (node_of g p) ∙ ap (λ qs. before_on_node g order p ++ qs) (cond-true _ _ _ (eq-eqb (node_of g p) (node_of g p) refl))
 
   pub node_other : (node : ℕ) → node ≢ node_of g p → node_before g order node (place order p + 1) ≡ node_before g order node (place order p)
-  node_other node n = split node ∙ ap (λ qs. node_before g order node (place order p) ++ qs) (cond-false _ _ _ (ne_eqb (node_of g p) node (λ e. n (sym e)))) ∙ append-nil (node_before g order node (place order p))
+  node_other node n = split node ∙ ap (λ qs. node_before g order node (place order p) ++ qs) (cond-false _ _ _ (ne_eqb (node_of g p) node (λ e. n (sym e)))) ∙
+      append-nil (node_before g order node (place order p))
 
   node_early : (node q : ℕ) → Contains (node_before g order node (place order p)) q → place order q ≤ place order p
   node_early node q j =
@@ -288,18 +295,23 @@ module _ (g : Graph) (order : List ℕ) (topological : IsTopological g order) (p
       sent_count = length-set sent (node_of g p) queue ∙ are.sent_count;
       carries = λ node h. elim (cases_eq node (node_of g p)) [
         | inl e ↦ subst (λ n. AreCubesOf g.faults scenarios (passed_by g others (node_before g order n (place order p + 1))) (get_or (set known (node_of g p) own) n [])) (sym e)
-            (subst (AreCubesOf g.faults scenarios (passed_by g others (node_before g order (node_of g p) (place order p + 1)))) (sym (get_or-set_same known (node_of g p) own [] (omega (arith, on, are.known_count))))
+            (subst (AreCubesOf g.faults scenarios (passed_by g others (node_before g order (node_of g p) (place order p + 1))))
+            (sym (get_or-set_same known (node_of g p) own [] (omega (arith, on, are.known_count))))
             (subst (λ qs. AreCubesOf g.faults scenarios (passed_by g others qs) own) (sym node_own) own_are))
         | inr n ↦ subst (AreCubesOf g.faults scenarios (passed_by g others (node_before g order node (place order p + 1)))) (sym (get_or-set_other known (node_of g p) node own [] n))
             (subst (λ qs. AreCubesOf g.faults scenarios (passed_by g others qs) (get_or known node [])) (sym (node_other node n))
-            (passed_cubes g order topological rows others (place order p) same g.faults scenarios (get_or known node []) (node_before g order node (place order p)) (node_early node) (are.carries node h)))
+            (passed_cubes g order topological rows others (place order p) same g.faults scenarios (get_or known node []) (node_before g order node (place order p)) (node_early node)
+            (are.carries node h)))
       ];
       queues = λ node h. elim (cases_eq node (node_of g p)) [
         | inl e ↦ subst (λ n. AreCubesOf g.faults scenarios (queued_by g order others (sent_before g order n (place order p + 1))) (get_or (set sent (node_of g p) queue) n [])) (sym e)
-            (subst (AreCubesOf g.faults scenarios (queued_by g order others (sent_before g order (node_of g p) (place order p + 1)))) (sym (get_or-set_same sent (node_of g p) queue [] (omega (arith, on, are.sent_count)))) queue_are)
+            (subst (AreCubesOf g.faults scenarios (queued_by g order others (sent_before g order (node_of g p) (place order p + 1))))
+            (sym (get_or-set_same sent (node_of g p) queue [] (omega (arith, on, are.sent_count)))) queue_are)
         | inr n ↦ subst (AreCubesOf g.faults scenarios (queued_by g order others (sent_before g order node (place order p + 1)))) (sym (get_or-set_other sent (node_of g p) node queue [] n))
-            (queued_members g.faults g order others scenarios (get_or sent node []) (sent_before g order node (place order p)) (sent_before g order node (place order p + 1)) (other_to node) (other_from node n)
-            (queued_cubes g order topological rows others (place order p) same g.faults scenarios (get_or sent node []) (sent_before g order node (place order p)) (sent_early node) (are.queues node h)))
+            (queued_members g.faults g order others scenarios (get_or sent node []) (sent_before g order node (place order p)) (sent_before g order node (place order p + 1)) (other_to node)
+            (other_from node n)
+            (queued_cubes g order topological rows others (place order p) same g.faults scenarios (get_or sent node []) (sent_before g order node (place order p)) (sent_early node)
+            (are.queues node h)))
       ];
     }
 

@@ -1,9 +1,11 @@
 -- What one scenario adds to a queue, and the entry of a send there.
-use Rattle.std.proofs.Common.{◌≡◌, ◌∙◌, ℕ, ◌+◌, ◌-◌, ◌<◌, ◌≤◌, Bool, true, false, not, ◌&&◌, if◌then◌else◌, List, [], ◌∷◌, ◌++◌, length, get_or, map, flat_map, Contains, Option, Some, None, is_some, option_to_list, arith, sym, ap, ap₂, inl, inr, subst}
+use Rattle.std.proofs.Common.{◌≡◌, ◌∙◌, ℕ, ◌+◌, ◌-◌, ◌<◌, ◌≤◌, Bool, true, false, not, ◌&&◌, if◌then◌else◌, List, [], ◌∷◌, ◌++◌, length, get_or, map, flat_map, Contains, Option, Some, None, is_some}
+use Rattle.std.proofs.Common.{option_to_list, arith, sym, ap, ap₂, inl, inr, subst}
 use Rattle.std.proofs.lemmas.Bool.{cases_Bool, cond-true, cond-false}
 use Rattle.std.proofs.lemmas.List.{append-nil, get_or_default}
 use Rattle.std.proofs.lemmas.List.Elements.{Contains-append_left, Contains-append_right, Contains-append_cases}
-use Rattle.cpg_base.specs.Graph.{Graph, process_count, edge_count, item_count, edge_at, item_at, source, is_message, is_frozen, is_frozen_item, is_sent_item, condition_of, producer, producer_of_item, process_at, value_variable}
+use Rattle.cpg_base.specs.Graph.{Graph, process_count, edge_count, item_count, edge_at, item_at, source, is_message, is_frozen, is_frozen_item, is_sent_item, condition_of, producer, producer_of_item}
+use Rattle.cpg_base.specs.Graph.{process_at, value_variable}
 use Rattle.cpg_base.specs.declared.item.Item.TheVariants.{Message}
 use Rattle.cpg_base.specs.Activity.{active, item_active}
 use Rattle.cpg_base.proofs.Items.{item_cases}
@@ -36,7 +38,8 @@ module _ (g : Graph) (p x : ℕ) (queued : Contains (queue_of g p) x) where
 
 pub value_of : (g : Graph) (x e p : ℕ) → item_at g x ≡ Message e → source g e ≡ p → is_some (edge_at g e).when ≡ true → (o : Option ℕ) → condition_of g p ≡ o → IsSentValue g x o
 value_of g x e p at from on o is =
-    let v : sent_value g (item_at g x) ≡ map value_variable (option_to_list o) = ap (sent_value g) at ∙ cond-true _ _ _ on ∙ ap (λ q. map value_variable (option_to_list (condition_of g q))) from ∙ ap (λ r. map value_variable (option_to_list r)) is in
+    let v : sent_value g (item_at g x) ≡ map value_variable (option_to_list o) = ap (sent_value g) at ∙ cond-true _ _ _ on ∙ ap (λ q. map value_variable (option_to_list (condition_of g q))) from ∙
+    ap (λ r. map value_variable (option_to_list r)) is in
     by_option o is v
   where
     by_option : (o : Option ℕ) → condition_of g p ≡ o → sent_value g (item_at g x) ≡ map value_variable (option_to_list o) → IsSentValue g x o
@@ -64,7 +67,8 @@ module _ (g : Graph) (s : Scenario) (p x : ℕ) (by : producer g x ≡ p) (ends 
   left_plain a i f = left true true a (ap₂ (λ b c. b && not c) i f)
 
   pub sends_frozen : (queue : List Literal) → is_frozen g x ≡ true → send_after g s x queue ends ≡ decided g s p ++ sent_by_value g s x
-  sends_frozen queue f = ap (λ q. (if is_frozen g x then decided g s q else queue ++ ends) ++ sent_by_value g s x) by ∙ ap (λ ls. ls ++ sent_by_value g s x) (cond-true (is_frozen g x) (decided g s p) (queue ++ ends) f)
+  sends_frozen queue f = ap (λ q. (if is_frozen g x then decided g s q else queue ++ ends) ++ sent_by_value g s x) by ∙
+      ap (λ ls. ls ++ sent_by_value g s x) (cond-true (is_frozen g x) (decided g s p) (queue ++ ends) f)
 
   pub sends_plain : (queue : List Literal) → is_frozen g x ≡ false → send_after g s x queue ends ≡ queue ++ ends ++ sent_by_value g s x
   sends_plain queue f = ap (λ ls. ls ++ sent_by_value g s x) (cond-false (is_frozen g x) (decided g s (producer g x)) (queue ++ ends) f)

@@ -1,5 +1,6 @@
 -- What comes of one scenario: the entry that is kept, and what the node carries on; and of all of them, one after another.
-use Rattle.std.proofs.Common.{◌≡◌, ◌≢◌, ◌∙◌, ℕ, ◌+◌, ◌<◌, ◌≤◌, Bool, true, false, if◌then◌else◌, List, [], ◌∷◌, ◌++◌, length, get_or, set, take, flat_map, Contains, AllPairs, Option, Some, None, is_some, option_to_list, arith, refl, sym, ap, inl, inr, subst, get_or-set_same, get_or-set_other, length-set}
+use Rattle.std.proofs.Common.{◌≡◌, ◌≢◌, ◌∙◌, ℕ, ◌+◌, ◌<◌, ◌≤◌, Bool, true, false, if◌then◌else◌, List, [], ◌∷◌, ◌++◌, length, get_or, set, take, flat_map, Contains, AllPairs, Option, Some, None}
+use Rattle.std.proofs.Common.{is_some, option_to_list, arith, refl, sym, ap, inl, inr, subst, get_or-set_same, get_or-set_other, length-set}
 use Rattle.std.proofs.lemmas.Bool.{cases_eq, cond-true, cond-false}
 use Rattle.std.proofs.lemmas.Grind.{flat_map-append}
 use Rattle.std.proofs.lemmas.List.{append-nil, take_more, get_or_default}
@@ -81,7 +82,8 @@ module _ (g : Graph) (order : List ℕ) (topological : IsTopological g order) (f
     cube = h.1;
   }) h.2 new
 
-  pub one_more : IsTimedIfActive g s t x → (r : Option Column) → IsKeptAt g s (get_or t.times x None) (carried g order rows s x) r → AreEntriesAmong g order frozen rows x (done ++ s ∷ []) (entries ++ option_to_list r)
+  pub one_more : IsTimedIfActive g s t x → (r : Option Column) → IsKeptAt g s (get_or t.times x None) (carried g order rows s x) r →
+      AreEntriesAmong g order frozen rows x (done ++ s ∷ []) (entries ++ option_to_list r)
   one_more timed r h = entry_at (get_or t.times x None) refl timed r h
 
 -- ---- the cubes of one scenario more
@@ -112,7 +114,8 @@ pub next_scenario : (scenarios : List Scenario) (n : ℕ) (s : Scenario) → n <
 next_scenario scenarios n s l at = take_more scenarios n s l ∙ ap (λ u. take n scenarios ++ u ∷ []) (sym at)
 
 -- cubes that are made one after another
-pub push_cube : (k : ℕ) (scenarios : List Scenario) (literals : Scenario → List Literal) (n : ℕ) (cubes new : List (List Literal)) (s : Scenario) (cube : List Literal) → n < length scenarios → length cubes ≡ n
+pub push_cube : (k : ℕ) (scenarios : List Scenario) (literals : Scenario → List Literal) (n : ℕ) (cubes new : List (List Literal)) (s : Scenario) (cube : List Literal) → n < length scenarios →
+    length cubes ≡ n
     → ((i : ℕ) (d : Scenario) → i < n → IsCubeOf k (literals (get_or scenarios i d)) (get_or cubes i [])) → new ≡ cubes ++ cube ∷ [] → s ≡ get_or scenarios n s → IsCubeOf k (literals s) cube
     → (i : ℕ) (d : Scenario) → i < n + 1 → IsCubeOf k (literals (get_or scenarios i d)) (get_or new i [])
 push_cube k scenarios literals n cubes new s cube l long each pushed at is i d h = subst (λ cs. IsCubeOf k (literals (get_or scenarios i d)) (get_or cs i [])) (sym pushed) (elim (cases_eq i n) [
@@ -126,13 +129,15 @@ push_cube k scenarios literals n cubes new s cube l long each pushed at is i d h
 
 module _ (g : Graph) (order : List ℕ) (frozen : List (Option ℕ)) where
   pub timed_if_active : (s : Scenario) (t : Times) → IsRun g order frozen s t → (x : ℕ) → x < item_count g → IsTimedIfActive g s t x
-  timed_if_active s t run x l = ap is_some (time_is g order frozen s t run x l) ∙ go (item_active g s.values (item_at g x)) (greatest (unfrozen_time g order s t x ∷ option_to_list (get_or frozen x None)))
+  timed_if_active s t run x l = ap is_some (time_is g order frozen s t run x l) ∙ go (item_active g s.values (item_at g x))
+      (greatest (unfrozen_time g order s t x ∷ option_to_list (get_or frozen x None)))
     where
       go : (b : Bool) (n : ℕ) → is_some (if b then Some n else None) ≡ b
       go true n = refl
       go false n = refl
 
-  pub run_at : (scenarios : List Scenario) (runs : List Times) → AreRuns g order frozen scenarios runs → (n : ℕ) (s : Scenario) (t : Times) → n < length scenarios → s ≡ get_or scenarios n s → t ≡ get_or runs n t → IsRun g order frozen s t
+  pub run_at : (scenarios : List Scenario) (runs : List Times) → AreRuns g order frozen scenarios runs → (n : ℕ) (s : Scenario) (t : Times) → n < length scenarios → s ≡ get_or scenarios n s →
+      t ≡ get_or runs n t → IsRun g order frozen s t
   run_at scenarios runs are n s t l at is = subst (λ u. IsRun g order frozen u t) (sym at) (subst (IsRun g order frozen (get_or scenarios n s)) (sym is) (are.each n s t l))
 
 pub scenario_at : (scenarios : List Scenario) (n : ℕ) (s : Scenario) → n < length scenarios → s ≡ get_or scenarios n s → Contains scenarios s
@@ -141,7 +146,8 @@ scenario_at scenarios n s l at = (n, l, sym at)
 pub new_at : (scenarios : List Scenario) → AllPairs (λ s t. s ≢ t) scenarios → (n : ℕ) (s : Scenario) → n < length scenarios → s ≡ get_or scenarios n s → Contains (take n scenarios) s → ⊥
 new_at scenarios apart n s l at j = not_before_place scenarios n s apart l (subst (Contains (take n scenarios)) at j)
 
-pub carried_start : (g : Graph) (order : List ℕ) (rows : List (List Column)) (s : Scenario) (p : ℕ) → p < process_count g → carried g order rows s p ≡ start_after g rows s p (passed_by g rows (before_on_node g order p) s)
+pub carried_start : (g : Graph) (order : List ℕ) (rows : List (List Column)) (s : Scenario) (p : ℕ) → p < process_count g →
+    carried g order rows s p ≡ start_after g rows s p (passed_by g rows (before_on_node g order p) s)
 carried_start g order rows s p l = ap (carried_by_item g order rows s p) (item_at-start g p l)
 
 -- a list for one element more
@@ -162,7 +168,8 @@ module _ (g : Graph) (order : List ℕ) (topological : IsTopological g order) (f
   pub timed_here : IsTimedIfActive g s t x
   timed_here = timed_if_active g order frozen s t run_here x l
 
-  pub found_more : (entries next : List Column) → AreEntriesAmong g order frozen rows x (take n scenarios) entries → (r : Option Column) → IsKeptAt g s (get_or t.times x None) (carried g order rows s x) r
+  pub found_more : (entries next : List Column) → AreEntriesAmong g order frozen rows x (take n scenarios) entries → (r : Option Column) →
+      IsKeptAt g s (get_or t.times x None) (carried g order rows s x) r
       → next ≡ entries ++ option_to_list r → AreEntriesAmong g order frozen rows x (take (n + 1) scenarios) next
   found_more entries next so_far r h e =
       subst (λ ds. AreEntriesAmong g order frozen rows x ds next) (sym (next_scenario scenarios n s inside at))
@@ -170,7 +177,8 @@ module _ (g : Graph) (order : List ℕ) (topological : IsTopological g order) (f
       (one_more g order topological frozen rows x (take n scenarios) entries so_far s law_here t run_here (new_at scenarios are.apart n s inside at) timed_here r h))
 
 -- the cube of a scenario whose turn it is
-pub cube_here : (k : ℕ) (scenarios : List Scenario) (before literals : Scenario → List Literal) (n : ℕ) (cubes : List (List Literal)) (s : Scenario) (cube : List Literal) → n < length scenarios → s ≡ get_or scenarios n s
+pub cube_here : (k : ℕ) (scenarios : List Scenario) (before literals : Scenario → List Literal) (n : ℕ) (cubes : List (List Literal)) (s : Scenario) (cube : List Literal) → n < length scenarios →
+    s ≡ get_or scenarios n s
     → AreCubesUpTo k scenarios before literals n cubes → cube ≡ get_or cubes n cube → IsCubeOf k (before s) cube
 cube_here k scenarios before literals n cubes s cube inside at are read =
     subst (IsCubeOf k (before s)) (sym (read ∙ get_or_default cubes n cube [] (omega (arith, inside, are.count))))

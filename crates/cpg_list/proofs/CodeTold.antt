@@ -52,10 +52,12 @@ module _ (columns : List Column) (s : Scenario) where
 -- ---- narrowing by one list after another
 
 module _ (k : ℕ) (a b c : List Literal) where
-  pub narrowed_map : (f : ℕ → Literal) (xs : List ℕ) (i d : ℕ) → i < length xs → IsNarrowed k (map f (take i xs)) a b → IsNarrowed k (f (get_or xs i d) ∷ []) b c → IsNarrowed k (map f (take (i + 1) xs)) a c
+  pub narrowed_map : (f : ℕ → Literal) (xs : List ℕ) (i d : ℕ) → i < length xs → IsNarrowed k (map f (take i xs)) a b → IsNarrowed k (f (get_or xs i d) ∷ []) b c →
+      IsNarrowed k (map f (take (i + 1) xs)) a c
   narrowed_map f xs i d l first then = subst (λ ls. IsNarrowed k ls a c) (sym (map_more f xs i d l)) (narrowed_then k (map f (take i xs)) (f (get_or xs i d) ∷ []) a b c first then)
 
-  pub narrowed_flat_map : (f : ℕ → List Literal) (xs : List ℕ) (i d : ℕ) → i < length xs → IsNarrowed k (flat_map f (take i xs)) a b → IsNarrowed k (f (get_or xs i d)) b c → IsNarrowed k (flat_map f (take (i + 1) xs)) a c
+  pub narrowed_flat_map : (f : ℕ → List Literal) (xs : List ℕ) (i d : ℕ) → i < length xs → IsNarrowed k (flat_map f (take i xs)) a b → IsNarrowed k (f (get_or xs i d)) b c →
+      IsNarrowed k (flat_map f (take (i + 1) xs)) a c
   narrowed_flat_map f xs i d l first then =
       let e : flat_map f (take (i + 1) xs) ≡ flat_map f (take i xs) ++ f (get_or xs i d) = ap (flat_map f) (take_more xs i d l) ∙ flat_map-append f (take i xs) (get_or xs i d ∷ [])
       ∙ ap (λ z. flat_map f (take i xs) ++ z) (append-nil (f (get_or xs i d))) in

@@ -3,21 +3,21 @@ use Rattle.std.specs.Prelude.{ℕ, ◌≡◌, ◌<◌, ◌≤◌, true, false, L
 use Rattle.cpg_base.specs.Scenario.{Scenario}
 use Rattle.cpg_cube.specs.Cube.{matches}
 use Rattle.cpg_cube.specs.Column.{Column}
-pub use Rattle.cpg_list.specs.declared.timed.Timed.{Timed}
+pub use Rattle.cpg_list.specs.declared.timed.TimedColumn.{TimedColumn}
 
 -- the times rise, and each column has its time and place once
-pub record IsTimeOrder (columns : List Column) (by_time : List Timed) : Type 0 where
-  pub rising : (i j : ℕ) (d : Timed) → i ≤ j → j < length by_time → (get_or by_time i d).time ≤ (get_or by_time j d).time
-  pub each : (i : ℕ) (d : Timed) (c : Column) → i < length by_time → ((get_or by_time i d).place < length columns) ×
+pub record IsTimeOrder (columns : List Column) (by_time : List TimedColumn) : Type 0 where
+  pub rising : (i j : ℕ) (d : TimedColumn) → i ≤ j → j < length by_time → (get_or by_time i d).time ≤ (get_or by_time j d).time
+  pub each : (i : ℕ) (d : TimedColumn) (c : Column) → i < length by_time → ((get_or by_time i d).place < length columns) ×
       ((get_or columns (get_or by_time i d).place c).time ≡ (get_or by_time i d).time)
-  pub all : (k : ℕ) (c : Column) → k < length columns → (i : ℕ) × (i < length by_time) × ((d : Timed) → ((get_or by_time i d).place ≡ k) ×
+  pub all : (k : ℕ) (c : Column) → k < length columns → (i : ℕ) × (i < length by_time) × ((d : TimedColumn) → ((get_or by_time i d).place ≡ k) ×
       ((get_or by_time i d).time ≡ (get_or columns k c).time))
 
 -- from a place on the times are no less than this, and before it they are less
-pub record StartsAt (by_time : List Timed) (time at : ℕ) : Type 0 where
+pub record StartsAt (by_time : List TimedColumn) (time at : ℕ) : Type 0 where
   pub inside : at ≤ length by_time
-  pub before : (i : ℕ) (d : Timed) → i < at → (get_or by_time i d).time < time
-  pub after : (i : ℕ) (d : Timed) → at ≤ i → i < length by_time → time ≤ (get_or by_time i d).time
+  pub before : (i : ℕ) (d : TimedColumn) → i < at → (get_or by_time i d).time < time
+  pub after : (i : ℕ) (d : TimedColumn) → at ≤ i → i < length by_time → time ≤ (get_or by_time i d).time
 
 -- a column of a time that matches
 abbrev pub IsHit : List Column → ℕ → Scenario → ℕ → Type 0

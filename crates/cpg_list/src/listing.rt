@@ -17,7 +17,7 @@ use cpg_base::{Order, OutOfMemory, Scenario};
 use cpg_bus::Plan;
 use cpg_reach::too_wide;
 use cpg_rules::Admitted;
-use cpg_run::{BuildFault, Built, Frozen, RunTimes};
+use cpg_run::{BuildFault, Built, FrozenTimes, RunTimes};
 use cpg_table::{Tables, tables_of};
 use std::alloc::Global;
 
@@ -27,7 +27,7 @@ fn tables(
     admitted: &Admitted,
     order: &Order,
     plan: &Plan,
-    frozen: &Frozen,
+    frozen: &FrozenTimes,
     scenarios: &[Scenario],
     runs: &[RunTimes],
 ) -> Result<Tables, OutOfMemory>
@@ -51,7 +51,7 @@ fn measured(
     alloc: Global,
     admitted: &Admitted,
     order: &Order,
-    frozen: Frozen,
+    frozen: FrozenTimes,
     tables: Tables,
     scenarios: &[Scenario],
     runs: &[RunTimes],

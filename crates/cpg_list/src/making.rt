@@ -25,7 +25,7 @@ use cpg_bus::Plan;
 use cpg_cube::Entry;
 use cpg_merging::merged;
 use cpg_rules::Admitted;
-use cpg_run::{Frozen, RunTimes};
+use cpg_run::{FrozenTimes, RunTimes};
 use cpg_table::Row;
 use std::alloc::Global;
 
@@ -153,7 +153,7 @@ pub fn rows(
     admitted: &Admitted,
     order: &Order,
     plan: &Plan,
-    frozen: &Frozen,
+    frozen: &FrozenTimes,
     scenarios: &[Scenario],
     runs: &[RunTimes],
 ) -> Result<Vec<Row>, OutOfMemory>

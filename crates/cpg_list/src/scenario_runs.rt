@@ -3,7 +3,7 @@
 use cpg_base::{Order, Scenario};
 use cpg_bus::Plan;
 use cpg_rules::Admitted;
-use cpg_run::{Frozen, RunTimes};
+use cpg_run::{FrozenTimes, RunTimes};
 
 /// All scenarios of a graph and their runs under an order, with the graph's plan and the frozen times.
 #[derive(Clone, Copy)]
@@ -11,7 +11,7 @@ pub(crate) struct Listed<'a> {
     pub(crate) admitted: &'a Admitted,
     pub(crate) order: &'a Order,
     pub(crate) plan: &'a Plan,
-    pub(crate) frozen: &'a Frozen,
+    pub(crate) frozen: &'a FrozenTimes,
     pub(crate) scenarios: &'a [Scenario],
     pub(crate) runs: &'a [RunTimes],
 }

@@ -1,6 +1,6 @@
 //! Rows that are searched by time.
 ghost use Rattle.std.specs.Prelude.{◌≡◌, ◌<◌, ◌≤◌, ℕ, [], IfOk, IsTrue, Some, get_or, length, map};
-ghost use Rattle.cpg_list.specs.TimeOrder.{Timed, IsTimeOrder, StartsAt, FindsHit};
+ghost use Rattle.cpg_list.specs.TimeOrder.{TimedColumn, IsTimeOrder, StartsAt, FindsHit};
 
 use cpg_base::{OutOfMemory, Scenario};
 use cpg_cube::Entry;
@@ -13,7 +13,7 @@ const NEAR: usize = 4;
 
 /// The time of a column, and its place in the row.
 #[derive(Clone, Copy, Debug, PartialEq, Eq, PartialOrd, Ord)]
-pub(crate) struct Timed {
+pub(crate) struct TimedColumn {
     pub(crate) time: u64,
     pub(crate) place: usize,
 }
@@ -23,7 +23,7 @@ pub(crate) struct Timed {
 pub(crate) struct TimedRow {
     item: u32,
     columns: Vec<Entry>,
-    by_time: Vec<Timed>,
+    by_time: Vec<TimedColumn>,
 }
 
 impl Model for TimedRow {
@@ -38,21 +38,21 @@ impl Model for TimedRow {
 }
 
 /// The first place whose time is no less than this, if the times rise.
-fn first_at(by_time: &[Timed], time: u64) -> usize
-    requires { (i j : ℕ) (d : Timed) → i ≤ j → j < length by_time.now → (get_or by_time.now i d).time ≤ (get_or by_time.now j d).time }
+fn first_at(by_time: &[TimedColumn], time: u64) -> usize
+    requires { (i j : ℕ) (d : TimedColumn) → i ≤ j → j < length by_time.now → (get_or by_time.now i d).time ≤ (get_or by_time.now j d).time }
     ensures { StartsAt by_time.now time result }
 {
     by_time.partition_point(|timed| timed.time < time)
 }
 
 /// The times and places of columns, by time.
-fn ordered_by_time(alloc: Global, columns: &[Entry]) -> Result<Vec<Timed>, OutOfMemory>
+fn ordered_by_time(alloc: Global, columns: &[Entry]) -> Result<Vec<TimedColumn>, OutOfMemory>
     ensures { IfOk result (λ by_time. IsTimeOrder columns.now by_time.items) }
 {
     let mut by_time = Vec::new(alloc);
     by_time.reserve(columns.len())?;
     for place in 0..columns.len() {
-        by_time.push(Timed {
+        by_time.push(TimedColumn {
             time: columns[place].time,
             place,
         })?;
@@ -99,7 +99,7 @@ fn is_hit(columns: &[Entry], place: usize, time: u64, scenario: &Scenario) -> bo
 }
 
 /// The place of a column of a time that matches.
-fn hit(columns: &[Entry], by_time: &[Timed], time: u64, scenario: &Scenario) -> Option<usize>
+fn hit(columns: &[Entry], by_time: &[TimedColumn], time: u64, scenario: &Scenario) -> Option<usize>
     requires { IsTimeOrder columns.now by_time.now }
     ensures { FindsHit columns.now time scenario.now result }
 {

@@ -2,7 +2,7 @@
 use Rattle.std.proofs.Common.{◌≡◌, ℕ, ◌+◌, ◌<◌, ◌≤◌, ◌-◌, ◌||◌, List, [], ◌∷◌, ◌++◌, true, false, true≢false, length, take, drop, Some, None, refl, sym, ap, ap₂, ◌∙◌, subst, arith}
 use Rattle.std.specs.Prelude.{IfErr, IfOk, Result, Ok, Err, MatchResult, OnErr, OnOk, is_err}
 use Rattle.std.proofs.lemmas.List.{length-append, length-drop, length-take, take_all}
-use Rattle.cpg_tale.specs.Fetch.{Fetch, failed, gave, is_none}
+use Rattle.cpg_history.specs.Fetch.{Fetch, failed, gave, is_none}
 use Rattle.cpg_io.specs.State.{ShelfState, SinkState}
 use Rattle.cpg_io.specs.Shelf.{opened as started}
 use Rattle.cpg_io.specs.Sink.{Took, TookPrefix}
@@ -45,7 +45,8 @@ acts_grow table fed piece s t e d =
 abbrev pub grown_by : List ℕ → Fetch → Fetch
 grown_by piece f = record { name = f.name; given = f.given ++ piece; ended = is_none piece || f.ended; failed = f.failed }
 
-pub fed_on : (name : List ℕ) (past : List Fetch) (shelf rest : ShelfState) (count : ℕ) (start now : List ℕ) (f g : Follower) → IsAlong name past shelf.history start now f → TakesPiece shelf rest f g count →
+pub fed_on : (name : List ℕ) (past : List Fetch) (shelf rest : ShelfState) (count : ℕ) (start now : List ℕ) (f g : Follower) → IsAlong name past shelf.history start now f →
+    TakesPiece shelf rest f g count →
     IsFed name past rest.history start now f.head f.table f.live.progress.acts f.told g.read g.live
 fed_on name past shelf rest count start now f g a t =
     let live : g.live ≡ after f.table (a.fetch.given ++ t.piece) = t.fed f.table a.fetch.given a.live in
@@ -60,7 +61,8 @@ fed_on name past shelf rest count start now f g a t =
       few = omega (arith, read, a.read, t.long, t.few, length-append a.fetch.given t.piece);
       state = live;
       wrote = a.wrote;
-      lines = lines_more f.head f.live.progress.acts grown.0 g.live.progress.acts grown.1 ∙ ap (λ n. act_lines f.head f.live.progress.acts ++ act_lines f.head (drop n g.live.progress.acts)) (sym a.all_told);
+      lines = lines_more f.head f.live.progress.acts grown.0 g.live.progress.acts grown.1 ∙
+          ap (λ n. act_lines f.head f.live.progress.acts ++ act_lines f.head (drop n g.live.progress.acts)) (sym a.all_told);
     }
 
 no_bytes : (piece : List ℕ) → length piece ≡ 0 → is_none piece ≡ true
@@ -68,11 +70,13 @@ no_bytes [] e = refl
 no_bytes (b ∷ bs) e = absurd (omega (arith, e))
 
 -- a piece of no bytes is the end
-pub fed_end : (name : List ℕ) (past : List Fetch) (shelf rest : ShelfState) (count : ℕ) (start now : List ℕ) (f g : Follower) (a : IsAlong name past shelf.history start now f) (t : TakesPiece shelf rest f g count) → count ≡ 0 → (fed_on name past shelf rest count start now f g a t).fetch.ended ≡ true
+pub fed_end : (name : List ℕ) (past : List Fetch) (shelf rest : ShelfState) (count : ℕ) (start now : List ℕ) (f g : Follower) (a : IsAlong name past shelf.history start now f)
+    (t : TakesPiece shelf rest f g count) → count ≡ 0 → (fed_on name past shelf rest count start now f g a t).fetch.ended ≡ true
 unfolding fed_on
 fed_end name past shelf rest count start now f g a t none = ap (λ b. b || a.fetch.ended) (no_bytes t.piece (t.long ∙ none))
 
-module _ (name : List ℕ) (past rest : List Fetch) (start now out : List ℕ) (h : Head) (table : NodeTable) (before : List Act) (from read : ℕ) (live : LiveState) (k : IsFed name past rest start now h table before from read live) where
+module _ (name : List ℕ) (past rest : List Fetch) (start now out : List ℕ) (h : Head) (table : NodeTable) (before : List Act) (from read : ℕ) (live : LiveState)
+    (k : IsFed name past rest start now h table before from read live) where
   -- the lines of a state that is known
   same_lines : act_lines h (after table k.fetch.given).progress.acts ≡ act_lines h live.progress.acts
   same_lines = ap (λ (s : LiveState). act_lines h s.progress.acts) (sym k.state)
@@ -93,7 +97,19 @@ module _ (name : List ℕ) (past rest : List Fetch) (start now out : List ℕ) (
 
   pub fed_along : live.bad ≡ None → read ≤ STREAM_LIMIT → Took now out (act_lines h (drop from live.progress.acts)) →
       IsAlong name past rest start out (record { head = h; table = table; live = live; told = length live.progress.acts; read = read })
-  fed_along e l whole = record { fetch = k.fetch; named = k.named; sound = k.sound; history_is = k.history_is; read = k.long; few = l; live = k.state; lawful = e; all_told = refl; wrote = wrote_all whole }
+  fed_along e l whole = record {
+    fetch = k.fetch;
+    named = k.named;
+    sound = k.sound;
+    history_is = k.history_is;
+    read = k.long;
+    few = l;
+    live = k.state;
+    lawful = e;
+    all_told = refl;
+    wrote =
+        wrote_all whole;
+  }
 
 -- ---- what is written
 
@@ -112,12 +128,15 @@ rest_few told acts = omega (arith, length-take (length acts - told) (drop told a
 rest_is : (told : ℕ) (acts : List Act) → take (length acts - told) (drop told acts) ≡ drop told acts
 rest_is told acts = take_all (length acts - told) (drop told acts) (omega (arith, length-drop told acts))
 
-pub told_lines : (h k : Head) (acts done : List Act) (told : ℕ) (clear items : List ℕ) → items ≡ clear ++ act_lines k (take (length acts - told) (drop told acts)) → clear ≡ [] → k ≡ h → acts ≡ done → items ≡ act_lines h (drop told done)
+pub told_lines : (h k : Head) (acts done : List Act) (told : ℕ) (clear items : List ℕ) → items ≡ clear ++ act_lines k (take (length acts - told) (drop told acts)) → clear ≡ [] → k ≡ h → acts ≡ done →
+    items ≡ act_lines h (drop told done)
 told_lines h k acts done told clear items e none same a =
-    e ∙ ap (λ (front : List ℕ). front ++ act_lines k (take (length acts - told) (drop told acts))) none ∙ ap (act_lines k) (rest_is told acts) ∙ ap₂ (λ (h : Head) (acts : List Act). act_lines h (drop told acts)) same a
+    e ∙ ap (λ (front : List ℕ). front ++ act_lines k (take (length acts - told) (drop told acts))) none ∙ ap (act_lines k) (rest_is told acts) ∙
+    ap₂ (λ (h : Head) (acts : List Act). act_lines h (drop told acts)) same a
 
 -- the lines of the acts that aren't told are the same by the follower before a piece and after it
-pub lines_told : (shelf rest : ShelfState) (f n : Follower) (count : ℕ) → TakesPiece shelf rest f n count → act_lines n.head (drop n.told n.live.progress.acts) ≡ act_lines f.head (drop f.told n.live.progress.acts)
+pub lines_told : (shelf rest : ShelfState) (f n : Follower) (count : ℕ) → TakesPiece shelf rest f n count →
+    act_lines n.head (drop n.told n.live.progress.acts) ≡ act_lines f.head (drop f.told n.live.progress.acts)
 lines_told shelf rest f n count t = ap (λ (f : Follower). act_lines f.head (drop f.told n.live.progress.acts)) t.state
 
 pub told_as : (shelf rest : ShelfState) (f n s : Follower) (count : ℕ) → TakesPiece shelf rest f n count → s ≡ record n { told = length n.live.progress.acts } →
@@ -125,7 +144,8 @@ pub told_as : (shelf rest : ShelfState) (f n s : Follower) (count : ℕ) → Tak
 told_as shelf rest f n s count t e = sym (e ∙ ap (λ (f : Follower). record { head = f.head; table = f.table; live = n.live; told = length n.live.progress.acts; read = n.read }) t.state)
 
 -- a piece was fed, and all its lines are written
-pub along_at : (name : List ℕ) (past : List Fetch) (shelf rest : ShelfState) (count : ℕ) (start now out : List ℕ) (f n s : Follower) (a : IsAlong name past shelf.history start now f) (t : TakesPiece shelf rest f n count) → n.live.bad ≡ None → n.read ≤ STREAM_LIMIT →
+pub along_at : (name : List ℕ) (past : List Fetch) (shelf rest : ShelfState) (count : ℕ) (start now out : List ℕ) (f n s : Follower) (a : IsAlong name past shelf.history start now f)
+    (t : TakesPiece shelf rest f n count) → n.live.bad ≡ None → n.read ≤ STREAM_LIMIT →
     Took now out (act_lines f.head (drop f.told n.live.progress.acts)) → s ≡ record n { told = length n.live.progress.acts } → IsAlongAt count name past rest.history start out s
 unfolding fed_along fed_on
 along_at name past shelf rest count start now out f n s a t none within whole e =
@@ -145,7 +165,8 @@ opened h k table made live same is e =
 abbrev pub broken_off : Fetch → Fetch
 broken_off f = record { name = f.name; given = f.given; ended = f.ended; failed = true }
 
-pub unread : (name : List ℕ) (past history rest : List Fetch) (start now : List ℕ) (f : Follower) (old new : SinkState) → (a : IsAlong name past history start now f) → rest ≡ failed history → now ≡ new.taken →
+pub unread : (name : List ℕ) (past history rest : List Fetch) (start now : List ℕ) (f : Follower) (old new : SinkState) → (a : IsAlong name past history start now f) → rest ≡ failed history →
+    now ≡ new.taken →
     IsStreamed (λ s. Breaks f.head f.table s Shelf) name past rest start old new
 unread name past history rest start now f old new a e same = record {
   fetch = broken_off a.fetch;
@@ -164,7 +185,8 @@ unread name past history rest start now f old new a e same = record {
 }
 
 -- before the first byte
-pub unfetched : (name : List ℕ) (past rest : List Fetch) (h : Head) (table : NodeTable) (old : SinkState) → rest ≡ started name true past → IsStreamed (λ s. Breaks h table s Shelf) name past rest old.taken old old
+pub unfetched : (name : List ℕ) (past rest : List Fetch) (h : Head) (table : NodeTable) (old : SinkState) → rest ≡ started name true past →
+    IsStreamed (λ s. Breaks h table s Shelf) name past rest old.taken old old
 unfetched name past rest h table old e = record {
   fetch = record { name = name; given = []; ended = false; failed = true };
   named = refl;
@@ -174,7 +196,8 @@ unfetched name past rest h table old e = record {
 
 -- ---- the end
 
-pub along_open : (name : List ℕ) (past history : List Fetch) (now : List ℕ) (h : Head) (table : NodeTable) → history ≡ started name false past → IsAlong name past history now now (open_follower h table)
+pub along_open : (name : List ℕ) (past history : List Fetch) (now : List ℕ) (h : Head) (table : NodeTable) → history ≡ started name false past →
+    IsAlong name past history now now (open_follower h table)
 along_open name past history now h table e = record {
   fetch = record { name = name; given = []; ended = false; failed = false };
   named = refl;
@@ -210,7 +233,8 @@ module _ (name : List ℕ) (past history : List Fetch) (start now : List ℕ) (f
     is = (acts ++ closed_line time, all_closed time e, Took-trans start now new.taken acts (closed_line time) a.wrote whole);
   }
 
-  pub ended_broken : (broken : Broken) (before : ℕ) → old.faults ≤ before → Closes f before new.faults now new.taken (Err broken) → IsStreamed (λ s. Breaks f.head f.table s broken) name past history start old new
+  pub ended_broken : (broken : Broken) (before : ℕ) → old.faults ≤ before → Closes f before new.faults now new.taken (Err broken) →
+      IsStreamed (λ s. Breaks f.head f.table s broken) name past history start old new
   unfolding acts
   ended_broken Shelf before l ends = absurd ends
   ended_broken Sink before l ends =
@@ -252,8 +276,10 @@ completes_on f n name past history start first old new same b = record {
 }
 
 -- what the end of all pieces answers
-pub end_of_all : (f n : Follower) (name : List ℕ) (past history : List Fetch) (start now : List ℕ) (first old new : SinkState) (result : Result Unit Broken) → IsOfSame f n → first.faults ≤ old.faults → (at : IsAlongAt 0 name past history start now n) →
-    Closes n old.faults new.faults now new.taken result → MatchResult result (λ _. IsStreamed (Completes f.head f.table) name past history start first new) (λ b. IsStreamed (λ s. Breaks f.head f.table s b) name past history start first new)
+pub end_of_all : (f n : Follower) (name : List ℕ) (past history : List Fetch) (start now : List ℕ) (first old new : SinkState) (result : Result Unit Broken) → IsOfSame f n →
+    first.faults ≤ old.faults → (at : IsAlongAt 0 name past history start now n) →
+    Closes n old.faults new.faults now new.taken result → MatchResult result (λ _. IsStreamed (Completes f.head f.table) name past history start first new)
+    (λ b. IsStreamed (λ s. Breaks f.head f.table s b) name past history start first new)
 end_of_all f n name past history start now first old new (Ok done) same l at closes =
     completes_on f n name past history start first old new same (ended_whole name past history start now n at.along (at.end refl) old new closes.0 closes.1 closes.2)
 end_of_all f n name past history start now first old new (Err broken) same l at closes =

@@ -12,16 +12,17 @@ use Rattle.cpg_live.specs.declared.bad.Why.TheVariants.{Length, Order, Frame as 
 use Rattle.cpg_live.specs.declared.event.Event.{Event}
 use Rattle.cpg_live.specs.declared.event.Event.TheVariants.{Frame as Arrival, End as Ending, Close}
 use Rattle.cpg_live.specs.Records.{cut, record_of, event_of}
-use Rattle.cpg_live.specs.Stream.{Progress, LiveState, start, faulty, lawful, instant_below, turn_if, turn_below, turns_below, turned, may_end, ended, step, refused, settled, stepped, judged, take_record, open_stream, with_rest, after}
+use Rattle.cpg_live.specs.Stream.{NodeProgress, LiveState, start, faulty, lawful, instant_below, turn_if, turn_below, turns_below, turned, may_end, ended, step, refused, settled, stepped, judged}
+use Rattle.cpg_live.specs.Stream.{take_record, open_stream, with_rest, after}
 use Rattle.cpg_live.proofs.Turns.{found_is}
 
 module _ (table : NodeTable) (most : ℕ) where
   -- the acts so far, and the entries of the table that are left, are at most so many
-  record HasFew (p : Progress) : Type 0 where
+  record HasFew (p : NodeProgress) : Type 0 where
     same : p.dispatcher.table ≡ table
     few : length p.acts + length (entries_left p.dispatcher) ≤ most
 
-  turn_few : (limit : ℕ) (p : Progress) → HasFew p → HasFew (turn_below limit p)
+  turn_few : (limit : ℕ) (p : NodeProgress) → HasFew p → HasFew (turn_below limit p)
   turn_few limit p h = go (instant_below limit (next p.dispatcher)) refl
     where
       go : (o : Option ℕ) → instant_below limit (next p.dispatcher) ≡ o → HasFew (turn_if p o)
@@ -31,15 +32,15 @@ module _ (table : NodeTable) (most : ℕ) where
         few = omega (arith, h.few, room_turn p.dispatcher time [] (found_is limit (next p.dispatcher) time e).0, length-append p.acts (acts_of_turn p.dispatcher time [] []));
       }
 
-  turns_few : (n limit : ℕ) (p : Progress) → HasFew p → HasFew (turns_below n limit p)
+  turns_few : (n limit : ℕ) (p : NodeProgress) → HasFew p → HasFew (turns_below n limit p)
   unfolding turns_below
   turns_few zero limit p h = h
   turns_few (suc n) limit p h = turns_few n limit (turn_below limit p) (turn_few limit p h)
 
-  turned_few : (limit : ℕ) (p : Progress) → HasFew p → HasFew (turned limit p)
+  turned_few : (limit : ℕ) (p : NodeProgress) → HasFew p → HasFew (turned limit p)
   turned_few limit p h = turns_few limit limit p h
 
-  step_few : (time : ℕ) (event : Event) (p : Progress) → HasFew p → HasFew (step time event p).progress
+  step_few : (time : ℕ) (event : Event) (p : NodeProgress) → HasFew p → HasFew (step time event p).progress
   step_few time (Arrival f) p h = go (is_strange (turned time p).dispatcher time f) (turned_few time p h)
     where
       go : (b : Bool) → HasFew (turned time p) → HasFew (cond b (faulty (turned time p) StrangeFrame) (lawful (record (turned time p) { dispatcher = hear (turned time p).dispatcher f }))).progress

@@ -1,5 +1,6 @@
 -- How many records of a lawful stream are taken: each that is whole.
-use Rattle.std.proofs.Common.{◌≡◌, ℕ, ◌+◌, ◌*◌, ◌-◌, ◌^◌, ◌<◌, ◌≤◌, min, Bool, true, false, cond, ◌&&◌, ◌==◌, List, [], ◌∷◌, ◌++◌, length, fold, Option, Some, None, refl, sym, ap, ◌∙◌, subst, arith, inl, inr, true≢false, eqb-true, eq-eqb, lt-ltb}
+use Rattle.std.proofs.Common.{◌≡◌, ℕ, ◌+◌, ◌*◌, ◌-◌, ◌^◌, ◌<◌, ◌≤◌, min, Bool, true, false, cond, ◌&&◌, ◌==◌, List, [], ◌∷◌, ◌++◌, length, fold, Option, Some, None, refl, sym, ap, ◌∙◌, subst, arith}
+use Rattle.std.proofs.Common.{inl, inr, true≢false, eqb-true, eq-eqb, lt-ltb}
 use Rattle.std.specs.Prelude.{◌⊎◌, is_some, nat_lt}
 use Rattle.std.proofs.lemmas.List.{length-append}
 use Rattle.std.proofs.lemmas.Bool.{cases_lt}
@@ -21,7 +22,8 @@ pub record IsCounted (c : Cut) (count : ℕ) : Type 0 where
 byte_counted : (c : Cut) (byte count : ℕ) → IsCounted c count → IsCounted (cut_byte c byte) (count + 1)
 byte_counted c byte count h = go (length c.rest + 1 == 14) refl
   where
-    go : (b : Bool) → (length c.rest + 1 == 14) ≡ b → IsCounted (cond b (record { whole = c.whole ++ ((c.rest ++ byte ∷ []) ∷ []); rest = [] }) (record { whole = c.whole; rest = c.rest ++ byte ∷ [] })) (count + 1)
+    go : (b : Bool) → (length c.rest + 1 == 14) ≡ b →
+        IsCounted (cond b (record { whole = c.whole ++ ((c.rest ++ byte ∷ []) ∷ []); rest = [] }) (record { whole = c.whole; rest = c.rest ++ byte ∷ [] })) (count + 1)
     go true e = record { part = omega arith; all = omega (arith, h.all, eqb-true (length c.rest + 1) 14 e, length-append c.whole ((c.rest ++ byte ∷ []) ∷ [])) }
     go false e = record { part = less (cases_lt (length c.rest + 1) 14); all = omega (arith, h.all, length-append c.rest (byte ∷ [])) }
       where
@@ -54,7 +56,8 @@ judged_taken : (s : LiveState) (time : ℕ) (event : Option Event) → (judged s
 judged_taken s time None e = absurd (refused_not s Kind e)
 judged_taken s time (Some event) e = go (nat_lt time s.time) e
   where
-    go : (b : Bool) → (cond b (refused s Order) (stepped s time event (step time event s.progress))).bad ≡ None → IsTaken s (cond b (refused s Order) (stepped s time event (step time event s.progress)))
+    go : (b : Bool) → (cond b (refused s Order) (stepped s time event (step time event s.progress))).bad ≡ None →
+        IsTaken s (cond b (refused s Order) (stepped s time event (step time event s.progress)))
     go true e = absurd (refused_not s Order e)
     go false e = settled_taken s (record s { progress = (step time event s.progress).progress }) time event (step time event s.progress).fault refl refl e
 
@@ -88,7 +91,8 @@ record HasRest (s t : LiveState) (rest : List ℕ) : Type 0 where
 rest_taken : (s : LiveState) (rest : List ℕ) → (with_rest s rest).bad ≡ None → HasRest s (with_rest s rest) rest
 rest_taken s rest e = go (is_some s.bad) refl e
   where
-    closing : (c : Bool) → s.closed ≡ c → s.bad ≡ None → (cond (c && nat_lt 0 (length rest)) (refused s Length) (record s { rest = rest })).bad ≡ None → HasRest s (cond (c && nat_lt 0 (length rest)) (refused s Length) (record s { rest = rest })) rest
+    closing : (c : Bool) → s.closed ≡ c → s.bad ≡ None → (cond (c && nat_lt 0 (length rest)) (refused s Length) (record s { rest = rest })).bad ≡ None →
+        HasRest s (cond (c && nat_lt 0 (length rest)) (refused s Length) (record s { rest = rest })) rest
     closing false c n e = record { lawful = n; taken = refl; open_still = λ some. c }
     closing true c n e = none (nat_lt 0 (length rest)) refl e
       where
@@ -110,7 +114,8 @@ pub record IsWithinRecord (s : LiveState) (records : ℕ) : Type 0 where
   pub taken : s.taken ≡ records
   pub not_closed : s.closed ≡ false
 
-pub within_record : (table : NodeTable) (bytes : List ℕ) (records part : ℕ) → (after table bytes).bad ≡ None → length bytes ≡ 14 * records + part → 0 < part → part < 14 → records < 2 ^ 64 → IsWithinRecord (after table bytes) records
+pub within_record : (table : NodeTable) (bytes : List ℕ) (records part : ℕ) → (after table bytes).bad ≡ None → length bytes ≡ 14 * records + part → 0 < part → part < 14 → records < 2 ^ 64 →
+    IsWithinRecord (after table bytes) records
 within_record table bytes records part lawful long some less few =
     let c = cut_counted bytes in
     let s : LiveState = fold take_record (open_stream table) (cut bytes).whole in

@@ -1,5 +1,6 @@
 -- Bytes one after another give the state after all of them.
-use Rattle.std.proofs.Common.{◌≡◌, ◌≢◌, ℕ, ◌+◌, ◌<◌, Bool, true, false, cond, ◌&&◌, ◌==◌, List, [], ◌∷◌, ◌++◌, length, fold, Option, Some, None, refl, sym, ap, ◌∙◌, arith, inl, inr, lt-ltb, eq-eqb, ne_eqb, true≢false}
+use Rattle.std.proofs.Common.{◌≡◌, ◌≢◌, ℕ, ◌+◌, ◌<◌, Bool, true, false, cond, ◌&&◌, ◌==◌, List, [], ◌∷◌, ◌++◌, length, fold, Option, Some, None, refl, sym, ap, ◌∙◌, arith, inl, inr, lt-ltb, eq-eqb}
+use Rattle.std.proofs.Common.{ne_eqb, true≢false}
 use Rattle.std.specs.Prelude.{nat_lt, is_some, IfSome}
 use Rattle.std.proofs.lemmas.Bool.{cases_Bool}
 use Rattle.std.proofs.lemmas.List.{length-append}
@@ -105,7 +106,8 @@ closed_byte s rest byte e n c =
 -- a byte is taken of an open stream
 open_byte : (s : LiveState) (rest : List ℕ) (byte : ℕ) → IsEmpty s → s.bad ≡ None → s.closed ≡ false → take_byte (with_rest s rest) byte ≡ more s (rest ++ byte ∷ [])
 open_byte s rest byte e n c =
-    ap (λ z. take_byte z byte) (held rest) ∙ ap (λ b. cond b (record s { rest = rest }) (cond s.closed (refused (record s { rest = rest }) Length) (take_open (record s { rest = rest }) (rest ++ byte ∷ [])))) (ap is_some n)
+    ap (λ z. take_byte z byte) (held rest) ∙ ap
+    (λ b. cond b (record s { rest = rest }) (cond s.closed (refused (record s { rest = rest }) Length) (take_open (record s { rest = rest }) (rest ++ byte ∷ [])))) (ap is_some n)
     ∙ ap (λ b. cond b (refused (record s { rest = rest }) Length) (take_open (record s { rest = rest }) (rest ++ byte ∷ []))) c
     ∙ both (length (rest ++ byte ∷ []) == 14)
   where
@@ -117,7 +119,8 @@ open_byte s rest byte e n c =
     whole = ap (λ (r : List ℕ). take_record (record s { rest = r }) (rest ++ byte ∷ [])) (sym e)
         ∙ sym (no_rest (take_record s (rest ++ byte ∷ [])) (record_empty s (rest ++ byte ∷ []) e))
 
-    both : (b : Bool) → cond b (take_record (record s { rest = [] }) (rest ++ byte ∷ [])) (record s { rest = rest ++ byte ∷ [] }) ≡ cond b (with_rest (take_record s (rest ++ byte ∷ [])) []) (with_rest s (rest ++ byte ∷ []))
+    both : (b : Bool) → cond b (take_record (record s { rest = [] }) (rest ++ byte ∷ [])) (record s { rest = rest ++ byte ∷ [] }) ≡ cond b (with_rest (take_record s (rest ++ byte ∷ [])) [])
+        (with_rest s (rest ++ byte ∷ []))
     both true = whole
     both false = sym (held (rest ++ byte ∷ []))
 

@@ -1,5 +1,6 @@
 -- A node that takes no more turns than it must does the same.
-use Rattle.std.proofs.Common.{◌≡◌, ◌≢◌, ℕ, zero, suc, ◌+◌, ◌≤◌, Bool, true, false, cond, ◌&&◌, ◌==◌, List, [], ◌∷◌, ◌++◌, length, filter, fold, get_or, Contains, Option, Some, None, refl, sym, ap, ◌∙◌, subst, arith, inl, inr, ◌⊎◌, true≢false, lt-ltb, ltb-true, leb-true, eqb-true, eq-eqb, ne_eqb, append-nil}
+use Rattle.std.proofs.Common.{◌≡◌, ◌≢◌, ℕ, zero, suc, ◌+◌, ◌≤◌, Bool, true, false, cond, ◌&&◌, ◌==◌, List, [], ◌∷◌, ◌++◌, length, filter, fold, get_or, Contains, Option, Some, None, refl, sym, ap}
+use Rattle.std.proofs.Common.{◌∙◌, subst, arith, inl, inr, ◌⊎◌, true≢false, lt-ltb, ltb-true, leb-true, eqb-true, eq-eqb, ne_eqb, append-nil}
 use Rattle.std.specs.Prelude.{All, IfSome, is_some, is_none, nat_lt, nat_le, replicate}
 use Rattle.std.proofs.lemmas.List.{length-replicate}
 use Rattle.std.specs.List.{flat_map, list_any}
@@ -9,7 +10,8 @@ use Rattle.std.proofs.lemmas.List.Elements.{All-cons, All-head, All-tail, All-ni
 use Rattle.cpg_base.proofs.Lists.{Contains-first, Contains-rest, Contains-cases, Contains-nil, Contains-filter, Contains-filter_parts, list_any_parts, from_any_false, same_truth}
 use Rattle.cpg_table.specs.Table.{NodeTable}
 use Rattle.cpg_table.specs.Lawful.{IsTable}
-use Rattle.cpg_node.specs.Dispatcher.{Dispatcher, Own, Range, Running, Ended, Frame, Act, zip_with, candidates, is_after, next, turn, acts_of_turn, heard_after, running_after, ends_in_turn, with_report, hear_frame, is_strange, opening}
+use Rattle.cpg_node.specs.Dispatcher.{Dispatcher, Own, Range, Running, Ended, Frame, Act, zip_with, candidates, is_after, next, turn, acts_of_turn, heard_after, running_after, ends_in_turn}
+use Rattle.cpg_node.specs.Dispatcher.{with_report, hear_frame, is_strange, opening}
 use Rattle.cpg_node.specs.State.{running_in, running_of, time_of}
 use Rattle.cpg_node.specs.Plan.{fixed_times}
 use Rattle.cpg_node.specs.Quiet.{awaited_end, awaited, next_awaited, TellsFew}
@@ -22,7 +24,8 @@ use Rattle.cpg_live.specs.declared.event.Event.TheVariants.{Frame as Arrival, En
 use Rattle.cpg_live.specs.declared.bad.Why.{Why}
 use Rattle.cpg_live.specs.declared.bad.Why.TheVariants.{Length, Kind, Order, Frame as StrangeFrame, End as FalseEnd}
 use Rattle.cpg_live.specs.Records.{cut, record_of, event_of}
-use Rattle.cpg_live.specs.Stream.{Progress, Step, LiveState, take_turn, instant_below, turn_if, turns_below, turned, faulty, lawful, may_tell, may_end_now, may_end, arrived, ended, step, refused, settled, stepped, judged, take_record, with_rest, open_stream, is_close}
+use Rattle.cpg_live.specs.Stream.{NodeProgress, Step, LiveState, take_turn, instant_below, turn_if, turns_below, turned, faulty, lawful, may_tell, may_end_now, may_end, arrived, ended, step, refused}
+use Rattle.cpg_live.specs.Stream.{settled, stepped, judged, take_record, with_rest, open_stream, is_close}
 use Rattle.cpg_live.specs.Told.{after_last}
 use Rattle.cpg_live.specs.Fewer.{turns_awaited, turned_fewer, step_fewer, judged_fewer, take_record_fewer, with_last, TurnsMayBeLeftOut}
 use Rattle.cpg_live.proofs.Turns.{floor_after, after_floor, Below, NotBelow, below_or_not, still}
@@ -35,7 +38,7 @@ candidate_next d x m a = go (next d) refl
     go None e = absurd (true≢false (sym (next_none d e x m) ∙ not_by d.last x a))
     go (Some y) e = (y, e, (next_is d y e).least x m (not_by d.last x a))
 
-still_fewer : (n limit : ℕ) (p : Progress) → instant_below limit (next_awaited p.dispatcher) ≡ None → turns_awaited n limit p ≡ p
+still_fewer : (n limit : ℕ) (p : NodeProgress) → instant_below limit (next_awaited p.dispatcher) ≡ None → turns_awaited n limit p ≡ p
 unfolding turns_awaited
 still_fewer zero limit p e = refl
 still_fewer (suc n) limit p e = ap (λ o. turns_awaited n limit (turn_if p o)) e ∙ still_fewer n limit p e
@@ -112,7 +115,8 @@ moved k time e (o ∷ os) (run ∷ runs) r h x m = go (o.process == e.process) r
     go false is run h m ih =
         let same : with_report e o run ≡ run = is_here run ∙ ap (λ b. here b run) is ∙ plain run in
         let tail : InTime time e os runs = λ q s. subst (λ (z : Own). time ≤ q.start + get_or z.times e.faults 0)
-        (ap (λ l. get_or l 0 (record { process = 0; condition = None; times = [] })) (cond-false _ (o ∷ filter (λ (o : Own). o.process == e.process) os) (filter (λ (o : Own). o.process == e.process) os) is))
+        (ap (λ l. get_or l 0 (record { process = 0; condition = None; times = [] }))
+        (cond-false _ (o ∷ filter (λ (o : Own). o.process == e.process) os) (filter (λ (o : Own). o.process == e.process) os) is))
         (h q (cond-false _ run (running_in os runs e.process) is ∙ s)) in
         elim (Contains-append_cases (awaited_end k o (with_report e o run)) new x m) [
           | inl c ↦ inl (Contains-append_left (awaited_end k o run) rest x (subst (λ q. Contains (awaited_end k o q) x) same c))
@@ -135,7 +139,8 @@ moved k time e (o ∷ os) (run ∷ runs) r h x m = go (o.process == e.process) r
             let end : ℕ = q.start + get_or o.times e.faults 0 in
             let said : Contains (end ∷ []) x = subst (λ z. Contains (awaited_end k o z) x) (is_here (Some q) ∙ ap (λ b. here b (Some q)) is) c in
             let late : time ≤ q.start + get_or o.times e.faults 0 = subst (λ (z : Own). time ≤ q.start + get_or z.times e.faults 0)
-            (ap (λ l. get_or l 0 (record { process = 0; condition = None; times = [] })) (cond-true _ (o ∷ filter (λ (o : Own). o.process == e.process) os) (filter (λ (o : Own). o.process == e.process) os) is))
+            (ap (λ l. get_or l 0 (record { process = 0; condition = None; times = [] }))
+            (cond-true _ (o ∷ filter (λ (o : Own). o.process == e.process) os) (filter (λ (o : Own). o.process == e.process) os) is))
             (h q (cond-true _ (Some q) (running_in os runs e.process) is)) in
             elim (Contains-cases end [] x said) [ inl z ↦ inr (omega (arith, z, late)) | inr n ↦ absurd (Contains-nil x n) ]
 
@@ -144,7 +149,7 @@ module _ (t : NodeTable) (made : IsTable t) where
   abbrev node : List Range → List (Option Running) → Option ℕ → Dispatcher
   node h r l = record { table = t; heard = h; running = r; last = l }
 
-  abbrev prog : List Range → List (Option Running) → Option ℕ → List Act → Progress
+  abbrev prog : List Range → List (Option Running) → Option ℕ → List Act → NodeProgress
   prog h r l a = record { dispatcher = node h r l; acts = a }
 
   -- all awaited instants are after both or none of the last turns
@@ -153,7 +158,7 @@ module _ (t : NodeTable) (made : IsTable t) where
     few : All (TellsFew t.faults) r
     reached : (x : ℕ) → Contains (awaited (node [] r None)) x → is_after l x ≡ is_after m x
 
-  record Pair (limit : ℕ) (P Q : Progress) : Type 0 where
+  record Pair (limit : ℕ) (P Q : NodeProgress) : Type 0 where
     heard : List Range
     runs : List (Option Running)
     acts : List Act
@@ -301,7 +306,7 @@ module _ (t : NodeTable) (made : IsTable t) where
         (next_turn n limit (turns_alike n limit) k h r l m a same p q g b)
   ]
 
-  turned_alike : (limit : ℕ) (P Q : Progress) → Pair limit P Q → Pair limit (turned limit P) (turned_fewer limit Q)
+  turned_alike : (limit : ℕ) (P Q : NodeProgress) → Pair limit P Q → Pair limit (turned limit P) (turned_fewer limit Q)
   turned_alike limit P Q k =
       subst (λ P. Pair limit (turned limit P) (turned_fewer limit Q)) (sym k.one) (subst (λ Q. Pair limit (turned limit (prog k.heard k.runs k.l k.acts)) (turned_fewer limit Q)) (sym k.two)
       (turns_alike limit limit limit k.heard k.runs k.l k.m k.acts k.alike (omega arith) (omega arith) k.before k.later))
@@ -309,9 +314,21 @@ module _ (t : NodeTable) (made : IsTable t) where
   after_more : (l : Option ℕ) (x y : ℕ) → x ≤ y → is_after l x ≡ true → is_after l y ≡ true
   after_more l x y le h = after_floor l y (let f = floor_after l x h in omega (arith, le, f))
 
-  pair_later : (x y : ℕ) (P Q : Progress) → x ≤ y → Pair x P Q → Pair y P Q
+  pair_later : (x y : ℕ) (P Q : NodeProgress) → x ≤ y → Pair x P Q → Pair y P Q
   pair_later x y P Q le k =
-      record { heard = k.heard; runs = k.runs; acts = k.acts; l = k.l; m = k.m; one = k.one; two = k.two; alike = k.alike; before = after_more k.l x y le k.before; later = after_more k.m x y le k.later }
+      record {
+        heard = k.heard;
+        runs = k.runs;
+        acts = k.acts;
+        l = k.l;
+        m = k.m;
+        one = k.one;
+        two = k.two;
+        alike = k.alike;
+        before = after_more k.l x y le k.before;
+        later =
+            after_more k.m x y le k.later;
+      }
 
   -- what a step answers, and what it leaves
   record StepPair (limit : ℕ) (s z : Step) : Type 0 where
@@ -319,7 +336,7 @@ module _ (t : NodeTable) (made : IsTable t) where
     pair : Pair limit s.progress z.progress
 
   -- a frame
-  arrived_alike : (time : ℕ) (f : Frame) (P Q : Progress) → Pair time P Q → StepPair time (arrived time f P) (arrived time f Q)
+  arrived_alike : (time : ℕ) (f : Frame) (P Q : NodeProgress) → Pair time P Q → StepPair time (arrived time f P) (arrived time f Q)
   arrived_alike time f P Q k =
       subst (λ P. StepPair time (arrived time f P) (arrived time f Q)) (sym k.one) (subst (λ Q. StepPair time (arrived time f (prog k.heard k.runs k.l k.acts)) (arrived time f Q)) (sym k.two)
       (go (is_strange (node k.heard k.runs k.l) time f)))
@@ -328,7 +345,22 @@ module _ (t : NodeTable) (made : IsTable t) where
           (cond b (faulty (prog k.heard k.runs k.m k.acts) StrangeFrame) (lawful (prog (hear_frame t k.heard f) k.runs k.m k.acts)))
       go true = record { fault = refl; pair = record { heard = k.heard; runs = k.runs; acts = k.acts; l = k.l; m = k.m; one = refl; two = refl; alike = k.alike; before = k.before; later = k.later } }
       go false =
-          record { fault = refl; pair = record { heard = hear_frame t k.heard f; runs = k.runs; acts = k.acts; l = k.l; m = k.m; one = refl; two = refl; alike = k.alike; before = k.before; later = k.later } }
+          record {
+            fault = refl;
+            pair = record {
+              heard = hear_frame t k.heard f;
+              runs = k.runs;
+              acts = k.acts;
+              l = k.l;
+              m = k.m;
+              one = refl;
+              two = refl;
+              alike = k.alike;
+              before = k.before;
+              later =
+                  k.later;
+            };
+          }
 
   -- an end that may be told isn't due before it is told
   in_time : (h : List Range) (r : List (Option Running)) (l : Option ℕ) (time : ℕ) (e : Ended) (o : Option Running) → may_end_now (node h r l) time e o ≡ true → (run : Running) →
@@ -355,7 +387,7 @@ module _ (t : NodeTable) (made : IsTable t) where
         ];
       }
 
-  ended_step : (time : ℕ) (e : Ended) (P Q : Progress) → Pair time P Q → StepPair time (ended time e P) (ended time e Q)
+  ended_step : (time : ℕ) (e : Ended) (P Q : NodeProgress) → Pair time P Q → StepPair time (ended time e P) (ended time e Q)
   ended_step time e P Q k =
       subst (λ P. StepPair time (ended time e P) (ended time e Q)) (sym k.one) (subst (λ Q. StepPair time (ended time e (prog k.heard k.runs k.l k.acts)) (ended time e Q)) (sym k.two)
       (go (may_end (node k.heard k.runs k.l) time e) refl))
@@ -387,7 +419,7 @@ module _ (t : NodeTable) (made : IsTable t) where
   bound time (Ending process faults value) = time
   bound time Close = time + 1
 
-  step_alike : (time : ℕ) (event : Event) (P Q : Progress) → Pair time P Q → StepPair (bound time event) (step time event P) (step_fewer time event Q)
+  step_alike : (time : ℕ) (event : Event) (P Q : NodeProgress) → Pair time P Q → StepPair (bound time event) (step time event P) (step_fewer time event Q)
   step_alike time (Arrival f) P Q k = arrived_alike time f (turned time P) (turned_fewer time Q) (turned_alike time P Q k)
   step_alike time (Ending process faults value) P Q k = ended_step time (record { process = process; faults = faults; value = value }) (turned time P) (turned_fewer time Q) (turned_alike time P Q k)
   step_alike time Close P Q k = record { fault = refl; pair = turned_alike (time + 1) P Q (pair_later time (time + 1) P Q (omega arith) k) }
@@ -402,7 +434,7 @@ module _ (t : NodeTable) (made : IsTable t) where
   refused_twins : (s z : LiveState) (why : Why) → Twins s z → Twins (refused s why) (refused z why)
   refused_twins s z why k = record { limit = k.limit; pair = k.pair; up_to = λ none _. absurd (none-some _ (sym none)); same = ap (λ z. refused z why) k.same }
 
-  settled_twins : (s : LiveState) (P Q : Progress) (time : ℕ) (event : Event) (o : Option Why) → Pair (bound time event) P Q →
+  settled_twins : (s : LiveState) (P Q : NodeProgress) (time : ℕ) (event : Event) (o : Option Why) → Pair (bound time event) P Q →
       Twins (settled (record s { progress = P }) time event o) (settled (record s { progress = Q }) time event o)
   settled_twins s P Q time event None k = record { limit = bound time event; pair = k; up_to = λ _ more. far event more; same = refl }
     where
@@ -412,7 +444,7 @@ module _ (t : NodeTable) (made : IsTable t) where
       far Close e = absurd (true≢false e)
   settled_twins s P Q time event (Some why) k = record { limit = bound time event; pair = k; up_to = λ none _. absurd (none-some _ (sym none)); same = refl }
 
-  judged_twins : (s : LiveState) (Q : Progress) (limit time : ℕ) (o : Option Event) → Pair limit s.progress Q → limit ≤ s.time → Twins s (record s { progress = Q }) →
+  judged_twins : (s : LiveState) (Q : NodeProgress) (limit time : ℕ) (o : Option Event) → Pair limit s.progress Q → limit ≤ s.time → Twins s (record s { progress = Q }) →
       Twins (judged s time o) (judged_fewer (record s { progress = Q }) time o)
   judged_twins s Q limit time None k le t = refused_twins s (record s { progress = Q }) Kind t
   judged_twins s Q limit time (Some event) k le t = go (nat_lt time s.time) refl
@@ -425,23 +457,25 @@ module _ (t : NodeTable) (made : IsTable t) where
           subst (λ o. Twins (stepped s time event (step time event s.progress)) (settled (record s { progress = (step_fewer time event Q).progress }) time event o)) (sym k'.fault)
           (settled_twins s (step time event s.progress).progress (step_fewer time event Q).progress time event (step time event s.progress).fault k'.pair)
 
-  table_of : (limit : ℕ) (P Q : Progress) → Pair limit P Q → Q.dispatcher.table ≡ P.dispatcher.table
-  table_of limit P Q k = ap (λ (p : Progress). p.dispatcher.table) k.two ∙ sym (ap (λ (p : Progress). p.dispatcher.table) k.one)
+  table_of : (limit : ℕ) (P Q : NodeProgress) → Pair limit P Q → Q.dispatcher.table ≡ P.dispatcher.table
+  table_of limit P Q k = ap (λ (p : NodeProgress). p.dispatcher.table) k.two ∙ sym (ap (λ (p : NodeProgress). p.dispatcher.table) k.one)
 
   is_none_of : {A : Type 0} (o : Option A) → is_some o ≡ false → o ≡ None
   is_none_of None e = refl
   is_none_of (Some x) e = absurd (true≢false e)
 
-  record_twins : (s : LiveState) (Q : Progress) (bytes : List ℕ) → Twins s (record s { progress = Q }) → Twins (take_record s bytes) (take_record_fewer (record s { progress = Q }) bytes)
+  record_twins : (s : LiveState) (Q : NodeProgress) (bytes : List ℕ) → Twins s (record s { progress = Q }) → Twins (take_record s bytes) (take_record_fewer (record s { progress = Q }) bytes)
   record_twins s Q bytes k = go (is_some s.bad) s.closed refl refl
     where
       go : (b c : Bool) → is_some s.bad ≡ b → s.closed ≡ c →
           Twins (cond b s (cond c (refused s Length) (judged s (record_of bytes).time (event_of s.progress.dispatcher.table (record_of bytes)))))
-          (cond b (record s { progress = Q }) (cond c (refused (record s { progress = Q }) Length) (judged_fewer (record s { progress = Q }) (record_of bytes).time (event_of Q.dispatcher.table (record_of bytes)))))
+          (cond b (record s { progress = Q }) (cond c (refused (record s { progress = Q }) Length)
+          (judged_fewer (record s { progress = Q }) (record_of bytes).time (event_of Q.dispatcher.table (record_of bytes)))))
       go true c e f = k
       go false true e f = refused_twins s (record s { progress = Q }) Length k
       go false false e f =
-          subst (λ t. Twins (judged s (record_of bytes).time (event_of s.progress.dispatcher.table (record_of bytes))) (judged_fewer (record s { progress = Q }) (record_of bytes).time (event_of t (record_of bytes))))
+          subst (λ t. Twins (judged s (record_of bytes).time (event_of s.progress.dispatcher.table (record_of bytes)))
+          (judged_fewer (record s { progress = Q }) (record_of bytes).time (event_of t (record_of bytes))))
           (sym (table_of k.limit s.progress Q k.pair))
           (judged_twins s Q k.limit (record_of bytes).time (event_of s.progress.dispatcher.table (record_of bytes)) k.pair (k.up_to (is_none_of s.bad e) f) k)
 
@@ -474,7 +508,7 @@ module _ (t : NodeTable) (made : IsTable t) where
   }
 
   twin_is : (s z : LiveState) → Twins s z → z ≡ with_last s z.progress.dispatcher.last
-  twin_is s z k = k.same ∙ ap (λ (p : Progress). record s { progress = p })
+  twin_is s z k = k.same ∙ ap (λ (p : NodeProgress). record s { progress = p })
       (subst (λ P. z.progress ≡ record { dispatcher = record P.dispatcher { last = z.progress.dispatcher.last }; acts = P.acts }) (sym k.pair.one)
       (subst (λ Q. Q ≡ record { dispatcher = record (node k.pair.heard k.pair.runs k.pair.l) { last = Q.dispatcher.last }; acts = k.pair.acts }) (sym k.pair.two) refl))
 
@@ -501,5 +535,5 @@ turns_may_be_left_out table bytes made =
     let s : LiveState = fold take_record (open_stream table) (cut bytes).whole in
     let z : LiveState = fold take_record_fewer (open_stream table) (cut bytes).whole in
     let is = twin_is table made s z (twins_whole table made (cut bytes).whole (open_stream table) (open_stream table) (twins_open table made)) in
-    let last = ap (λ (p : Progress). p.dispatcher.last) (rest_same z (cut bytes).rest) in
+    let last = ap (λ (p : NodeProgress). p.dispatcher.last) (rest_same z (cut bytes).rest) in
     ap (λ z. with_rest z (cut bytes).rest) is ∙ rest_last s (cut bytes).rest z.progress.dispatcher.last ∙ ap (with_last (with_rest s (cut bytes).rest)) (sym last)

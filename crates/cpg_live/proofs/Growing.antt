@@ -8,7 +8,8 @@ use Rattle.cpg_live.specs.declared.bad.Why.TheVariants.{Length, Order, Frame as 
 use Rattle.cpg_live.specs.declared.event.Event.{Event}
 use Rattle.cpg_live.specs.declared.event.Event.TheVariants.{Frame as Arrival, End as Ending, Close}
 use Rattle.cpg_live.specs.Records.{record_of, event_of}
-use Rattle.cpg_live.specs.Stream.{Progress, LiveState, faulty, lawful, instant_below, turn_if, turn_below, turns_below, turned, may_end, ended, step, refused, settled, stepped, judged, take_record}
+use Rattle.cpg_live.specs.Stream.{NodeProgress, LiveState, faulty, lawful, instant_below, turn_if, turn_below, turns_below, turned, may_end, ended, step, refused, settled, stepped, judged}
+use Rattle.cpg_live.specs.Stream.{take_record}
 use Rattle.cpg_live.specs.Feeding.{take_open, take_byte, take_bytes}
 use Rattle.cpg_live.specs.Laws.{Grows}
 
@@ -18,19 +19,20 @@ same xs = ([], sym (append-nil xs))
 grow_on : (xs ys zs : List Act) → Grows xs ys → Grows ys zs → Grows xs zs
 grow_on xs ys zs p q = (p.0 ++ q.0, q.1 ∙ ap (λ (l : List Act). l ++ q.0) p.1 ∙ append_assoc xs p.0 q.0)
 
-turn_grows : (p : Progress) (o : Option ℕ) → Grows p.acts (turn_if p o).acts
+turn_grows : (p : NodeProgress) (o : Option ℕ) → Grows p.acts (turn_if p o).acts
 turn_grows p None = same p.acts
 turn_grows p (Some time) = (acts_of_turn p.dispatcher time [] [], refl)
 
-turns_grow : (n limit : ℕ) (p : Progress) → Grows p.acts (turns_below n limit p).acts
+turns_grow : (n limit : ℕ) (p : NodeProgress) → Grows p.acts (turns_below n limit p).acts
 unfolding turns_below
 turns_grow zero limit p = same p.acts
-turns_grow (suc n) limit p = grow_on p.acts (turn_below limit p).acts (turns_below n limit (turn_below limit p)).acts (turn_grows p (instant_below limit (next p.dispatcher))) (turns_grow n limit (turn_below limit p))
+turns_grow (suc n) limit p = grow_on p.acts (turn_below limit p).acts (turns_below n limit (turn_below limit p)).acts (turn_grows p (instant_below limit (next p.dispatcher)))
+    (turns_grow n limit (turn_below limit p))
 
-turned_grows : (limit : ℕ) (p : Progress) → Grows p.acts (turned limit p).acts
+turned_grows : (limit : ℕ) (p : NodeProgress) → Grows p.acts (turned limit p).acts
 turned_grows limit p = turns_grow limit limit p
 
-step_grows : (time : ℕ) (event : Event) (p : Progress) → Grows p.acts (step time event p).progress.acts
+step_grows : (time : ℕ) (event : Event) (p : NodeProgress) → Grows p.acts (step time event p).progress.acts
 step_grows time (Arrival f) p = go (is_strange (turned time p).dispatcher time f)
   where
     go : (b : Bool) → Grows p.acts (cond b (faulty (turned time p) StrangeFrame) (lawful (record (turned time p) { dispatcher = hear (turned time p).dispatcher f }))).progress.acts

@@ -10,7 +10,7 @@ use Rattle.cpg_node.proofs.Commuting.{next_same, other_running, reported_once, s
 use Rattle.cpg_live.specs.declared.bad.Why.TheVariants.{Frame as StrangeFrame, End as FalseEnd}
 use Rattle.cpg_live.specs.declared.event.Event.{Event}
 use Rattle.cpg_live.specs.declared.event.Event.TheVariants.{Frame as Arrival, End as Ending, Close}
-use Rattle.cpg_live.specs.Stream.{Progress, Step, faulty, lawful, instant_below, turned, may_tell, may_end_now, may_end, arrived, ended, is_close}
+use Rattle.cpg_live.specs.Stream.{NodeProgress, Step, faulty, lawful, instant_below, turned, may_tell, may_end_now, may_end, arrived, ended, is_close}
 use Rattle.cpg_live.specs.Told.{follow_one, follow}
 use Rattle.cpg_live.specs.Spelling.{RiseWithin}
 use Rattle.cpg_live.specs.Reorder.{AreThoseOf, EventsOfOneTimeCommute}
@@ -29,11 +29,11 @@ module _ (time : ℕ) where
   left None h = refl
   left (Some t) h = ap (λ b. cond b (Some t) None) (le-ltb t time h)
 
-  ready : (p : Progress) → IsReady (turned time p).dispatcher
+  ready : (p : NodeProgress) → IsReady (turned time p).dispatcher
   ready p = left (next (turned time p).dispatcher) (turned_end time p)
 
   -- an event does to a node what it does after the turns before its time
-  settled : (p : Progress) (e : Event) → is_close e ≡ false → follow_one (lawful p) (time, e) ≡ follow_one (lawful (turned time p)) (time, e)
+  settled : (p : NodeProgress) (e : Event) → is_close e ≡ false → follow_one (lawful p) (time, e) ≡ follow_one (lawful (turned time p)) (time, e)
   settled p (Arrival f) open' = ap (arrived time f) (sym (turned_last time (turned time p) (ready p)))
   settled p (Ending process faults value) open' = ap (ended time (record { process = process; faults = faults; value = value })) (sym (turned_last time (turned time p) (ready p)))
   settled p Close open' = absurd (no open')
@@ -41,13 +41,13 @@ module _ (time : ℕ) where
       no : true ≡ false → ⊥
       no e = subst (λ b. cond b Unit ⊥) e tt
 
-  abbrev with_node : Progress → Dispatcher → Progress
+  abbrev with_node : NodeProgress → Dispatcher → NodeProgress
   with_node p d = record { dispatcher = d; acts = p.acts }
 
-  hears : (p : Progress) (f : Frame) → IsReady p.dispatcher → is_strange p.dispatcher time f ≡ false → follow_one (lawful p) (time, Arrival f) ≡ lawful (with_node p (hear p.dispatcher f))
+  hears : (p : NodeProgress) (f : Frame) → IsReady p.dispatcher → is_strange p.dispatcher time f ≡ false → follow_one (lawful p) (time, Arrival f) ≡ lawful (with_node p (hear p.dispatcher f))
   hears p f r fine = ap (arrived time f) (turned_last time p r) ∙ ap (λ b. cond b (faulty p StrangeFrame) (lawful (with_node p (hear p.dispatcher f)))) fine
 
-  hears_fine : (p : Progress) (f : Frame) → IsReady p.dispatcher → (follow_one (lawful p) (time, Arrival f)).fault ≡ None → is_strange p.dispatcher time f ≡ false
+  hears_fine : (p : NodeProgress) (f : Frame) → IsReady p.dispatcher → (follow_one (lawful p) (time, Arrival f)).fault ≡ None → is_strange p.dispatcher time f ≡ false
   hears_fine p f r e = elim (cases_Bool (is_strange p.dispatcher time f)) [
     | inr fine ↦ fine
     | inl strange ↦ absurd (none-some StrangeFrame (sym e ∙ ap (λ (s : Step). s.fault) (ap (arrived time f) (turned_last time p r))
@@ -57,10 +57,10 @@ module _ (time : ℕ) where
   abbrev end_of : Ended → Event
   end_of e = Ending e.process e.faults e.value
 
-  notes : (p : Progress) (e : Ended) → IsReady p.dispatcher → may_end p.dispatcher time e ≡ true → follow_one (lawful p) (time, end_of e) ≡ lawful (with_node p (finished p.dispatcher e))
+  notes : (p : NodeProgress) (e : Ended) → IsReady p.dispatcher → may_end p.dispatcher time e ≡ true → follow_one (lawful p) (time, end_of e) ≡ lawful (with_node p (finished p.dispatcher e))
   notes p e r fine = ap (ended time e) (turned_last time p r) ∙ ap (λ b. cond b (lawful (with_node p (finished p.dispatcher e))) (faulty p FalseEnd)) fine
 
-  notes_fine : (p : Progress) (e : Ended) → IsReady p.dispatcher → (follow_one (lawful p) (time, end_of e)).fault ≡ None → may_end p.dispatcher time e ≡ true
+  notes_fine : (p : NodeProgress) (e : Ended) → IsReady p.dispatcher → (follow_one (lawful p) (time, end_of e)).fault ≡ None → may_end p.dispatcher time e ≡ true
   notes_fine p e r none = elim (cases_Bool (may_end p.dispatcher time e)) [
     | inl fine ↦ fine
     | inr wrong ↦ absurd (none-some FalseEnd (sym none ∙ ap (λ (s : Step). s.fault) (ap (ended time e) (turned_last time p r))
@@ -81,7 +81,7 @@ module _ (time : ℕ) where
       let run = unreported (finished d x) time y (running_of (finished d x) y.process) parts.1 in
       reported_once d x run.run (ap (running_of (finished d x)) same ∙ run.runs) run.none
 
-  module _ (p : Progress) (r : IsReady p.dispatcher) where
+  module _ (p : NodeProgress) (r : IsReady p.dispatcher) where
     two_frames : (x y : Frame) → is_strange p.dispatcher time x ≡ false → is_strange (hear p.dispatcher x) time y ≡ false →
         follow_one (follow_one (lawful p) (time, Arrival x)) (time, Arrival y) ≡ follow_one (follow_one (lawful p) (time, Arrival y)) (time, Arrival x)
     two_frames x y e f =
@@ -130,7 +130,7 @@ module _ (time : ℕ) where
     ready_swap (Arrival x) Close o q e f = absurd (subst (λ b. cond b Unit ⊥) q tt)
     ready_swap (Ending process faults value) Close o q e f = absurd (subst (λ b. cond b Unit ⊥) q tt)
 
-  event_swap : (p : Progress) (a b : Event) → is_close a ≡ false → is_close b ≡ false → (follow_one (follow_one (lawful p) (time, a)) (time, b)).fault ≡ None →
+  event_swap : (p : NodeProgress) (a b : Event) → is_close a ≡ false → is_close b ≡ false → (follow_one (follow_one (lawful p) (time, a)) (time, b)).fault ≡ None →
       follow_one (follow_one (lawful p) (time, a)) (time, b) ≡ follow_one (follow_one (lawful p) (time, b)) (time, a)
   event_swap p a b o q f =
       let here : follow_one (lawful p) (time, a) ≡ follow_one (lawful (turned time p)) (time, a) = settled p a o in
@@ -144,12 +144,12 @@ module _ (time : ℕ) where
 abbrev AreAt : ℕ → List (ℕ × Event) → Type 0
 AreAt time es = AllByRecursion (λ (e : ℕ × Event). (e.0 ≡ time) × (is_close e.1 ≡ false)) es
 
-to_front : (f : ℕ × Event) → is_close f.1 ≡ false → (before after : List (ℕ × Event)) (p : Progress) → AreAt f.0 before → (follow (lawful p) (before ++ f ∷ after)).fault ≡ None →
+to_front : (f : ℕ × Event) → is_close f.1 ≡ false → (before after : List (ℕ × Event)) (p : NodeProgress) → AreAt f.0 before → (follow (lawful p) (before ++ f ∷ after)).fault ≡ None →
     follow (lawful p) (before ++ f ∷ after) ≡ follow (lawful p) (f ∷ (before ++ after))
 to_front f open' [] after p at fine = refl
 to_front f open' (b ∷ before) after p at fine =
     let first : follow_one (lawful p) b ≡ lawful (follow_one (lawful p) b).progress = lawful_front (before ++ f ∷ after) (follow_one (lawful p) b) fine in
-    let next : Progress = (follow_one (lawful p) b).progress in
+    let next : NodeProgress = (follow_one (lawful p) b).progress in
     let moved = to_front f open' before after next at.1 (sym (ap (λ s. (follow s (before ++ f ∷ after)).fault) first) ∙ fine) in
     let all : follow (lawful p) (b ∷ (before ++ f ∷ after)) ≡ follow (follow_one (follow_one (lawful p) b) f) (before ++ after) =
     ap (λ s. follow s (before ++ f ∷ after)) first ∙ moved ∙ sym (ap (λ s. follow (follow_one s f) (before ++ after)) first) in
@@ -209,7 +209,7 @@ from_on : (from to time : ℕ) (es : List (ℕ × Event)) → time ≤ to → Ri
 from_on from to time [] le h k = le
 from_on from to time (e ∷ es) le h k = (k.0, h.1, h.2)
 
-reorder : (fs es : List (ℕ × Event)) (p : Progress) (from to : ℕ) → RiseWithin from to es → RiseWithin from to fs → AreThoseOf fs es → (follow (lawful p) es).fault ≡ None →
+reorder : (fs es : List (ℕ × Event)) (p : NodeProgress) (from to : ℕ) → RiseWithin from to es → RiseWithin from to fs → AreThoseOf fs es → (follow (lawful p) es).fault ≡ None →
     follow (lawful p) fs ≡ follow (lawful p) es
 reorder [] es p from to r q those fine = ap (follow (lawful p)) (sym those)
 reorder (f ∷ fs) es p from to r q those fine =

@@ -1,5 +1,6 @@
 -- Bytes that spell events are taken as these events.
-use Rattle.std.proofs.Common.{◌≡◌, ℕ, ◌+◌, ◌-◌, ◌<◌, ◌≤◌, ◌^◌, min, Bool, true, false, cond, ◌&&◌, ◌||◌, ◌==◌, List, [], ◌∷◌, ◌++◌, map, fold, Option, Some, None, refl, sym, ap, ◌∙◌, arith, append-nil, append_assoc, true≢false, ltb-true, le-ltb}
+use Rattle.std.proofs.Common.{◌≡◌, ℕ, ◌+◌, ◌-◌, ◌<◌, ◌≤◌, ◌^◌, min, Bool, true, false, cond, ◌&&◌, ◌||◌, ◌==◌, List, [], ◌∷◌, ◌++◌, map, fold, Option, Some, None, refl, sym, ap, ◌∙◌, arith}
+use Rattle.std.proofs.Common.{append-nil, append_assoc, true≢false, ltb-true, le-ltb}
 use Rattle.std.specs.Prelude.{nat_lt}
 use Rattle.std.specs.List.{AllByRecursion}
 use Rattle.std.specs.Int.{w16, w64, to_be_bytes, from_be_bytes}
@@ -15,7 +16,8 @@ use Rattle.cpg_live.specs.declared.bad.Why.TheVariants.{Order, Frame as StrangeF
 use Rattle.cpg_live.specs.declared.event.Event.{Event}
 use Rattle.cpg_live.specs.declared.event.Event.TheVariants.{Frame as Arrival, End as Ending, Close}
 use Rattle.cpg_live.specs.Records.{Cut, cut_byte, record_of, event_of}
-use Rattle.cpg_live.specs.Stream.{Progress, Step, LiveState, faulty, lawful, turned, may_end, arrived, ended, step, start, is_close, refused, settled, stepped, judged, take_record, with_rest, open_stream, outcome, after}
+use Rattle.cpg_live.specs.Stream.{NodeProgress, Step, LiveState, faulty, lawful, turned, may_end, arrived, ended, step, start, is_close, refused, settled, stepped, judged, take_record, with_rest}
+use Rattle.cpg_live.specs.Stream.{open_stream, outcome, after}
 use Rattle.cpg_live.specs.Told.{follow_if, follow}
 use Rattle.cpg_live.specs.Spelling.{bit, item_of, number_of, record_with, record_bytes, event_bytes, stream_bytes, HasRoom, RiseWithin, closed_at, BytesSpellEvents}
 use Rattle.cpg_live.proofs.Turns.{turned_table}
@@ -66,21 +68,21 @@ cut_records before (e ∷ es) =
 
 -- Events leave the table.
 
-arrived_table : (time : ℕ) (f : Frame) (p : Progress) → (arrived time f p).progress.dispatcher.table ≡ p.dispatcher.table
+arrived_table : (time : ℕ) (f : Frame) (p : NodeProgress) → (arrived time f p).progress.dispatcher.table ≡ p.dispatcher.table
 arrived_table time f p = go (is_strange p.dispatcher time f)
   where
     go : (b : Bool) → (cond b (faulty p StrangeFrame) (lawful (record p { dispatcher = hear p.dispatcher f }))).progress.dispatcher.table ≡ p.dispatcher.table
     go true = refl
     go false = refl
 
-ended_table : (time : ℕ) (e : Ended) (p : Progress) → (ended time e p).progress.dispatcher.table ≡ p.dispatcher.table
+ended_table : (time : ℕ) (e : Ended) (p : NodeProgress) → (ended time e p).progress.dispatcher.table ≡ p.dispatcher.table
 ended_table time e p = go (may_end p.dispatcher time e)
   where
     go : (b : Bool) → (cond b (lawful (record p { dispatcher = finished p.dispatcher e })) (faulty p FalseEnd)).progress.dispatcher.table ≡ p.dispatcher.table
     go true = refl
     go false = refl
 
-pub step_table : (time : ℕ) (event : Event) (p : Progress) → (step time event p).progress.dispatcher.table ≡ p.dispatcher.table
+pub step_table : (time : ℕ) (event : Event) (p : NodeProgress) → (step time event p).progress.dispatcher.table ≡ p.dispatcher.table
 step_table time (Arrival f) p = arrived_table time f (turned time p) ∙ turned_table time p
 step_table time (Ending process faults value) p = ended_table time (record { process = process; faults = faults; value = value }) (turned time p) ∙ turned_table time p
 step_table time Close p = turned_table (time + 1) p
@@ -104,11 +106,11 @@ within_le from to (e ∷ es) h = omega (arith, h.0, within_le e.0 to es h.2)
 
 -- An open stream takes them.
 
-abbrev state : Progress → ℕ → ℕ → Bool → LiveState
+abbrev state : NodeProgress → ℕ → ℕ → Bool → LiveState
 state p taken time closed = record { progress = p; taken = taken; time = time; rest = []; closed = closed; bad = None }
 
 module _ (table : NodeTable) where
-  takes_one : (p : Progress) (taken time : ℕ) (e : ℕ × Event) → p.dispatcher.table ≡ table → time ≤ e.0 → e.0 < 2 ^ 64 → HasRoom table e.1 → (step e.0 e.1 p).fault ≡ None →
+  takes_one : (p : NodeProgress) (taken time : ℕ) (e : ℕ × Event) → p.dispatcher.table ≡ table → time ≤ e.0 → e.0 < 2 ^ 64 → HasRoom table e.1 → (step e.0 e.1 p).fault ≡ None →
       take_record (state p taken time false) (event_bytes e) ≡ state (step e.0 e.1 p).progress (min (taken + 1) (2 ^ 64 - 1)) e.0 (is_close e.1)
   takes_one p taken time e same later small room fine =
       let s : LiveState = state p taken time false in
@@ -118,7 +120,7 @@ module _ (table : NodeTable) where
       ∙ ap (λ b. cond b (refused s Order) (stepped s e.0 e.1 (step e.0 e.1 p))) (le-ltb e.0 time later)
       ∙ ap (settled (record s { progress = (step e.0 e.1 p).progress }) e.0 e.1) fine
 
-  takes_all : (close : ℕ) → close < 2 ^ 64 → (es : List (ℕ × Event)) (p : Progress) (taken time : ℕ) → p.dispatcher.table ≡ table → RiseWithin time close es →
+  takes_all : (close : ℕ) → close < 2 ^ 64 → (es : List (ℕ × Event)) (p : NodeProgress) (taken time : ℕ) → p.dispatcher.table ≡ table → RiseWithin time close es →
       AllByRecursion (λ (e : ℕ × Event). HasRoom table e.1) es →
       (follow (lawful p) es).fault ≡ None →
       (count : ℕ) × (fold take_record (state p taken time false) (map event_bytes (closed_at es close)) ≡ state (follow (lawful p) (closed_at es close)).progress count close true)
@@ -126,7 +128,7 @@ module _ (table : NodeTable) where
   takes_all close small (e ∷ es) p taken time same rise room fine =
       let most = within_le e.0 close es rise.2 in
       let whole : step e.0 e.1 p ≡ lawful (step e.0 e.1 p).progress = lawful_front es (step e.0 e.1 p) fine in
-      let next : Progress = (step e.0 e.1 p).progress in
+      let next : NodeProgress = (step e.0 e.1 p).progress in
       let one = takes_one p taken time e same rise.0 (omega (arith, most, small)) room.0 (ap (λ (s : Step). s.fault) whole) in
       let rest = takes_all close small es next (min (taken + 1) (2 ^ 64 - 1)) e.0 (step_table e.0 e.1 p ∙ same) rise.2 room.1 (sym (ap (λ s. (follow s es).fault) whole) ∙ fine) in (
         rest.0,

@@ -1,5 +1,6 @@
 -- What a turn and an event make of a node.
-use Rattle.std.proofs.Common.{◌≡◌, ℕ, ◌+◌, ◌<◌, ◌≤◌, Bool, true, false, cond, ◌&&◌, ◌||◌, List, [], ◌++◌, length, Option, Some, None, refl, sym, ap, ap₂, ◌∙◌, subst, arith, true≢false, ltb-true, leb-true}
+use Rattle.std.proofs.Common.{◌≡◌, ℕ, ◌+◌, ◌<◌, ◌≤◌, Bool, true, false, cond, ◌&&◌, ◌||◌, List, [], ◌++◌, length, Option, Some, None, refl, sym, ap, ap₂, ◌∙◌, subst, arith, true≢false, ltb-true}
+use Rattle.std.proofs.Common.{leb-true}
 use Rattle.std.specs.Prelude.{IfSome, is_some, is_none, not, nat_lt, nat_le}
 use Rattle.std.proofs.lemmas.Bool.{and_parts}
 use Rattle.std.proofs.lemmas.Option.{none-some}
@@ -10,7 +11,7 @@ use Rattle.cpg_node.proofs.Rooms.{room_turn}
 use Rattle.cpg_live.specs.declared.event.Event.{Event}
 use Rattle.cpg_live.specs.declared.event.Event.TheVariants.{Frame as Arrival, End as Ending, Close}
 use Rattle.cpg_live.specs.declared.bad.Why.TheVariants.{Frame as StrangeFrame, End as FalseEnd}
-use Rattle.cpg_live.specs.Stream.{Progress, faulty, lawful, take_turn, turned, may_end, may_end_now, may_tell, arrived, ended, step, is_close}
+use Rattle.cpg_live.specs.Stream.{NodeProgress, faulty, lawful, take_turn, turned, may_end, may_end_now, may_tell, arrived, ended, step, is_close}
 use Rattle.cpg_live.specs.Feeding.{IsTurned}
 use Rattle.cpg_live.proofs.Turns.{turned_after}
 
@@ -19,15 +20,15 @@ use Rattle.cpg_live.proofs.Turns.{turned_after}
 pub at_some : (o : Option ℕ) (t : ℕ) (P : ℕ → Type 0) → o ≡ Some t → IfSome o P → P t
 at_some o t P e h = subst (λ o. IfSome o P) e h
 
-abbrev progress_at : Dispatcher → List Act → Progress
+abbrev progress_at : Dispatcher → List Act → NodeProgress
 progress_at d acts = record { dispatcher = d; acts = acts }
 
 -- the node's turn and the acts that are added are the turn
-pub turn_taken : (p : Progress) (before after : NodeState) (time : ℕ) (items more all : List Act) → progress_at before.dispatcher items ≡ p → next p.dispatcher ≡ Some time →
+pub turn_taken : (p : NodeProgress) (before after : NodeState) (time : ℕ) (items more all : List Act) → progress_at before.dispatcher items ≡ p → next p.dispatcher ≡ Some time →
     IfSome (next before.dispatcher) (λ t. after.dispatcher ≡ turn before.dispatcher t [] []) → IfSome (next before.dispatcher) (λ t. after.acts ≡ acts_of_turn before.dispatcher t [] []) →
     more ≡ after.acts → all ≡ items ++ more → progress_at after.dispatcher all ≡ take_turn time p
 turn_taken p before after time items more all view comes d a m l =
-    let here : next before.dispatcher ≡ Some time = ap (λ (p : Progress). next p.dispatcher) view ∙ comes in
+    let here : next before.dispatcher ≡ Some time = ap (λ (p : NodeProgress). next p.dispatcher) view ∙ comes in
     ap₂ progress_at (at_some (next before.dispatcher) time (λ t. after.dispatcher ≡ turn before.dispatcher t [] []) here d)
     (l ∙ ap (λ l. items ++ l) (m ∙ at_some (next before.dispatcher) time (λ t. after.acts ≡ acts_of_turn before.dispatcher t [] []) here a))
     ∙ ap (take_turn time) view
@@ -89,21 +90,21 @@ may_finish d time e before later h =
 
 -- The last turn stays before the time of the record.
 
-arrived_after : (time : ℕ) (f : Frame) (p : Progress) → is_after p.dispatcher.last time ≡ true → is_after (arrived time f p).progress.dispatcher.last time ≡ true
+arrived_after : (time : ℕ) (f : Frame) (p : NodeProgress) → is_after p.dispatcher.last time ≡ true → is_after (arrived time f p).progress.dispatcher.last time ≡ true
 arrived_after time f p h = go (is_strange p.dispatcher time f)
   where
     go : (b : Bool) → is_after (cond b (faulty p StrangeFrame) (lawful (record p { dispatcher = hear p.dispatcher f }))).progress.dispatcher.last time ≡ true
     go true = h
     go false = h
 
-ended_after : (time : ℕ) (e : Ended) (p : Progress) → is_after p.dispatcher.last time ≡ true → is_after (ended time e p).progress.dispatcher.last time ≡ true
+ended_after : (time : ℕ) (e : Ended) (p : NodeProgress) → is_after p.dispatcher.last time ≡ true → is_after (ended time e p).progress.dispatcher.last time ≡ true
 ended_after time e p h = go (may_end p.dispatcher time e)
   where
     go : (b : Bool) → is_after (cond b (lawful (record p { dispatcher = finished p.dispatcher e })) (faulty p FalseEnd)).progress.dispatcher.last time ≡ true
     go true = h
     go false = h
 
-pub step_after : (time : ℕ) (event : Event) (p : Progress) → is_after p.dispatcher.last time ≡ true → is_close event ≡ false → is_after (step time event p).progress.dispatcher.last time ≡ true
+pub step_after : (time : ℕ) (event : Event) (p : NodeProgress) → is_after p.dispatcher.last time ≡ true → is_close event ≡ false → is_after (step time event p).progress.dispatcher.last time ≡ true
 step_after time (Arrival f) p h o = arrived_after time f (turned time p) (turned_after time p h)
 step_after time (Ending process faults value) p h o = ended_after time (record { process = process; faults = faults; value = value }) (turned time p) (turned_after time p h)
 step_after time Close p h o = absurd (true≢false o)

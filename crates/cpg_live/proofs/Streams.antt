@@ -1,10 +1,11 @@
 -- How a stream ends, by the part of it that was read.
-use Rattle.std.proofs.Common.{◌≡◌, ◌≢◌, ℕ, ◌+◌, ◌<◌, ◌≤◌, Bool, true, false, cond, ◌&&◌, List, ◌++◌, length, take, drop, Some, None, refl, sym, ap, ap₂, ◌∙◌, subst, arith, inl, inr, append-nil, lt-ltb, le-ltb, true≢false}
+use Rattle.std.proofs.Common.{◌≡◌, ◌≢◌, ℕ, ◌+◌, ◌<◌, ◌≤◌, Bool, true, false, cond, ◌&&◌, List, ◌++◌, length, take, drop, Some, None, refl, sym, ap, ap₂, ◌∙◌, subst, arith, inl, inr, append-nil}
+use Rattle.std.proofs.Common.{lt-ltb, le-ltb, true≢false}
 use Rattle.std.specs.Prelude.{is_none, nat_lt, Result, Ok, Err}
 use Rattle.std.proofs.Math.Seq.{take-append-add, drop-append_seam}
 use Rattle.std.proofs.lemmas.Grind.{flat_map-append}
 use Rattle.std.proofs.lemmas.List.{length-append, take-append-le, take_all}
-use Rattle.cpg_tale.specs.Fetch.{Fetch}
+use Rattle.cpg_history.specs.Fetch.{Fetch}
 use Rattle.cpg_io.specs.Sink.{Took, TookPrefix}
 use Rattle.cpg_io.proofs.Writes.{Took-trans}
 use Rattle.cpg_head.specs.Head.{Head}
@@ -70,7 +71,8 @@ not_long bad e = true≢false (ap is_lawless e)
     is_lawless Long = false
 
 -- all lines, if the state is known
-lines_of : (h : Head) (table : NodeTable) (bytes : List ℕ) (s : LiveState) (ends : Result ℕ StreamFault) → after table (read_part bytes) ≡ s → stream_end table bytes ≡ ends → stream_lines h table bytes ≡ act_lines h s.progress.acts ++ close_of ends
+lines_of : (h : Head) (table : NodeTable) (bytes : List ℕ) (s : LiveState) (ends : Result ℕ StreamFault) → after table (read_part bytes) ≡ s → stream_end table bytes ≡ ends →
+    stream_lines h table bytes ≡ act_lines h s.progress.acts ++ close_of ends
 lines_of h table bytes s ends same e = ap₂ (λ (t : LiveState) r. act_lines h t.progress.acts ++ close_of r) same e
 
 some_none : (bad : Bad) → Some bad ≡ None → ⊥
@@ -84,7 +86,8 @@ module _ (h : Head) (table : NodeTable) (fetch : Fetch) (sound : fetch.failed �
   ends_as : stream_end table fetch.given ≡ end_of (after table fetch.given) (length fetch.given)
   ends_as = ap (λ bytes. end_of (after table bytes) (length bytes)) read_all
 
-  refused_by : (fault : StreamFault) → (fault ≡ Long → IsTooLong table fetch.given) → (fault ≢ Long → (after table fetch.given).bad ≡ None → fetch.ended ≡ true) → stream_end table fetch.given ≡ Err fault → IsRefused h table fetch fault (act_lines h (after table fetch.given).progress.acts)
+  refused_by : (fault : StreamFault) → (fault ≡ Long → IsTooLong table fetch.given) → (fault ≢ Long → (after table fetch.given).bad ≡ None → fetch.ended ≡ true) →
+      stream_end table fetch.given ≡ Err fault → IsRefused h table fetch fault (act_lines h (after table fetch.given).progress.acts)
   refused_by fault long all ends = record {
     sound = sound;
     few = few;
@@ -121,18 +124,28 @@ module _ (h : Head) (table : NodeTable) (fetch : Fetch) (sound : fetch.failed �
     pub closed : (time : ℕ) → outcome (after table fetch.given) ≡ Ok time → IsClosed h table fetch (act_lines h (after table fetch.given).progress.acts ++ closed_line time)
     closed time e =
         let ends : stream_end table fetch.given ≡ Ok time = ends_short ∙ ap end_by e in
-        record { ended = ended; sound = sound; short = short; time = time; ends = ends; spelled = sym (lines_of h table fetch.given (after table fetch.given) (Ok time) (ap (after table) read_all) ends) }
+        record {
+          ended = ended;
+          sound = sound;
+          short = short;
+          time = time;
+          ends = ends;
+          spelled =
+              sym (lines_of h table fetch.given (after table fetch.given) (Ok time) (ap (after table) read_all) ends);
+        }
 
   -- where a sink took a front of the lines so far
   pub cut_off : (a b : List ℕ) → TookPrefix a b (act_lines h (after table fetch.given).progress.acts) → IsCutOff h table fetch a b
   cut_off a b took =
       let lines = act_lines h (after table fetch.given).progress.acts in
-      let all : stream_lines h table fetch.given ≡ lines ++ close_of (stream_end table fetch.given) = ap (λ (bytes : List ℕ). act_lines h (after table bytes).progress.acts ++ close_of (stream_end table fetch.given)) read_all in
+      let all : stream_lines h table fetch.given ≡ lines ++ close_of (stream_end table fetch.given) =
+      ap (λ (bytes : List ℕ). act_lines h (after table bytes).progress.acts ++ close_of (stream_end table fetch.given)) read_all in
       record { sound = sound; few = few; front = subst (TookPrefix a b) (sym all) (took_more a b lines (close_of (stream_end table fetch.given)) took); so_far = inr took }
 
 -- a front of all lines, in the last of which the sink met a fault
 pub cut_closed : (h : Head) (table : NodeTable) (fetch : Fetch) (a b : List ℕ) (lines : List ℕ) → IsClosed h table fetch lines → TookPrefix a b lines → IsCutOff h table fetch a b
-cut_closed h table fetch a b lines closed took = let s = closed.short in record { sound = closed.sound; few = omega (arith, s); front = subst (TookPrefix a b) closed.spelled took; so_far = inl closed.ended }
+cut_closed h table fetch a b lines closed took = let s = closed.short in
+    record { sound = closed.sound; few = omega (arith, s); front = subst (TookPrefix a b) closed.spelled took; so_far = inl closed.ended }
 
 -- the lines of acts that are added
 pub lines_more : (h : Head) (acts more all : List Act) → all ≡ acts ++ more → act_lines h all ≡ act_lines h acts ++ act_lines h (drop (length acts) all)

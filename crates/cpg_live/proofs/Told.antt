@@ -1,5 +1,6 @@
 -- A turn of a play is followed on the records of what it takes.
-use Rattle.std.proofs.Common.{◌≡◌, ℕ, zero, suc, ◌+◌, ◌≤◌, Bool, true, false, cond, not, ◌||◌, List, [], ◌∷◌, ◌++◌, map, Option, Some, None, refl, sym, ap, ap₂, ◌∙◌, subst, arith, inl, inr, lt-ltb, le-ltb, le-leb}
+use Rattle.std.proofs.Common.{◌≡◌, ℕ, zero, suc, ◌+◌, ◌≤◌, Bool, true, false, cond, not, ◌||◌, List, [], ◌∷◌, ◌++◌, map, Option, Some, None, refl, sym, ap, ap₂, ◌∙◌, subst, arith, inl, inr, lt-ltb}
+use Rattle.std.proofs.Common.{le-ltb, le-leb}
 use Rattle.std.specs.Prelude.{IfSome, is_none, is_some, nat_le}
 use Rattle.std.proofs.lemmas.Bool.{and_from}
 use Rattle.std.proofs.lemmas.List.Sums.{fold-append}
@@ -9,12 +10,12 @@ use Rattle.cpg_node.proofs.HeardFirst.{hearing_first_is_the_same}
 use Rattle.cpg_node.proofs.Next.{next_is}
 use Rattle.cpg_node.proofs.Turning.{next_reported}
 use Rattle.cpg_live.specs.declared.bad.Why.TheVariants.{Frame as StrangeFrame, End as FalseEnd}
-use Rattle.cpg_live.specs.Stream.{Progress, Step, faulty, lawful, take_turn, instant_below, turn_if, turns_below, turned, may_tell, may_end_now, may_end, arrived, ended}
+use Rattle.cpg_live.specs.Stream.{NodeProgress, Step, faulty, lawful, take_turn, instant_below, turn_if, turns_below, turned, may_tell, may_end_now, may_end, arrived, ended}
 use Rattle.cpg_live.specs.Told.{end_event, frame_event, follow_one, follow, after_last, HasCome, MayTell, told_ends, turn_events, TurnsAreFollowed, ClosesAreFollowed}
 use Rattle.cpg_live.proofs.Turns.{floor_after, below_or_not, still, turned_next, turned_last}
 
 -- turns below an earlier limit are among those below a later one
-further : (n x y : ℕ) (p : Progress) → x ≤ y → turned y (turns_below n x p) ≡ turned y p
+further : (n x y : ℕ) (p : NodeProgress) → x ≤ y → turned y (turns_below n x p) ≡ turned y p
 unfolding turns_below
 further zero x y p le = refl
 further (suc n) x y p le = elim (below_or_not x (next p.dispatcher)) [
@@ -23,7 +24,7 @@ further (suc n) x y p le = elim (below_or_not x (next p.dispatcher)) [
       ∙ turned_next y p b.time (ap (instant_below y) b.is ∙ ap (λ c. cond c (Some b.time) None) (lt-ltb b.time y (omega (arith, b.less, le))))
 ]
 
-abbrev at : Dispatcher → List Act → Progress
+abbrev at : Dispatcher → List Act → NodeProgress
 at d acts = record { dispatcher = d; acts = acts }
 
 none_before : (d : Dispatcher) (time limit : ℕ) → next d ≡ Some time → limit ≤ time → instant_below limit (next d) ≡ None
@@ -31,14 +32,14 @@ none_before d time limit e le = ap (instant_below limit) e ∙ ap (λ c. cond c 
 
 module _ (time : ℕ) (acts : List Act) where
   -- up to the time the node stays what it is
-  Holds : ℕ → Progress → Dispatcher → Type 0
+  Holds : ℕ → NodeProgress → Dispatcher → Type 0
   Holds from p d = (r : ℕ) → from ≤ r → r ≤ time → turned r p ≡ at d acts
 
   itself : (from : ℕ) (d : Dispatcher) → next d ≡ Some time → Holds from (at d acts) d
   unfolding Holds
   itself from d e r le most = turned_last r (at d acts) (none_before d time r e most)
 
-  come : (p : Progress) (d : Dispatcher) → HasCome p d acts → next d ≡ Some time → Holds (after_last d.last) p d
+  come : (p : NodeProgress) (d : Dispatcher) → HasCome p d acts → next d ≡ Some time → Holds (after_last d.last) p d
   unfolding Holds
   come p d h e r le most = sym (further (after_last d.last) (after_last d.last) r p le) ∙ ap (turned r) h ∙ turned_last r (at d acts) (none_before d time r e most)
 
@@ -53,20 +54,21 @@ module _ (time : ℕ) (acts : List Act) where
   may_end_is : (d : Dispatcher) (moment : ℕ) (e : Ended) → MayFinish d moment e → may_end d moment e ≡ true
   may_end_is d moment e m = and_from (may_tell d e) (may_end_now d moment e (running_of d e.process))
       (and_from (nat_le e.faults d.table.faults) _ (le-leb e.faults d.table.faults m.few) (plain (own_of d.table e.process).condition e.value m.plain))
-      (ap (may_end_now d moment e) m.runs ∙ and_from _ _ (and_from _ _ (ap is_none m.unreported) (lt-ltb m.run.start moment m.started)) (le-leb moment (m.run.start + time_of d e.process e.faults) m.in_time))
+      (ap (may_end_now d moment e) m.runs ∙ and_from _ _ (and_from _ _ (ap is_none m.unreported) (lt-ltb m.run.start moment m.started))
+      (le-leb moment (m.run.start + time_of d e.process e.faults) m.in_time))
     where
       plain : (o : Option ℕ) (value : Bool) → (o ≡ None → value ≡ false) → (is_some o || not value) ≡ true
       plain None value h = ap (λ v. false || not v) (h refl)
       plain (Some c) value h = refl
 
-  tell_end : (from : ℕ) (p : Progress) (d : Dispatcher) (e : ℕ × Ended) → Holds from p d → next d ≡ Some time → from ≤ e.0 → MayFinish d e.0 e.1 →
+  tell_end : (from : ℕ) (p : NodeProgress) (d : Dispatcher) (e : ℕ × Ended) → Holds from p d → next d ≡ Some time → from ≤ e.0 → MayFinish d e.0 e.1 →
       follow_one (lawful p) (end_event e) ≡ lawful (at (finished d e.1) acts)
   unfolding Holds
   tell_end from p d e h n le m =
       let most : e.0 ≤ time = subst (λ o. IfSome o (λ n. e.0 ≤ n)) n m.before in
       ap (ended e.0 e.1) (h e.0 le most) ∙ ap (λ b. cond b (lawful (at (finished d e.1) acts)) (faulty (at d acts) FalseEnd)) (may_end_is d e.0 e.1 m)
 
-  tell_ends : (es : List (ℕ × Ended)) (from : ℕ) (p : Progress) (d : Dispatcher) → Holds from p d → next d ≡ Some time → from ≤ time → MayTell d from es →
+  tell_ends : (es : List (ℕ × Ended)) (from : ℕ) (p : NodeProgress) (d : Dispatcher) → Holds from p d → next d ≡ Some time → from ≤ time → MayTell d from es →
       Told (follow (lawful p) (map end_event es)) (told_ends d es)
   tell_ends [] from p d h n le m = record { fault = refl; comes = n; from = from; within = le; hold = h }
   tell_ends (e ∷ es) from p d h n le m =
@@ -75,12 +77,12 @@ module _ (time : ℕ) (acts : List Act) where
       subst (λ s. Told (follow s (map end_event es)) (told_ends (finished d e.1) es)) (sym (tell_end from p d e h n m.0 m.1))
       (tell_ends es e.0 (at (finished d e.1) acts) (finished d e.1) (itself e.0 (finished d e.1) after) after most m.2)
 
-  tell_frame : (from : ℕ) (p : Progress) (d : Dispatcher) (f : Frame) → Holds from p d → from ≤ time → is_strange d time f ≡ false →
+  tell_frame : (from : ℕ) (p : NodeProgress) (d : Dispatcher) (f : Frame) → Holds from p d → from ≤ time → is_strange d time f ≡ false →
       follow_one (lawful p) (frame_event time f) ≡ lawful (at (hear d f) acts)
   unfolding Holds
   tell_frame from p d f h le fine = ap (arrived time f) (h time le (omega arith)) ∙ ap (λ b. cond b (faulty (at d acts) StrangeFrame) (lawful (at (hear d f) acts))) fine
 
-  tell_frames : (fs : List Frame) (from : ℕ) (p : Progress) (d : Dispatcher) → Holds from p d → next d ≡ Some time → from ≤ time → AllFine d time fs →
+  tell_frames : (fs : List Frame) (from : ℕ) (p : NodeProgress) (d : Dispatcher) → Holds from p d → next d ≡ Some time → from ≤ time → AllFine d time fs →
       Told (follow (lawful p) (map (frame_event time) fs)) (hear_all d fs)
   tell_frames [] from p d h n le m = record { fault = refl; comes = n; from = from; within = le; hold = h }
   tell_frames (f ∷ fs) from p d h n le m =
@@ -91,7 +93,7 @@ module _ (time : ℕ) (acts : List Act) where
   whole : (s : Step) → s.fault ≡ None → lawful s.progress ≡ s
   whole s e = ap (λ o. record { progress = s.progress; fault = o }) (sym e)
 
-  tell_all : (p : Progress) (d : Dispatcher) (reports : List (ℕ × Ended)) (frames : List Frame) → HasCome p d acts → next d ≡ Some time → MayTell d (after_last d.last) reports →
+  tell_all : (p : NodeProgress) (d : Dispatcher) (reports : List (ℕ × Ended)) (frames : List Frame) → HasCome p d acts → next d ≡ Some time → MayTell d (after_last d.last) reports →
       AllFine (told_ends d reports) time frames →
       Told (follow (lawful p) (turn_events time reports frames)) (hear_all (told_ends d reports) frames)
   tell_all p d reports frames h n may fine =

@@ -3,7 +3,7 @@ use Rattle.std.specs.Prelude.{ℕ, ◌≡◌, ◌≤◌, ◌+◌, ◌==◌, if�
 use Rattle.cpg_node.specs.Dispatcher.{Dispatcher, next}
 use Rattle.cpg_node.specs.Instants.{instants_left}
 use Rattle.cpg_live.specs.declared.bad.Why.TheVariants.{Length}
-use Rattle.cpg_live.specs.Stream.{LiveState, Progress, turns_below, refused, take_record}
+use Rattle.cpg_live.specs.Stream.{LiveState, NodeProgress, turns_below, refused, take_record}
 
 -- the state after a byte of an open stream, given the bytes of its record so far
 abbrev pub take_open : LiveState → List ℕ → LiveState
@@ -23,7 +23,7 @@ IsTurned d time = IfSome (next d) (λ instant. time ≤ instant)
 
 -- Turns were taken, and the instants that are left are fewer by at least their number. So there are no more turns than instants
 -- that the node could come to, and the entries of its table bound those.
-pub record AreFewTurns (limit : ℕ) (before after : Progress) : Type 0 where
+pub record AreFewTurns (limit : ℕ) (before after : NodeProgress) : Type 0 where
   pub turns : ℕ
   pub few : turns + instants_left after.dispatcher ≤ instants_left before.dispatcher
   pub is : after ≡ turns_below turns limit before

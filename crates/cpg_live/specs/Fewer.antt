@@ -7,23 +7,23 @@ use Rattle.cpg_live.specs.declared.event.Event.{Event}
 use Rattle.cpg_live.specs.declared.event.Event.TheVariants.{Frame as Arrival, End as Ending, Close}
 use Rattle.cpg_live.specs.declared.bad.Why.TheVariants.{Length, Kind, Order}
 use Rattle.cpg_live.specs.Records.{Cut, cut, record_of, event_of}
-use Rattle.cpg_live.specs.Stream.{Progress, Step, LiveState, instant_below, turn_if, arrived, ended, lawful, refused, stepped, with_rest, open_stream, after}
+use Rattle.cpg_live.specs.Stream.{NodeProgress, Step, LiveState, instant_below, turn_if, arrived, ended, lawful, refused, stepped, with_rest, open_stream, after}
 
 -- the turn of the next awaited instant, if that is below a limit
-abbrev pub turn_awaited : ℕ → Progress → Progress
+abbrev pub turn_awaited : ℕ → NodeProgress → NodeProgress
 turn_awaited limit p = turn_if p (instant_below limit (next_awaited p.dispatcher))
 
 -- up to this many such turns
-unfoldable pub turns_awaited : ℕ → ℕ → Progress → Progress
+unfoldable pub turns_awaited : ℕ → ℕ → NodeProgress → NodeProgress
 turns_awaited zero limit p = p
 turns_awaited (suc count) limit p = turns_awaited count limit (turn_awaited limit p)
 
 -- all turns at awaited instants below a limit
-abbrev pub turned_fewer : ℕ → Progress → Progress
+abbrev pub turned_fewer : ℕ → NodeProgress → NodeProgress
 turned_fewer limit p = turns_awaited limit limit p
 
 -- the step of an event after these turns alone
-abbrev pub step_fewer : ℕ → Event → Progress → Step
+abbrev pub step_fewer : ℕ → Event → NodeProgress → Step
 step_fewer time (Arrival f) p = arrived time f (turned_fewer time p)
 step_fewer time (Ending process faults value) p = ended time (record { process = process; faults = faults; value = value }) (turned_fewer time p)
 step_fewer time Close p = lawful (turned_fewer (time + 1) p)

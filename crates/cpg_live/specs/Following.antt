@@ -1,6 +1,6 @@
 -- A node that follows a stream, piece by piece.
 use Rattle.std.specs.Prelude.{ℕ, ◌≡◌, true, false, ◌+◌, ◌≤◌, List, ◌∷◌, None, Result, Ok, Err, MatchResult, length}
-use Rattle.cpg_tale.specs.Fetch.{Fetch, gave}
+use Rattle.cpg_history.specs.Fetch.{Fetch, gave}
 use Rattle.cpg_io.specs.Causes.{Rose}
 use Rattle.cpg_io.specs.State.{ShelfState, SinkState}
 use Rattle.cpg_io.specs.Sink.{Took, TookPrefix}

@@ -1,7 +1,7 @@
 -- Events at the same time, in any order.
 use Rattle.std.specs.Prelude.{ℕ, ◌≡◌, List, [], ◌∷◌, ◌++◌, None}
 use Rattle.cpg_live.specs.declared.event.Event.{Event}
-use Rattle.cpg_live.specs.Stream.{Progress, lawful}
+use Rattle.cpg_live.specs.Stream.{NodeProgress, lawful}
 use Rattle.cpg_live.specs.Told.{follow}
 use Rattle.cpg_live.specs.Spelling.{RiseWithin}
 
@@ -12,5 +12,5 @@ AreThoseOf (f ∷ fs) es = (before : List (ℕ × Event)) × (after : List (ℕ 
 
 -- If events are lawful in one order that rises in time, they are lawful in every such order, and lead to the same state.
 abbrev pub EventsOfOneTimeCommute : Type 0
-EventsOfOneTimeCommute = (p : Progress) (from to : ℕ) (es fs : List (ℕ × Event)) → RiseWithin from to es → RiseWithin from to fs → AreThoseOf fs es →
+EventsOfOneTimeCommute = (p : NodeProgress) (from to : ℕ) (es fs : List (ℕ × Event)) → RiseWithin from to es → RiseWithin from to fs → AreThoseOf fs es →
     (follow (lawful p) es).fault ≡ None → follow (lawful p) fs ≡ follow (lawful p) es

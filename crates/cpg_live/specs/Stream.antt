@@ -11,17 +11,17 @@ use Rattle.cpg_live.specs.declared.bad.Why.TheVariants.{Length, Kind, Order, Fra
 use Rattle.cpg_live.specs.Records.{Cut, cut, record_of, event_of}
 
 -- a node, and the acts of all its turns, in order
-pub record Progress : Type 0 where
+pub record NodeProgress : Type 0 where
   pub dispatcher : Dispatcher
   pub acts : List Act
 
 -- a node before its first turn
-abbrev pub start : NodeTable → Progress
+abbrev pub start : NodeTable → NodeProgress
 start table = record { dispatcher = opening table; acts = [] }
 
 -- A turn that is given no ends and no frames, since the node has taken them before.
 
-abbrev pub take_turn : ℕ → Progress → Progress
+abbrev pub take_turn : ℕ → NodeProgress → NodeProgress
 take_turn time p = record { dispatcher = turn p.dispatcher time [] []; acts = p.acts ++ acts_of_turn p.dispatcher time [] [] }
 
 -- the instant, if it is below a limit
@@ -30,35 +30,35 @@ instant_below limit None = None
 instant_below limit (Some time) = if nat_lt time limit then Some time else None
 
 -- the turn of an instant, if there is one
-abbrev pub turn_if : Progress → Option ℕ → Progress
+abbrev pub turn_if : NodeProgress → Option ℕ → NodeProgress
 turn_if p None = p
 turn_if p (Some time) = take_turn time p
 
 -- the turn of the next instant, if that is below a limit
-abbrev pub turn_below : ℕ → Progress → Progress
+abbrev pub turn_below : ℕ → NodeProgress → NodeProgress
 turn_below limit p = turn_if p (instant_below limit (next p.dispatcher))
 
 -- up to this many such turns
-unfoldable pub turns_below : ℕ → ℕ → Progress → Progress
+unfoldable pub turns_below : ℕ → ℕ → NodeProgress → NodeProgress
 turns_below zero limit p = p
 turns_below (suc count) limit p = turns_below count limit (turn_below limit p)
 
 -- All turns at instants below a limit. The instants of turns rise, so there are at most `limit` of them.
-abbrev pub turned : ℕ → Progress → Progress
+abbrev pub turned : ℕ → NodeProgress → NodeProgress
 turned limit p = turns_below limit limit p
 
 -- What an event does, and when it is unlawful. The turns that came before it are kept.
 
 -- where a node is after an event, and what is wrong with the event, if anything
 pub record Step : Type 0 where
-  pub progress : Progress
+  pub progress : NodeProgress
   pub fault : Option Why
 
 -- the step of an unlawful event, and that of a lawful one
-abbrev pub faulty : Progress → Why → Step
+abbrev pub faulty : NodeProgress → Why → Step
 faulty p why = record { progress = p; fault = Some why }
 
-abbrev pub lawful : Progress → Step
+abbrev pub lawful : NodeProgress → Step
 lawful p = record { progress = p; fault = None }
 
 -- an execution that hasn't reported may end at this time: after its start, and not later than planned
@@ -75,15 +75,15 @@ abbrev pub may_end : Dispatcher → ℕ → Ended → Bool
 may_end d time e = may_tell d e && may_end_now d time e (running_of d e.process)
 
 -- a frame arrives at a time
-abbrev pub arrived : ℕ → Frame → Progress → Step
+abbrev pub arrived : ℕ → Frame → NodeProgress → Step
 arrived time f p = if is_strange p.dispatcher time f then faulty p StrangeFrame else lawful (record p { dispatcher = hear p.dispatcher f })
 
 -- an end is reported at a time
-abbrev pub ended : ℕ → Ended → Progress → Step
+abbrev pub ended : ℕ → Ended → NodeProgress → Step
 ended time e p = if may_end p.dispatcher time e then lawful (record p { dispatcher = finished p.dispatcher e }) else faulty p FalseEnd
 
 -- The turns come first: those before the time and, at a close, also those at the time.
-abbrev pub step : ℕ → Event → Progress → Step
+abbrev pub step : ℕ → Event → NodeProgress → Step
 step time (Arrival f) p = arrived time f (turned time p)
 step time (Ending process faults value) p = ended time (record { process = process; faults = faults; value = value }) (turned time p)
 step time Close p = lawful (turned (time + 1) p)
@@ -92,7 +92,7 @@ step time Close p = lawful (turned (time + 1) p)
 
 -- the state after bytes of a stream
 pub record LiveState : Type 0 where
-  pub progress : Progress
+  pub progress : NodeProgress
   -- how many records were taken; the count stops at 2 ^ 64 - 1
   pub taken : ℕ
   -- the time of the last of them, or 0 before the first

@@ -2,7 +2,7 @@
 use Rattle.std.specs.Prelude.{ℕ, ◌+◌, ◌≡◌, ◌≢◌, ◌<◌, ◌≤◌, ◌⊎◌, true, false, ◌&&◌, nat_lt, if◌then◌else◌, List, [], ◌++◌, None, is_none, Result, Ok, Err, codes, length, take}
 use Rattle.std.specs.List.{flat_map}
 use Rattle.std.specs.Fmt.{decimal}
-use Rattle.cpg_tale.specs.Fetch.{Fetch}
+use Rattle.cpg_history.specs.Fetch.{Fetch}
 use Rattle.cpg_io.specs.Sink.{TookPrefix}
 use Rattle.cpg_head.specs.Head.{Head}
 use Rattle.cpg_table.specs.Table.{NodeTable}

@@ -6,7 +6,7 @@ use Rattle.cpg_node.specs.State.{MayFinish}
 use Rattle.cpg_live.specs.declared.event.Event.{Event}
 use Rattle.cpg_live.specs.declared.event.Event.TheVariants.{Frame as Arrival, End as Ending, Close}
 use Rattle.cpg_live.specs.declared.bad.Why.{Why}
-use Rattle.cpg_live.specs.Stream.{Progress, Step, lawful, step, turned}
+use Rattle.cpg_live.specs.Stream.{NodeProgress, Step, lawful, step, turned}
 
 -- the event of a report, at its time
 abbrev pub end_event : ℕ × Ended → ℕ × Event
@@ -34,7 +34,7 @@ after_last None = 0
 after_last (Some last) = last + 1
 
 -- with all turns up to its last one, a node on a stream is in the state of a node in a play
-abbrev pub HasCome : Progress → Dispatcher → List Act → Type 0
+abbrev pub HasCome : NodeProgress → Dispatcher → List Act → Type 0
 HasCome p d acts = turned (after_last d.last) p ≡ record { dispatcher = d; acts = acts }
 
 -- the node may take these reports one after another; they are in order of time, and none is before a moment
@@ -51,18 +51,18 @@ abbrev pub turn_events : ℕ → List (ℕ × Ended) → List Frame → List (�
 turn_events time reports frames = map end_event reports ++ map (frame_event time) frames
 
 -- the events are lawful, and lead to the node after the turn and to its acts
-pub record IsFollowed (p : Progress) (d : Dispatcher) (acts : List Act) (time : ℕ) (reports : List (ℕ × Ended)) (frames : List Frame) : Type 0 where
+pub record IsFollowed (p : NodeProgress) (d : Dispatcher) (acts : List Act) (time : ℕ) (reports : List (ℕ × Ended)) (frames : List Frame) : Type 0 where
   pub none : (follow (lawful p) (turn_events time reports frames)).fault ≡ None
   pub comes : HasCome (follow (lawful p) (turn_events time reports frames)).progress (turn (told_ends d reports) time [] frames) (acts ++ acts_of_turn (told_ends d reports) time [] frames)
 
 -- This holds for each turn whose reports the node may take, and whose frames aren't strange and contradict no end.
 abbrev pub TurnsAreFollowed : Type 0
-TurnsAreFollowed = (p : Progress) (d : Dispatcher) (acts : List Act) (time : ℕ) (reports : List (ℕ × Ended)) (frames : List Frame) → HasCome p d acts → next d ≡ Some time →
+TurnsAreFollowed = (p : NodeProgress) (d : Dispatcher) (acts : List Act) (time : ℕ) (reports : List (ℕ × Ended)) (frames : List Frame) → HasCome p d acts → next d ≡ Some time →
     MayTell d (after_last d.last) reports → AllFine (told_ends d reports) time frames →
     ((e : Ended) → Contains (due_reports (told_ends d reports) time) e → EndFits (told_ends d reports).table (hear_all (told_ends d reports) frames).heard e) →
     IsFollowed p d acts time reports frames
 
 -- A close that isn't before the last turn of a node with no next instant leaves just that node.
 abbrev pub ClosesAreFollowed : Type 0
-ClosesAreFollowed = (p : Progress) (d : Dispatcher) (acts : List Act) (time : ℕ) → HasCome p d acts → next d ≡ None → after_last d.last ≤ time + 1 →
+ClosesAreFollowed = (p : NodeProgress) (d : Dispatcher) (acts : List Act) (time : ℕ) → HasCome p d acts → next d ≡ None → after_last d.last ≤ time + 1 →
     step time Close p ≡ lawful (record { dispatcher = d; acts = acts })

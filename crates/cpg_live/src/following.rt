@@ -1,6 +1,6 @@
 //! A node of a pack that follows a stream.
 ghost use Rattle.std.specs.Prelude.{◌≡◌, ◌+◌, ◌*◌, ◌≤◌, ◌<◌, Err, IfErr, IfOk, IfSome, OnErr, OnOk, drop, length};
-ghost use Rattle.cpg_tale.specs.Fetch.{failed};
+ghost use Rattle.cpg_history.specs.Fetch.{failed};
 ghost use Rattle.cpg_io.specs.Agreement.{LeavesRest};
 ghost use Rattle.cpg_io.specs.Causes.{HasCause, Rose};
 ghost use Rattle.cpg_io.specs.Shelf.{SameLeave, SameNames};

@@ -7,7 +7,7 @@ ghost use Rattle.cpg_live.specs.Feeding.{take_byte, take_bytes};
 ghost use Rattle.cpg_live.specs.Laws.{Feeds, Grows};
 
 use crate::event::{Event, event_of, is_close};
-use crate::progress::Progress;
+use crate::progress::NodeProgress;
 use crate::reading::{RECORD_SIZE, Record, read_record};
 use crate::{Bad, Why};
 use cpg_base::OutOfMemory;
@@ -21,7 +21,7 @@ use std::marker::Model;
 /// first unlawful record, if there is one.
 #[derive(Drop)]
 pub struct Live {
-    progress: Progress,
+    progress: NodeProgress,
     taken: u64,
     time: u64,
     rest: Vec<u8>,
@@ -45,7 +45,7 @@ impl Live {
     pub fn new(alloc: Global, table: NodeTable) -> Result<Live, OutOfMemory>
         ensures { IfOk result (λ live. live ≡ open_stream table) }
     {
-        let progress = Progress::new(alloc, table)?;
+        let progress = NodeProgress::new(alloc, table)?;
         let mut rest = Vec::new(alloc);
         rest.reserve(RECORD_SIZE)?;
         Ok(Live {

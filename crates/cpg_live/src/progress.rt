@@ -17,16 +17,16 @@ use std::marker::Model;
 
 /// A node with the acts of all its turns, in order, and room for those that are still to come.
 #[derive(Drop)]
-pub struct Progress {
+pub struct NodeProgress {
     node: Node,
     acts: Vec<Act>,
 }
 
-impl Model for Progress {
-    ghost use Rattle.cpg_live.specs.Stream.{Progress};
+impl Model for NodeProgress {
+    ghost use Rattle.cpg_live.specs.Stream.{NodeProgress};
     ghost use Rattle.cpg_live.specs.Kept.{progress_of, HasRoom};
 
-    ghost Value = { Progress };
+    ghost Value = { NodeProgress };
 
     ghost view = { progress_of };
 
@@ -44,9 +44,9 @@ pub fn count_entries(table: &NodeTable) -> Option<usize>
     count_columns(table.starts(), sends)
 }
 
-impl Progress {
+impl NodeProgress {
     /// The node of a table before its first turn. Takes all room that it will need.
-    pub fn new(alloc: Global, table: NodeTable) -> Result<Progress, OutOfMemory>
+    pub fn new(alloc: Global, table: NodeTable) -> Result<NodeProgress, OutOfMemory>
         ensures { IfOk result (λ progress. progress ≡ start table) }
     {
         let Some(entries) = count_entries(&table) else {
@@ -55,7 +55,7 @@ impl Progress {
         let mut acts = Vec::new(alloc);
         acts.reserve(entries)?;
         let node = Node::new(alloc, table)?;
-        Ok(Progress { node, acts })
+        Ok(NodeProgress { node, acts })
     }
 
     /// The table of the node.

@@ -1,5 +1,6 @@
 -- Logs line by line.
-use Rattle.std.proofs.Common.{ℕ, zero, suc, ◌+◌, ◌<◌, ◌≡◌, ◌≢◌, ◌==◌, ◌^◌, List, [], ◌∷◌, ◌++◌, length, map, get_or, take, drop, codes, All, AllPairs, Contains, Some, None, arith, refl, sym, ap, ◌∙◌, subst, inl, inr, eq-eqb, ne_eqb}
+use Rattle.std.proofs.Common.{ℕ, zero, suc, ◌+◌, ◌<◌, ◌≡◌, ◌≢◌, ◌==◌, ◌^◌, List, [], ◌∷◌, ◌++◌, length, map, get_or, take, drop, codes, All, AllPairs, Contains, Some, None, arith, refl, sym, ap, ◌∙◌}
+use Rattle.std.proofs.Common.{subst, inl, inr, eq-eqb, ne_eqb}
 use Rattle.std.specs.Fmt.{decimal}
 use Rattle.std.proofs.lemmas.Bool.{cases_eq, cond-true, cond-false}
 use Rattle.std.proofs.lemmas.Fmt.{decimal_injective}
@@ -16,8 +17,10 @@ use Rattle.cpg_log.proofs.LineLaws.{same_parts, decimal_spaceless}
 use Rattle.cpg_log.proofs.TextLaws.{spaced, same_line}
 
 -- an act's line is parted after its time
-pub act_parts : (g : Graph) (line digits text : List ℕ) (act : Logged) → IsParted 32 line digits text → act.time < 2 ^ 60 → line ≡ act_line g act → (digits ≡ decimal act.time) × (text ≡ act_text g act.item)
-act_parts g line digits text act p early e = same_parts 32 digits (decimal act.time) text (act_text g act.item) p.first (decimal_spaceless act.time early) (sym p.whole ∙ e ∙ spaced (decimal act.time) (act_text g act.item))
+pub act_parts : (g : Graph) (line digits text : List ℕ) (act : Logged) → IsParted 32 line digits text → act.time < 2 ^ 60 → line ≡ act_line g act → (digits ≡ decimal act.time) ×
+    (text ≡ act_text g act.item)
+act_parts g line digits text act p early e = same_parts 32 digits (decimal act.time) text (act_text g act.item) p.first (decimal_spaceless act.time early)
+    (sym p.whole ∙ e ∙ spaced (decimal act.time) (act_text g act.item))
 
 -- the first line is parted after its word
 pub until_parts : (line word digits : List ℕ) (until : ℕ) → IsParted 32 line word digits → line ≡ until_line until → (word ≡ codes "until") × (digits ≡ decimal until)
@@ -87,7 +90,8 @@ lack_bad g ls lack = record { none = λ log is e. at ls lack log is.until e; bef
 
 -- the acts of lines that begin with those of a log
 module _ (g : Graph) (limits : IsWithinLimits g) (named : HaveNames g (item_count g)) (until later : ℕ) (early : until < 2 ^ 60) (soon : later < 2 ^ 60) (line : List ℕ) where
-  one_more : (xs ys : List Logged) → All (IsActBy g later) xs → All (IsActBy g until) ys → map (act_line g) xs ≡ map (act_line g) ys ++ line ∷ [] → (l : Logged) × (xs ≡ ys ++ l ∷ []) × (act_line g l ≡ line)
+  one_more : (xs ys : List Logged) → All (IsActBy g later) xs → All (IsActBy g until) ys → map (act_line g) xs ≡ map (act_line g) ys ++ line ∷ [] → (l : Logged) × (xs ≡ ys ++ l ∷ []) ×
+      (act_line g l ≡ line)
   one_more [] [] by is e = absurd (let f = ap length e in omega (arith, f))
   one_more [] (a ∷ ys) by is e = absurd (let f = ap length e in omega (arith, f))
   one_more (b ∷ []) [] by is e = (b, refl, head_of_cons (act_line g b) line [] [] e)
@@ -108,11 +112,18 @@ before_last (m ∷ ls) l pairs = cond-false (m.item == l.item) (Some m.time) (lo
     at_end [] x = refl
     at_end (y ∷ xs) x = at_end xs x
 
-module _ (g : Graph) (limits : IsWithinLimits g) (named : HaveNames g (item_count g)) (ls : List (List ℕ)) (log : Log) (rest : List ℕ) (is : IsLog g log) (spelled : ls ≡ log_lines g log ++ lines rest) where
+module _ (g : Graph) (limits : IsWithinLimits g) (named : HaveNames g (item_count g)) (ls : List (List ℕ)) (log : Log) (rest : List ℕ) (is : IsLog g log)
+    (spelled : ls ≡ log_lines g log ++ lines rest) where
   pub line_strange : (place : ℕ) → IsLineStrange g log rest place → IsBadLine g ls place
   line_strange place odd = record {
-    none = λ other by e. strange other by (sym with_line ∙ ap (λ n. take n ls) (let n : length (log_lines g log ++ odd.line ∷ []) ≡ place + 1 = omega (arith, odd.here, long, long_front (log_lines g log) (odd.line ∷ [])) in n) ∙ e);
-    before = λ some. (log, is, ap (λ n. take n ls) (let n : place ≡ length (log_lines g log) = omega (arith, odd.here, long) in n) ∙ ap (take (length (log_lines g log))) spelled ∙ take_front (log_lines g log) (lines rest));
+    none = λ other by e. strange other by (sym with_line ∙
+        ap (λ n. take n ls) (let n : length (log_lines g log ++ odd.line ∷ []) ≡ place + 1 = omega (arith, odd.here, long, long_front (log_lines g log) (odd.line ∷ [])) in n) ∙ e);
+    before = λ some. (
+      log,
+      is,
+      ap (λ n. take n ls) (let n : place ≡ length (log_lines g log) = omega (arith, odd.here, long) in n) ∙ ap (take (length (log_lines g log))) spelled ∙
+          take_front (log_lines g log) (lines rest),
+    );
   }
     where
       long : length (log_lines g log) ≡ suc (length log.acts)
@@ -140,7 +151,8 @@ module _ (g : Graph) (limits : IsWithinLimits g) (named : HaveNames g (item_coun
 apart_take : (ls : List Logged) (n : ℕ) → AllPairs (λ (a b : Logged). a.item ≢ b.item) ls → AllPairs (λ (a b : Logged). a.item ≢ b.item) (take n ls)
 apart_take ls n pairs i j d a b e =
     let long = length-take n ls in
-    pairs i j d a (omega (arith, long, b)) (sym (ap (λ (l : Logged). l.item) (get_or-take n ls i d (omega (arith, long, a, b)))) ∙ e ∙ ap (λ (l : Logged). l.item) (get_or-take n ls j d (omega (arith, long, b))))
+    pairs i j d a (omega (arith, long, b)) (sym (ap (λ (l : Logged). l.item) (get_or-take n ls i d (omega (arith, long, a, b)))) ∙ e ∙
+    ap (λ (l : Logged). l.item) (get_or-take n ls j d (omega (arith, long, b))))
 
 pub no_bad_line : (g : Graph) (bytes : List ℕ) (log : Log) → IsLogOf g bytes log → (n : ℕ) → IsBadLine g (lines bytes) n → ⊥
 no_bad_line g bytes log is n bad = bad.none (record { until = log.until; acts = take n log.acts })

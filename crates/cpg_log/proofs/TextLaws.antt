@@ -1,5 +1,6 @@
 -- The texts of acts, by number of the item.
-use Rattle.std.proofs.Common.{ℕ, ◌+◌, ◌<◌, ◌≡◌, ◌^◌, ◌==◌, Bool, true, false, ◌&&◌, ◌||◌, List, [], ◌∷◌, ◌++◌, codes, length, map, get_or, drop, arith, refl, sym, ap, ◌∙◌, subst, ◌⊎◌, inl, inr, ne_eqb, true≢false, String, Global, string_bytes}
+use Rattle.std.proofs.Common.{ℕ, ◌+◌, ◌<◌, ◌≡◌, ◌^◌, ◌==◌, Bool, true, false, ◌&&◌, ◌||◌, List, [], ◌∷◌, ◌++◌, codes, length, map, get_or, drop, arith, refl, sym, ap, ◌∙◌, subst, ◌⊎◌, inl, inr}
+use Rattle.std.proofs.Common.{ne_eqb, true≢false, String, Global, string_bytes}
 use Rattle.std.specs.Prelude.{nat_lt}
 use Rattle.std.specs.Fmt.{decimal}
 use Rattle.std.specs.List.{list_any}
@@ -102,7 +103,8 @@ module _ (g : Graph) (limits : IsWithinLimits g) where
   -- acts with the same line are the same
   pub same_line : HaveNames g (item_count g) → (until later : ℕ) → until < 2 ^ 60 → later < 2 ^ 60 → (a b : Logged) → IsActBy g until a → IsActBy g later b → act_line g a ≡ act_line g b → a ≡ b
   same_line named until later early soon a b is by e =
-      let r = same_parts 32 (decimal a.time) (decimal b.time) (act_text g a.item) (act_text g b.item) (decimal_spaceless a.time (omega (arith, is.time, early))) (decimal_spaceless b.time (omega (arith, by.time, soon)))
+      let r = same_parts 32 (decimal a.time) (decimal b.time) (act_text g a.item) (act_text g b.item) (decimal_spaceless a.time (omega (arith, is.time, early)))
+      (decimal_spaceless b.time (omega (arith, by.time, soon)))
       (sym (spaced (decimal a.time) (act_text g a.item)) ∙ e ∙ spaced (decimal b.time) (act_text g b.item)) in
       let time = decimal_injective a.time b.time (omega (arith, is.time, early)) (omega (arith, by.time, soon)) r.0 in
       let item = same_text named a.item b.item is.item by.item r.1 in

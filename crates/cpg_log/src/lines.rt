@@ -5,7 +5,7 @@ ghost use Rattle.std.specs.List.{list_any};
 ghost use Rattle.cpg_log.specs.Lines.{IsParted, lines};
 
 /// The place of the first such byte.
-fn place_of(bytes: &[u8], byte: u8) -> Option<usize>
+fn byte_index(bytes: &[u8], byte: u8) -> Option<usize>
     ensures place { result ≡ position (λ b. b == byte) bytes.now }
     ensures within { IfSome result (λ place. place < length bytes.now) }
 {
@@ -17,7 +17,7 @@ pub fn parted(bytes: &[u8], byte: u8) -> Option<(&[u8], &[u8])>
     ensures some { IfSome result (λ r. IsParted byte bytes.now r.0.now r.1.now) }
     ensures none { IfNone result (list_any (λ b. b == byte) bytes.now ≡ false) }
 {
-    let Some(place) = place_of(bytes, byte) else {
+    let Some(place) = byte_index(bytes, byte) else {
         return None;
     };
     Some((&bytes[..place], &bytes[place + 1..]))

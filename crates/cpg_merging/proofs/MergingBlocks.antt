@@ -23,7 +23,8 @@ pub none_before : (sums : List ℕ) (total : ℕ) (ls : List Literal) → AllAtZ
 none_before sums total ls h l c low rest lt e there = absurd (omega (arith, zero_in ls h l c, lt))
 
 -- literals of which a block was marked
-pub marked_on : (P : Literal → Type 0) (Q : Literal → Type 0) (all left block rest : List Literal) → left ≡ block ++ rest → ((l : Literal) → P l → Q l) → ((l : Literal) → Contains block l → Q l) → ((l : Literal) → Contains all l → Contains left l ⊎ P l)
+pub marked_on : (P : Literal → Type 0) (Q : Literal → Type 0) (all left block rest : List Literal) → left ≡ block ++ rest → ((l : Literal) → P l → Q l) → ((l : Literal) → Contains block l → Q l) →
+    ((l : Literal) → Contains all l → Contains left l ⊎ P l)
     → (l : Literal) → Contains all l → Contains rest l ⊎ Q l
 marked_on P Q all left block rest is kept here before l c = elim (before l c) [
   | inl there ↦ elim (Contains-append_cases block rest l (subst (λ ls. Contains ls l) is there)) [
@@ -33,5 +34,6 @@ marked_on P Q all left block rest is kept here before l c = elim (before l c) [
   | inr done ↦ inr (kept l done)
 ]
 
-pub all_marked : (P : Literal → Type 0) (all left : List Literal) → ((l : Literal) → Contains all l → Contains left l ⊎ P l) → ((l : Literal) → Contains left l → P l) → (l : Literal) → Contains all l → P l
+pub all_marked : (P : Literal → Type 0) (all left : List Literal) → ((l : Literal) → Contains all l → Contains left l ⊎ P l) → ((l : Literal) → Contains left l → P l) → (l : Literal) →
+    Contains all l → P l
 all_marked P all left before here l c = elim (before l c) [ inl there ↦ here l there | inr done ↦ done ]

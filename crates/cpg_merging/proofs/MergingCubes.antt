@@ -1,5 +1,6 @@
 -- Ranges of cubes when literals are left out or one is raised, and two cubes that touch made one.
-use Rattle.std.proofs.Common.{ℕ, ◌<◌, ◌≤◌, ◌≡◌, ◌≢◌, ◌⊎◌, Bool, true, false, not, cond, ◌==◌, List, [], ◌∷◌, length, take, Contains, All, get_or, arith, refl, sym, ap, ap₂, ◌∙◌, subst, ⊎_elim, eqb-true}
+use Rattle.std.proofs.Common.{ℕ, ◌<◌, ◌≤◌, ◌≡◌, ◌≢◌, ◌⊎◌, Bool, true, false, not, cond, ◌==◌, List, [], ◌∷◌, length, take, Contains, All, get_or, arith, refl, sym, ap, ap₂, ◌∙◌, subst, ⊎_elim}
+use Rattle.std.proofs.Common.{eqb-true}
 use Rattle.std.specs.List.{list_any}
 use Rattle.std.proofs.lemmas.Bool.{cases_eq, and_parts, or_parts, not-true, eqb-false}
 use Rattle.std.proofs.lemmas.List.{get_or-take, get_or_default, length-take-le}
@@ -161,13 +162,15 @@ module _ (v : ℕ) where
             high_in-later k l (raised v high ls) v other ∙ ih (subst (λ n. n < top k v) (high_in-later k l ls v other) h)
 
     pub raised-rising : (cube : List Literal) → IsRising cube → IsRising (raised v high cube)
-    raised-rising cube r = AllPairs-map (λ (l m : Literal). l.variable < m.variable) (λ (l m : Literal). l.variable < m.variable) raise cube (λ l m h. let a = raise-variable l in let b = raise-variable m in omega arith) r
+    raised-rising cube r = AllPairs-map (λ (l m : Literal). l.variable < m.variable) (λ (l m : Literal). l.variable < m.variable) raise cube
+        (λ l m h. let a = raise-variable l in let b = raise-variable m in omega arith) r
 
     pub raised-all : (P : ℕ → Type 0) (cube : List Literal) → All (λ l. P l.variable) cube → All (λ l. P l.variable) (raised v high cube)
     raised-all P cube a = All-map (λ l. P l.variable) raise cube (All-weaker (λ l. P l.variable) (λ l. P (raise l).variable) (λ l h. subst P (sym (raise-variable l)) h) cube a)
 
     pub raised-within : (k : ℕ) (cube : List Literal) → high ≤ top k v → All (λ l. l.high ≤ top k l.variable) cube → All (λ l. l.high ≤ top k l.variable) (raised v high cube)
-    raised-within k cube h a = All-map (λ l. l.high ≤ top k l.variable) raise cube (All-weaker (λ l. l.high ≤ top k l.variable) (λ l. (raise l).high ≤ top k (raise l).variable) (λ l w. go l w (l.variable == v) refl) cube a)
+    raised-within k cube h a = All-map (λ l. l.high ≤ top k l.variable) raise cube
+        (All-weaker (λ l. l.high ≤ top k l.variable) (λ l. (raise l).high ≤ top k (raise l).variable) (λ l w. go l w (l.variable == v) refl) cube a)
       where
         go : (l : Literal) → l.high ≤ top k l.variable → (b : Bool) → (l.variable == v) ≡ b →
             (cond b (with_high l) l).high ≤ top k (cond b (with_high l) l).variable
@@ -212,10 +215,12 @@ before_next cube i d r h = λ k e l.
     let n = length-take-le i cube (omega arith) in
     subst (λ (x : Literal). x.variable < (get_or cube i d).variable) (get_or_default cube k d e (omega arith) ∙ sym (get_or-take i cube k e (omega arith))) (r k i d (omega arith) h)
 
-pub shorn_before : (k : ℕ) (cube : List Literal) (i : ℕ) (d : Literal) (front : List Literal) → IsRising cube → i < length cube → front ≡ shorn k (take i cube) → All (λ l. l.variable < (get_or cube i d).variable) front
+pub shorn_before : (k : ℕ) (cube : List Literal) (i : ℕ) (d : Literal) (front : List Literal) → IsRising cube → i < length cube → front ≡ shorn k (take i cube) →
+    All (λ l. l.variable < (get_or cube i d).variable) front
 shorn_before k cube i d front r h e = All-same (λ (l : Literal). l.variable < (get_or cube i d).variable) front (shorn k (take i cube)) e
     (All-filter (λ l. not (is_whole k l)) (λ (l : Literal). l.variable < (get_or cube i d).variable) (take i cube) (before_next cube i d r h))
 
-pub raised_before : (v high : ℕ) (cube : List Literal) (i : ℕ) (d : Literal) (front : List Literal) → IsRising cube → i < length cube → front ≡ raised v high (take i cube) → All (λ l. l.variable < (get_or cube i d).variable) front
+pub raised_before : (v high : ℕ) (cube : List Literal) (i : ℕ) (d : Literal) (front : List Literal) → IsRising cube → i < length cube → front ≡ raised v high (take i cube) →
+    All (λ l. l.variable < (get_or cube i d).variable) front
 raised_before v high cube i d front r h e = All-same (λ (l : Literal). l.variable < (get_or cube i d).variable) front (raised v high (take i cube)) e
     (raised-all v high (λ u. u < (get_or cube i d).variable) (take i cube) (before_next cube i d r h))

@@ -1,5 +1,6 @@
 -- Columns don't touch if those of one time ask equally much.
-use Rattle.std.proofs.Common.{ℕ, zero, suc, ◌+◌, ◌-◌, ◌*◌, ◌/◌, ◌%◌, ◌^◌, ◌<◌, ◌≤◌, ◌≡◌, Bool, true, false, cond, nat_lt, List, length, get_or, map, sum_by, Contains, IsPermutation, arith, refl, sym, ap, ◌∙◌, subst, inl, inr}
+use Rattle.std.proofs.Common.{ℕ, zero, suc, ◌+◌, ◌-◌, ◌*◌, ◌/◌, ◌%◌, ◌^◌, ◌<◌, ◌≤◌, ◌≡◌, Bool, true, false, cond, nat_lt, List, length, get_or, map, sum_by, Contains, IsPermutation, arith, refl, sym}
+use Rattle.std.proofs.Common.{ap, ◌∙◌, subst, inl, inr}
 use Rattle.std.specs.Bool.{OnFalse}
 use Rattle.std.proofs.lemmas.Bool.{cases_lt}
 use Rattle.std.proofs.lemmas.List.{get_or_default}
@@ -85,7 +86,8 @@ module _ (g : Graph) (few : process_count g ≤ 128) (faults : g.faults ≤ 8) (
           → ((t * 256 % 2 ^ 64 + a % 256) % 2 ^ 64 / 256 ≡ (u * 256 % 2 ^ 64 + b % 256) % 2 ^ 64 / 256 → (t * 256 % 2 ^ 64 + a % 256) % 2 ^ 64 ≡ (u * 256 % 2 ^ 64 + b % 256) % 2 ^ 64) → ⊥
       apart t u a b w low high e f h less small agree =
           let asked = same_asked t (a % 256) (b % 256) (omega arith) (omega arith)
-          (agree (same_time t (a % 256) (b % 256) (omega arith) (omega arith) ∙ ap (λ (x : ℕ). (x * 256 % 2 ^ 64 + b % 256) % 2 ^ 64 / 256) e) ∙ ap (λ (x : ℕ). (x * 256 % 2 ^ 64 + b % 256) % 2 ^ 64) (sym e)) in
+          (agree (same_time t (a % 256) (b % 256) (omega arith) (omega arith) ∙ ap (λ (x : ℕ). (x * 256 % 2 ^ 64 + b % 256) % 2 ^ 64 / 256) e) ∙
+          ap (λ (x : ℕ). (x * 256 % 2 ^ 64 + b % 256) % 2 ^ 64) (sym e)) in
           omega (arith, asked, f, h, less, small)
 
   -- so no variable needs a mark

@@ -1,6 +1,7 @@
 -- From settled columns in order to what merging columns gives.
 use Rattle.std.specs.Result.{IfOk}
-use Rattle.std.proofs.Common.{ℕ, ◌<◌, ◌≤◌, ◌≡◌, ◌≢◌, ◌⊎◌, true, false, Result, Ok, Err, List, [], ◌∷◌, length, filter, get_or, Contains, IsPermutation, arith, refl, sym, ap, ap₂, ◌∙◌, subst, subst₂, ⊎_elim, inl, inr}
+use Rattle.std.proofs.Common.{ℕ, ◌<◌, ◌≤◌, ◌≡◌, ◌≢◌, ◌⊎◌, true, false, Result, Ok, Err, List, [], ◌∷◌, length, filter, get_or, Contains, IsPermutation, arith, refl, sym, ap, ap₂, ◌∙◌, subst, subst₂}
+use Rattle.std.proofs.Common.{⊎_elim, inl, inr}
 use Rattle.std.specs.Prelude.{IsTrue}
 use Rattle.std.proofs.lemmas.Bool.{cases_Bool, cases_eq, cases_lt}
 use Rattle.std.proofs.lemmas.List.{length-map}
@@ -58,7 +59,8 @@ one_element (z ∷ []) x y h c d = ⊎_elim
     (Contains-cases z [] x c)
 one_element (z ∷ w ∷ xs) x y h c d = absurd (omega arith)
 
-pub one_column : (columns : List Column) (s : Scenario) (c d : Column) → length (times_in columns s) ≤ 1 → Contains columns c → Contains columns d → matches c.cube s ≡ true → matches d.cube s ≡ true → c ≡ d
+pub one_column : (columns : List Column) (s : Scenario) (c d : Column) → length (times_in columns s) ≤ 1 → Contains columns c → Contains columns d → matches c.cube s ≡ true →
+    matches d.cube s ≡ true → c ≡ d
 one_column columns s c d h m n x y = one_element (filter (λ (z : Column). matches z.cube s) columns) c d
     (let e = length-map (filter (λ (z : Column). matches z.cube s) columns) (λ (z : Column). z.time) in omega arith)
     (Contains-filter (λ (z : Column). matches z.cube s) columns c x m)
@@ -105,7 +107,8 @@ module _ (g : Graph) (few : process_count g ≤ 128) (order : List ℕ) (all : I
       let e = least_match g few order c.cube s all good_c.cube p in
       let f = least_match g few order d.cube t all good_d.cube q in
       let h : is_below (lows_along g order (low_in d.cube)) (lows_along g order (low_in c.cube)) ≡ false =
-      subst₂ (λ (a b : Column). is_below (lows_along g order (low_in b.cube)) (lows_along g order (low_in a.cube)) ≡ false) (at_number columns i c c x) (at_number columns j d c y) (up i j c l (slice_get_within columns j d y)) in
+      subst₂ (λ (a b : Column). is_below (lows_along g order (low_in b.cube)) (lows_along g order (low_in a.cube)) ≡ false) (at_number columns i c c x) (at_number columns j d c y)
+      (up i j c l (slice_get_within columns j d y)) in
       let back : is_before g order t s ≡ false =
       ap₂ is_below (ap (key g order) f ∙ sym (lows_are_key g few d.cube good_d.met order all)) (ap (key g order) e ∙ sym (lows_are_key g few c.cube good_c.met order all)) ∙ h in
       ⊎_elim
@@ -171,7 +174,8 @@ pub merge_of : (g : Graph) → process_count g ≤ 128 → (order : List ℕ) �
 merge_of g few order all entries columns ordered mergeable settled p up =
     let good = good_permuted g few columns ordered p (good_of g few columns settled.good) in
     let single = single_permuted g few columns ordered p settled.good.good.apart in
-    let joins = joins_through g entries columns ordered (joins_through g entries (all_shorn g.faults entries) columns (joins_shorn g few entries mergeable) settled.joins) (joins_permuted g few columns ordered p settled.good.good.apart) in
+    let joins = joins_through g entries columns ordered (joins_through g entries (all_shorn g.faults entries) columns (joins_shorn g few entries mergeable) settled.joins)
+    (joins_permuted g few columns ordered p settled.good.good.apart) in
     let back = λ (c : Column) (m : Contains ordered c). Contains-permutation ordered columns c (IsPermutation-sym columns ordered p) m in
     record {
       times = joins.times;

@@ -20,7 +20,8 @@ use Rattle.cpg_merging.proofs.MergingTotals.{of_range, spoken, sum_parts, touch_
 -- ---- which columns are chosen
 
 -- if two columns of one kind ask differently, both are chosen, since a place tells but one
-pub both_chosen : (told : List ℕ) (differing : List Bool) (columns : List Column) → length differing ≡ length told → AreTold told differing (map kind_of columns) → HoldCandidates columns (filter (is_candidate differing) columns)
+pub both_chosen : (told : List ℕ) (differing : List Bool) (columns : List Column) → length differing ≡ length told → AreTold told differing (map kind_of columns) →
+    HoldCandidates columns (filter (is_candidate differing) columns)
 both_chosen told differing columns long tell c d there other same apart = (
   Contains-filter (is_candidate differing) columns c (chosen c d there other same apart) there,
   Contains-filter (is_candidate differing) columns d (chosen d c other there (sym same) (λ e. apart (sym e))) other,
@@ -37,12 +38,14 @@ both_chosen told differing columns long tell c d there other same apart = (
         go false off =
             let off_x : ¬ IsMarked differing (at x) = λ on. true≢false (sym on ∙ ap (λ (m : ℕ). get_or differing (place_in m (kind_of x).number) false) (sym long) ∙ off) in
             let places : at x ≡ at y = ap (place_in (length told)) e in
-            absurd (n (sym (tell (kind_of x) (Contains-map kind_of columns x cx) off_x) ∙ ap (λ (p : ℕ). get_or told p 0) places ∙ tell (kind_of y) (Contains-map kind_of columns y cy) (subst (λ (p : ℕ). ¬ IsMarked differing p) places off_x)))
+            absurd (n (sym (tell (kind_of x) (Contains-map kind_of columns x cx) off_x) ∙ ap (λ (p : ℕ). get_or told p 0) places ∙
+            tell (kind_of y) (Contains-map kind_of columns y cy) (subst (λ (p : ℕ). ¬ IsMarked differing p) places off_x)))
 
 -- ---- columns that touch
 
 module _ (g : Graph) (few : process_count g ≤ 128) (faults : g.faults ≤ 8) (v : ℕ) (known : IsVariable g v) where
-  touch_kinds : (c d : Column) → IsGood g c.cube → IsGood g d.cube → c.time ≡ d.time → TouchAt g.faults v c.cube d.cube → ((kind_of c).number ≡ (kind_of d).number) × ((kind_of c).asked ≢ (kind_of d).asked)
+  touch_kinds : (c d : Column) → IsGood g c.cube → IsGood g d.cube → c.time ≡ d.time → TouchAt g.faults v c.cube d.cube → ((kind_of c).number ≡ (kind_of d).number) ×
+      ((kind_of c).asked ≢ (kind_of d).asked)
   touch_kinds c d good_c good_d same touch =
       let k = g.faults in
       let next : high_in k c.cube v + 1 ≡ low_in d.cube v = touch.next in
@@ -56,8 +59,10 @@ module _ (g : Graph) (few : process_count g ≤ 128) (faults : g.faults ≤ 8) (
       let squares_c = sum_parts square_of v c.cube good_c.cube.rising (of_range k c.cube v) lc refl in
       let squares_d = sum_parts square_of v d.cube good_d.cube.rising (of_range k d.cube v) ld refl in
       let others = same_without g few v known c.cube d.cube good_c good_d touch.others in (
-        numbers c.time d.time (sum_by square_of c.cube) (sum_by square_of d.cube) same (squares_c ∙ ap (λ (ls : List Literal). sum_by square_of ls + square_of (of_range k d.cube v)) others ∙ sym squares_d),
-        apart (sum_by low_of c.cube) (sum_by low_of d.cube) (sum_by low_of (without v d.cube)) (low_in c.cube v) (low_in d.cube v) (sum_c ∙ ap (λ (ls : List Literal). sum_by low_of ls + low_in c.cube v) others) sum_d
+        numbers c.time d.time (sum_by square_of c.cube) (sum_by square_of d.cube) same
+            (squares_c ∙ ap (λ (ls : List Literal). sum_by square_of ls + square_of (of_range k d.cube v)) others ∙ sym squares_d),
+        apart (sum_by low_of c.cube) (sum_by low_of d.cube) (sum_by low_of (without v d.cube)) (low_in c.cube v) (low_in d.cube v)
+            (sum_c ∙ ap (λ (ls : List Literal). sum_by low_of ls + low_in c.cube v) others) sum_d
             (omega (arith, low_c, next)) (omega (arith, low_d, high_d, top_small g few faults v known)),
       )
     where
@@ -78,12 +83,14 @@ module _ (g : Graph) (few : process_count g ≤ 128) (faults : g.faults ≤ 8) (
     touch_held : (ys : List Column) → HoldCandidates xs ys → (marks : List Bool) → AreMarkedBy (map total_of ys) marks ys → ¬ IsMarked marks v → ⊥
     touch_held ys hold marks all off =
         let both = both_held ys hold in
-        touch_partner g few v known c d (good_in c m) (good_in d n) same touch (map total_of ys) (Contains-map total_of ys c both.0) (λ l j i. all d l both.1 j (λ on. off (subst (IsMarked marks) i on)))
+        touch_partner g few v known c d (good_in c m) (good_in d n) same touch (map total_of ys) (Contains-map total_of ys c both.0)
+        (λ l j i. all d l both.1 j (λ on. off (subst (IsMarked marks) i on)))
 
   -- no columns touch if there are no candidates
   pub settled_none : (xs : List Column) → AreGood g xs → {X : Type 0} (f : X → Column) (ys : List X) → HoldCandidates xs (map f ys) → length ys ≡ 0 → IsSettledOn g.faults v xs
   settled_none xs good f ys hold none c d m n e t = Contains-nil c (subst (λ zs. Contains (map f zs) c) (nil_from_length ys none) (both_held xs good c d m n e t (map f ys) hold).0)
 
 -- marks of the candidates are marks of all columns
-pub marked_by : (g : Graph) → process_count g ≤ 128 → g.faults ≤ 8 → (xs ys : List Column) → AreGood g xs → HoldCandidates xs ys → (marks : List Bool) → AreMarkedBy (map total_of ys) marks ys → AreMarked g marks xs
+pub marked_by : (g : Graph) → process_count g ≤ 128 → g.faults ≤ 8 → (xs ys : List Column) → AreGood g xs → HoldCandidates xs ys → (marks : List Bool) → AreMarkedBy (map total_of ys) marks ys →
+    AreMarked g marks xs
 marked_by g few faults xs ys good hold marks all v known off c d m n e t = touch_held g few faults v known xs good c d m n e t ys hold marks all off

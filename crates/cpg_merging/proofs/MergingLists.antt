@@ -1,5 +1,6 @@
 -- What joins do to lists of columns, and what is left of sorted columns when neighbours that touch are made one.
-use Rattle.std.proofs.Common.{ℕ, ◌+◌, ◌<◌, ◌≤◌, ◌≡◌, ◌≢◌, ◌⊎◌, Bool, true, false, cond, ◌==◌, List, [], ◌∷◌, length, map, filter, Contains, All, Equal, arith, refl, sym, ap, ◌∙◌, subst, ⊎_elim, inl, inr, eqb-true}
+use Rattle.std.proofs.Common.{ℕ, ◌+◌, ◌<◌, ◌≤◌, ◌≡◌, ◌≢◌, ◌⊎◌, Bool, true, false, cond, ◌==◌, List, [], ◌∷◌, length, map, filter, Contains, All, Equal, arith, refl, sym, ap, ◌∙◌, subst, ⊎_elim, inl}
+use Rattle.std.proofs.Common.{inr, eqb-true}
 use Rattle.std.specs.Ordering.{is_eq}
 use Rattle.std.proofs.lemmas.Bool.{and_parts}
 use Rattle.std.proofs.lemmas.List.Elements.{All-cons, All-head, All-tail}
@@ -38,7 +39,8 @@ module _ (g : Graph) where
   times_cons : (c : Column) (a b : List Column) (s : Scenario) → times_in a s ≡ times_in b s → times_in (c ∷ a) s ≡ times_in (c ∷ b) s
   times_cons c a b s e = go (matches c.cube s)
     where
-      go : (m : Bool) → map (λ (x : Column). x.time) (cond m (c ∷ filter (λ x. matches x.cube s) a) (filter (λ x. matches x.cube s) a)) ≡ map (λ (x : Column). x.time) (cond m (c ∷ filter (λ x. matches x.cube s) b) (filter (λ x. matches x.cube s) b))
+      go : (m : Bool) → map (λ (x : Column). x.time) (cond m (c ∷ filter (λ x. matches x.cube s) a) (filter (λ x. matches x.cube s) a)) ≡ map (λ (x : Column). x.time)
+          (cond m (c ∷ filter (λ x. matches x.cube s) b) (filter (λ x. matches x.cube s) b))
       go true = ap (λ ts. c.time ∷ ts) e
       go false = e
 
@@ -105,7 +107,8 @@ module _ (g : Graph) (few : process_count g ≤ 128) (v : ℕ) (known : IsVariab
           ∙ times_of_one c.time (times_in ds s) (matches c.cube s) (matches d.cube s) (matches (joined g.faults v c d).cube s)
           (apart g few v c.cube d.cube good_c good_d touch s i known) (either g few v c.cube d.cube good_c good_d touch s i known)
           (matches_first g few v c.cube d.cube good_c good_d touch s i) (matches_second g few v c.cube d.cube good_c good_d touch s i)
-          ∙ ap (λ t. cond (matches c.cube s) (c.time ∷ cond (matches d.cube s) (t ∷ times_in ds s) (times_in ds s)) (cond (matches d.cube s) (t ∷ times_in ds s) (times_in ds s))) (time_of g.faults v c d h)
+          ∙ ap (λ t. cond (matches c.cube s) (c.time ∷ cond (matches d.cube s) (t ∷ times_in ds s) (times_in ds s)) (cond (matches d.cube s) (t ∷ times_in ds s) (times_in ds s)))
+          (time_of g.faults v c d h)
           ∙ ap (λ ts. cond (matches c.cube s) (c.time ∷ ts) ts) (sym (times_first d ds s))
           ∙ sym (times_first c (d ∷ ds) s);
       held = λ e m. ⊎_elim
@@ -138,7 +141,8 @@ module _ (g : Graph) (few : process_count g ≤ 128) (v : ℕ) (known : IsVariab
   pub walk : (c : Column) (ds : List Column) → AreGood g (c ∷ ds) → Walked (c ∷ ds) (walked g.faults v c ds)
   walk c [] a = record { joins = joins_itself g (c ∷ []); good = a; fewer = inr refl }
   walk c (d ∷ ds) a = go (is_followed g.faults v c d) refl
-      (λ good. walk (joined g.faults v c d) ds (All-cons (λ (x : Column). IsGood g x.cube) (joined g.faults v c d) ds good (All-tail (λ (x : Column). IsGood g x.cube) d ds (All-tail (λ (x : Column). IsGood g x.cube) c (d ∷ ds) a))))
+      (λ good. walk (joined g.faults v c d) ds (All-cons (λ (x : Column). IsGood g x.cube) (joined g.faults v c d) ds good
+      (All-tail (λ (x : Column). IsGood g x.cube) d ds (All-tail (λ (x : Column). IsGood g x.cube) c (d ∷ ds) a))))
       (walk d ds (All-tail (λ (x : Column). IsGood g x.cube) c (d ∷ ds) a))
     where
       good_c : IsGood g c.cube
@@ -147,7 +151,8 @@ module _ (g : Graph) (few : process_count g ≤ 128) (v : ℕ) (known : IsVariab
       good_d : IsGood g d.cube
       good_d = All-head (λ (x : Column). IsGood g x.cube) d ds (All-tail (λ (x : Column). IsGood g x.cube) c (d ∷ ds) a)
 
-      go : (b : Bool) → is_followed g.faults v c d ≡ b → (IsGood g (joined g.faults v c d).cube → Walked (joined g.faults v c d ∷ ds) (walked g.faults v (joined g.faults v c d) ds)) → Walked (d ∷ ds) (walked g.faults v d ds) →
+      go : (b : Bool) → is_followed g.faults v c d ≡ b → (IsGood g (joined g.faults v c d).cube → Walked (joined g.faults v c d ∷ ds) (walked g.faults v (joined g.faults v c d) ds)) →
+          Walked (d ∷ ds) (walked g.faults v d ds) →
           Walked (c ∷ d ∷ ds) (cond b (walked g.faults v (joined g.faults v c d) ds) (c ∷ walked g.faults v d ds))
       go true e ih_joined ih =
           let w = ih_joined (good_joined c d good_c good_d e) in

@@ -29,7 +29,8 @@ pub record IsGood (g : Graph) (literals : List Literal) : Type 0 where
 pub high_in-top : (k : ℕ) (ls : List Literal) → All (λ l. l.high ≤ top k l.variable) ls → (v : ℕ) → high_in k ls v ≤ top k v
 high_in-top k [] h v = omega arith
 high_in-top k (l ∷ ls) h v = ⊎_elim
-    (λ (e : l.variable ≡ v). subst (λ u. high_in k (l ∷ ls) u ≤ top k u) e (let i = high_in-here k l ls l.variable refl in let t = All-head (λ (m : Literal). m.high ≤ top k m.variable) l ls h in omega arith))
+    (λ (e : l.variable ≡ v). subst (λ u. high_in k (l ∷ ls) u ≤ top k u) e
+    (let i = high_in-here k l ls l.variable refl in let t = All-head (λ (m : Literal). m.high ≤ top k m.variable) l ls h in omega arith))
     (λ (n : l.variable ≢ v). let i = high_in-later k l ls v n in let t = high_in-top k ls (All-tail (λ (m : Literal). m.high ≤ top k m.variable) l ls h) v in omega arith)
     (cases_eq l.variable v)
 
@@ -74,7 +75,8 @@ module _ (g : Graph) (few : process_count g ≤ 128) where
       holds-from s l (omega arith) (omega arith))
 
   -- the numbers of a scenario that matches are in range
-  pub ranges_of_match : (cube : List Literal) (s : Scenario) → IsScenario g s → matches cube s ≡ true → (v : ℕ) → IsVariable g v → (low_in cube v ≤ number_of s v) × (number_of s v ≤ high_in g.faults cube v)
+  pub ranges_of_match : (cube : List Literal) (s : Scenario) → IsScenario g s → matches cube s ≡ true → (v : ℕ) → IsVariable g v → (low_in cube v ≤ number_of s v) ×
+      (number_of s v ≤ high_in g.faults cube v)
   ranges_of_match cube s i t v known = (low_in-le cube s v t, high_in-ge g.faults cube s v (number_within g few s i v known) t)
 
   -- a wider cube matches too
@@ -112,10 +114,12 @@ module _ (g : Graph) (few : process_count g ≤ 128) where
     both = shorn g.faults wide
 
     within_a : All (λ l. l.high ≤ top g.faults l.variable) a
-    within_a = All-from_each {P = λ l. l.high ≤ top g.faults l.variable} a (λ l c. (All-contains (λ (m : Literal). (is_whole g.faults m ≡ false) × (m.high ≤ top g.faults m.variable)) a l good_a.narrow c).1)
+    within_a = All-from_each {P = λ l. l.high ≤ top g.faults l.variable} a
+        (λ l c. (All-contains (λ (m : Literal). (is_whole g.faults m ≡ false) × (m.high ≤ top g.faults m.variable)) a l good_a.narrow c).1)
 
     within_b : All (λ l. l.high ≤ top g.faults l.variable) b
-    within_b = All-from_each {P = λ l. l.high ≤ top g.faults l.variable} b (λ l c. (All-contains (λ (m : Literal). (is_whole g.faults m ≡ false) × (m.high ≤ top g.faults m.variable)) b l good_b.narrow c).1)
+    within_b = All-from_each {P = λ l. l.high ≤ top g.faults l.variable} b
+        (λ l c. (All-contains (λ (m : Literal). (is_whole g.faults m ≡ false) × (m.high ≤ top g.faults m.variable)) b l good_b.narrow c).1)
 
     open_a : (u : ℕ) → low_in a u ≤ high_in g.faults a u
     open_a u = low-le-high g.faults a good_a.met u
@@ -192,5 +196,6 @@ module _ (g : Graph) (few : process_count g ≤ 128) where
     good_both = record {
       cube = cube_both;
       narrow = shorn_narrow g.faults wide (raised-within v (high_in g.faults b v) g.faults a (high_in-top g.faults b within_b v) within_a);
-      met = met_by g few both cube_both (lows g a) (lows-lawful g few a good_a.cube good_a.met) (matches_first (lows g a) (lows-lawful g few a good_a.cube good_a.met) (lows-match g few a good_a.cube good_a.met));
+      met = met_by g few both cube_both (lows g a) (lows-lawful g few a good_a.cube good_a.met)
+          (matches_first (lows g a) (lows-lawful g few a good_a.cube good_a.met) (lows-match g few a good_a.cube good_a.met));
     }

@@ -1,5 +1,6 @@
 -- When sorted columns have been walked over at a variable no two of them touch there any more.
-use Rattle.std.proofs.Common.{ℕ, ◌+◌, ◌<◌, ◌≤◌, ◌≡◌, ◌≢◌, ◌⊎◌, Bool, true, false, not, cond, ◌==◌, List, [], ◌∷◌, length, filter, get_or, Contains, AllPairs, Equal, arith, refl, sym, ap, ◌∙◌, subst, subst₂, ⊎_elim, eq-eqb}
+use Rattle.std.proofs.Common.{ℕ, ◌+◌, ◌<◌, ◌≤◌, ◌≡◌, ◌≢◌, ◌⊎◌, Bool, true, false, not, cond, ◌==◌, List, [], ◌∷◌, length, filter, get_or, Contains, AllPairs, Equal, arith, refl, sym, ap, ◌∙◌, subst}
+use Rattle.std.proofs.Common.{subst₂, ⊎_elim, eq-eqb}
 use Rattle.std.specs.Ordering.{is_lt, is_eq, nat_cmp}
 use Rattle.std.specs.List.Sorted.{IsSortedBy}
 use Rattle.std.proofs.lemmas.Bool.{cases_eq, cases_lt, cases_order, and_from, both_ways}
@@ -56,12 +57,15 @@ module _ (g : Graph) (few : process_count g ≤ 128) where
       let s = lows g b in
       let i = lows-lawful g few b good_b.cube good_b.met in
       let t = lows-match g few b good_b.cube good_b.met in
-      let n : IsVariable g v → number_of s v ≡ low_in b v = λ known. made_number g few (low_in b) v known (let o = low-le-high g.faults b good_b.met v in let w = high_in-top g.faults b (λ k d m. (good_b.narrow k d m).1) v in omega arith) in (
+      let n : IsVariable g v → number_of s v ≡ low_in b v = λ known. made_number g few (low_in b) v known
+      (let o = low-le-high g.faults b good_b.met v in let w = high_in-top g.faults b (λ k d m. (good_b.narrow k d m).1) v in omega arith) in (
         s,
         i,
         matches_in_ranges g few a s good_a.cube.rising (λ m c. ⊎_elim
-            (λ (e : m.variable ≡ v). let i = n (subst (IsVariable g) e (All-contains (λ (x : Literal). IsVariable g x.variable) a m good_a.cube.known c)) in subst (λ w. (low_in a w ≤ number_of s w) × (number_of s w ≤ high_in g.faults a w)) (sym e) (omega arith, omega arith))
-            (λ (z : m.variable ≢ v). let r = ranges_of_match g few b s i t m.variable (All-contains (λ (x : Literal). IsVariable g x.variable) a m good_a.cube.known c) in let o = others m.variable z in (omega arith, omega arith))
+            (λ (e : m.variable ≡ v). let i = n (subst (IsVariable g) e (All-contains (λ (x : Literal). IsVariable g x.variable) a m good_a.cube.known c)) in
+            subst (λ w. (low_in a w ≤ number_of s w) × (number_of s w ≤ high_in g.faults a w)) (sym e) (omega arith, omega arith))
+            (λ (z : m.variable ≢ v). let r = ranges_of_match g few b s i t m.variable (All-contains (λ (x : Literal). IsVariable g x.variable) a m good_a.cube.known c) in let o =
+            others m.variable z in (omega arith, omega arith))
             (cases_eq m.variable v)),
         t,
       )
@@ -79,7 +83,8 @@ module _ (g : Graph) (few : process_count g ≤ 128) where
         (All-contains (λ (c : Column). IsGood g c.cube) xs (get_or xs j d) good (Contains-get_or xs j d k))
         (pairs_apart g xs single i j d l k) (sorted_pairs v xs up i j d l k)
       where
-        pair : (c d : Column) → IsGood g c.cube → IsGood g d.cube → ((s : Scenario) → IsScenario g s → matches c.cube s ≡ true → matches d.cube s ≡ true → ⊥) → is_lt (column_cmp v d c) ≡ false → Before c d
+        pair : (c d : Column) → IsGood g c.cube → IsGood g d.cube → ((s : Scenario) → IsScenario g s → matches c.cube s ≡ true → matches d.cube s ≡ true → ⊥) → is_lt (column_cmp v d c) ≡ false →
+            Before c d
         pair c d good_c good_d away h = record {
           group = then_not_less (beside_cmp v d c) (nat_cmp (low_in d.cube v) (low_in c.cube v)) h;
           later = λ e.
@@ -155,7 +160,9 @@ module _ (g : Graph) (few : process_count g ≤ 128) where
         (λ (n : Contains [] r). absurd (Contains-nil r n))
         (Contains-cases c [] r m)
     begins c (d ∷ ds) a r m = go (is_followed g.faults v c d) refl m
-        (λ good n. begins (joined g.faults v c d) ds (All-cons (λ (x : Column). IsGood g x.cube) (joined g.faults v c d) ds good (All-tail (λ (x : Column). IsGood g x.cube) d ds (All-tail (λ (x : Column). IsGood g x.cube) c (d ∷ ds) a))) r n)
+        (λ good n. begins (joined g.faults v c d) ds
+        (All-cons (λ (x : Column). IsGood g x.cube) (joined g.faults v c d) ds good (All-tail (λ (x : Column). IsGood g x.cube) d ds (All-tail (λ (x : Column). IsGood g x.cube) c (d ∷ ds) a))) r
+        n)
         (begins d ds (All-tail (λ (x : Column). IsGood g x.cube) c (d ∷ ds) a) r)
       where
         good_c : IsGood g c.cube
@@ -201,7 +208,8 @@ module _ (g : Graph) (few : process_count g ≤ 128) where
       not_next x m t e = ⊎_elim
           (λ (f : d ≡ x). both_ways (is_followed g.faults v c d) apart
           (and_from (is_eq (beside_cmp v c d)) (high_in g.faults c.cube v + 1 == low_in d.cube v)
-          (ap is_eq (subst (λ z. beside_cmp v c z ≡ Equal) (sym f) t)) (eq-eqb (high_in g.faults c.cube v + 1) (low_in d.cube v) (subst (λ z. high_in g.faults c.cube v + 1 ≡ low_in z.cube v) (sym f) e))))
+          (ap is_eq (subst (λ z. beside_cmp v c z ≡ Equal) (sym f) t))
+          (eq-eqb (high_in g.faults c.cube v + 1) (low_in d.cube v) (subst (λ z. high_in g.faults c.cube v + 1 ≡ low_in z.cube v) (sym f) e))))
           (λ (k : Contains ds x).
           let first = before_first d (Contains-first d ds) in
           let second = before_second x k in
@@ -230,7 +238,8 @@ module _ (g : Graph) (few : process_count g ≤ 128) where
     walked_untouched : (c : Column) (ds : List Column) → AreGood g (c ∷ ds) → AllPairs Before (c ∷ ds) → AllPairs Untouched (walked g.faults v c ds)
     walked_untouched c [] a p = AllPairs-cons_by Untouched c [] (λ y m. absurd (Contains-nil y m)) (AllPairs-nil Untouched)
     walked_untouched c (d ∷ ds) a p = go (is_followed g.faults v c d) refl
-        (λ good q. walked_untouched (joined g.faults v c d) ds (All-cons (λ (x : Column). IsGood g x.cube) (joined g.faults v c d) ds good (All-tail (λ (x : Column). IsGood g x.cube) d ds (All-tail (λ (x : Column). IsGood g x.cube) c (d ∷ ds) a))) q)
+        (λ good q. walked_untouched (joined g.faults v c d) ds
+        (All-cons (λ (x : Column). IsGood g x.cube) (joined g.faults v c d) ds good (All-tail (λ (x : Column). IsGood g x.cube) d ds (All-tail (λ (x : Column). IsGood g x.cube) c (d ∷ ds) a))) q)
         (walked_untouched d ds (All-tail (λ (x : Column). IsGood g x.cube) c (d ∷ ds) a) (AllPairs-rest Before c (d ∷ ds) p))
       where
         good_c : IsGood g c.cube
@@ -239,7 +248,8 @@ module _ (g : Graph) (few : process_count g ≤ 128) where
         good_d : IsGood g d.cube
         good_d = All-head (λ (x : Column). IsGood g x.cube) d ds (All-tail (λ (x : Column). IsGood g x.cube) c (d ∷ ds) a)
 
-        go : (b : Bool) → is_followed g.faults v c d ≡ b → (IsGood g (joined g.faults v c d).cube → AllPairs Before (joined g.faults v c d ∷ ds) → AllPairs Untouched (walked g.faults v (joined g.faults v c d) ds)) →
+        go : (b : Bool) → is_followed g.faults v c d ≡ b →
+            (IsGood g (joined g.faults v c d).cube → AllPairs Before (joined g.faults v c d ∷ ds) → AllPairs Untouched (walked g.faults v (joined g.faults v c d) ds)) →
             AllPairs Untouched (walked g.faults v d ds) → AllPairs Untouched (cond b (walked g.faults v (joined g.faults v c d) ds) (c ∷ walked g.faults v d ds))
         go true e ih_joined ih = ih_joined (good_joined g few v known c d good_c good_d e)
             (AllPairs-cons_by Before (joined g.faults v c d) ds
@@ -267,5 +277,6 @@ module _ (g : Graph) (few : process_count g ≤ 128) where
         (cases_order m.0 n.0)
 
     -- sorted columns are settled when they have been walked over
-    pub settled : (c : Column) (ds : List Column) → AreGood g (c ∷ ds) → ((s : Scenario) → IsScenario g s → length (times_in (c ∷ ds) s) ≤ 1) → IsSortedBy (λ x y. is_lt (column_cmp v x y)) (c ∷ ds) → IsSettledOn g.faults v (walked g.faults v c ds)
+    pub settled : (c : Column) (ds : List Column) → AreGood g (c ∷ ds) → ((s : Scenario) → IsScenario g s → length (times_in (c ∷ ds) s) ≤ 1) → IsSortedBy (λ x y. is_lt (column_cmp v x y)) (c ∷ ds) →
+        IsSettledOn g.faults v (walked g.faults v c ds)
     settled c ds good single up = settled_from (walked g.faults v c ds) (walk g few v known c ds good).good (walked_untouched c ds good (before_pairs (c ∷ ds) good single up))

@@ -1,5 +1,6 @@
 -- The steps of merging columns: their order doesn't matter, a step at one variable, and steps one after another.
-use Rattle.std.proofs.Common.{ℕ, ◌<◌, ◌≤◌, ◌≡◌, ◌≢◌, ◌⊎◌, true, false, cond, List, [], ◌∷◌, length, filter, get_or, sum_by, Contains, All, IsPermutation, arith, refl, sym, ap, ap₂, ◌∙◌, subst, ⊎_elim, inl, inr}
+use Rattle.std.proofs.Common.{ℕ, ◌<◌, ◌≤◌, ◌≡◌, ◌≢◌, ◌⊎◌, true, false, cond, List, [], ◌∷◌, length, filter, get_or, sum_by, Contains, All, IsPermutation, arith, refl, sym, ap, ap₂, ◌∙◌, subst, ⊎_elim}
+use Rattle.std.proofs.Common.{inl, inr}
 use Rattle.std.specs.Ordering.{is_lt}
 use Rattle.std.specs.List.Sorted.{IsSortedBy}
 use Rattle.std.proofs.lemmas.Bool.{cond-false, or_parts}
@@ -16,7 +17,8 @@ use Rattle.cpg_cube.specs.Fit.{IsCube, lows}
 use Rattle.cpg_cube.proofs.CubeLows.{met_by, lows-lawful, lows-match}
 use Rattle.cpg_cube.specs.Column.{Column, times_in}
 use Rattle.cpg_merging.specs.Merged.{AreMergeable}
-use Rattle.cpg_merging.specs.Merging.{shorn, is_followed, is_any_followed_from, is_any_followed, joined, column_cmp, walked, walked_over, all_shorn, IsShorn, IsJoinOf, IsSettledOn, IsPassed, IsSortedAs}
+use Rattle.cpg_merging.specs.Merging.{shorn, is_followed, is_any_followed_from, is_any_followed, joined, column_cmp, walked, walked_over, all_shorn, IsShorn, IsJoinOf, IsSettledOn, IsPassed}
+use Rattle.cpg_merging.specs.Merging.{IsSortedAs}
 use Rattle.cpg_cube.specs.Keys.{AreByLows}
 use Rattle.cpg_cube.specs.declared.listing.Listing.{Listing}
 use Rattle.cpg_merging.proofs.MergingCubes.{All-from_each}
@@ -64,7 +66,8 @@ module _ (g : Graph) (few : process_count g ≤ 128) where
   times_shorn : (columns : List Column) (s : Scenario) → IsScenario g s → All (λ c. IsCube g c.cube) columns → times_in (all_shorn g.faults columns) s ≡ times_in columns s
   times_shorn [] s i is = refl
   times_shorn (c ∷ cs) s i is = times_first (shorn_column c) (all_shorn g.faults cs) s
-      ∙ ap₂ (λ m ts. cond m (c.time ∷ ts) ts) (matches_shorn g few c.cube s i (All-head (λ (x : Column). IsCube g x.cube) c cs is)) (times_shorn cs s i (All-tail (λ (x : Column). IsCube g x.cube) c cs is))
+      ∙ ap₂ (λ m ts. cond m (c.time ∷ ts) ts) (matches_shorn g few c.cube s i (All-head (λ (x : Column). IsCube g x.cube) c cs is))
+      (times_shorn cs s i (All-tail (λ (x : Column). IsCube g x.cube) c cs is))
       ∙ sym (times_first c cs s)
 
   pub joins_shorn : (columns : List Column) → AreMergeable g columns → IsJoinOf g columns (all_shorn g.faults columns)
@@ -82,7 +85,8 @@ module _ (g : Graph) (few : process_count g ≤ 128) where
   shorn_columns columns h = shorn_of (all_shorn g.faults columns)
       (All-map (λ (x : Column). IsGood g x.cube) shorn_column columns (All-from_each {P = λ c. IsGood g (shorn g.faults c.cube)} columns (λ c m.
       let r = All-contains (λ (x : Column). (s : Scenario) × IsScenario g s × (matches x.cube s ≡ true)) columns c h.met m in
-      good_shorn g few c.cube r.0 r.1 r.2 (All-contains (λ (x : Column). IsCube g x.cube) columns c h.cubes m) (All-contains (λ (x : Column). All (λ l. l.high ≤ top g.faults l.variable) x.cube) columns c h.within m))))
+      good_shorn g few c.cube r.0 r.1 r.2 (All-contains (λ (x : Column). IsCube g x.cube) columns c h.cubes m)
+      (All-contains (λ (x : Column). All (λ l. l.high ≤ top g.faults l.variable) x.cube) columns c h.within m))))
       (λ s i. subst (λ ts. length ts ≤ 1) (sym (times_shorn columns s i h.cubes)) (h.apart s i))
 
   -- ---- another order of columns of which at most one matches
@@ -130,7 +134,8 @@ module _ (g : Graph) (few : process_count g ≤ 128) where
   -- ---- a step at one variable
 
   -- sorted columns, walked over
-  pub passed_on : (v : ℕ) → IsVariable g v → (xs ys : List Column) → IsShorn g xs → IsPermutation xs ys → IsSortedBy (λ c d. is_lt (column_cmp v c d)) ys → IsPassed g (λ u. u ≡ v) xs (walked_over g.faults v ys)
+  pub passed_on : (v : ℕ) → IsVariable g v → (xs ys : List Column) → IsShorn g xs → IsPermutation xs ys → IsSortedBy (λ c d. is_lt (column_cmp v c d)) ys →
+      IsPassed g (λ u. u ≡ v) xs (walked_over g.faults v ys)
   passed_on v known xs ys h p up = go ys p up (good_permuted xs ys p (good_of xs h)) (single_permuted xs ys p h.good.apart)
     where
       go : (zs : List Column) → IsPermutation xs zs → IsSortedBy (λ c d. is_lt (column_cmp v c d)) zs → AreGood g zs → AreSingle g zs → IsPassed g (λ u. u ≡ v) xs (walked_over g.faults v zs)
@@ -148,7 +153,8 @@ module _ (g : Graph) (few : process_count g ≤ 128) where
             good = shorn_of (walked g.faults v z zs) w.good (single_joined (z ∷ zs) (walked g.faults v z zs) w.joins single);
             fewer = ⊎_elim
                 (λ (l : length (walked g.faults v z zs) < length (z ∷ zs)). inl (omega arith))
-                (λ (e : walked g.faults v z zs ≡ z ∷ zs). inr (subst (IsPermutation xs) (sym e) q, λ u f. subst (λ y. IsSettledOn g.faults y (walked g.faults v z zs)) (sym f) (settled g few v known z zs good single s)))
+                (λ (e : walked g.faults v z zs ≡ z ∷ zs). inr
+                (subst (IsPermutation xs) (sym e) q, λ u f. subst (λ y. IsSettledOn g.faults y (walked g.faults v z zs)) (sym f) (settled g few v known z zs good single s)))
                 w.fewer;
           }
 

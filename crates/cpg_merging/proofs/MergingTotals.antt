@@ -1,5 +1,6 @@
 -- Columns of which no sum is that of another changed at a literal don't touch.
-use Rattle.std.proofs.Common.{ℕ, ◌+◌, ◌-◌, ◌%◌, ◌^◌, ◌<◌, ◌≤◌, ◌≡◌, ◌≢◌, ◌⊎◌, ◌==◌, Bool, true, false, not, List, [], ◌∷◌, length, take, get_or, map, sum_by, Contains, IsPermutation, arith, refl, sym, ap, ap₂, ◌∙◌, subst, inl, inr, eq-eqb, ne_eqb, true≢false, Result, Ok, Err}
+use Rattle.std.proofs.Common.{ℕ, ◌+◌, ◌-◌, ◌%◌, ◌^◌, ◌<◌, ◌≤◌, ◌≡◌, ◌≢◌, ◌⊎◌, ◌==◌, Bool, true, false, not, List, [], ◌∷◌, length, take, get_or, map, sum_by, Contains, IsPermutation, arith, refl, sym}
+use Rattle.std.proofs.Common.{ap, ap₂, ◌∙◌, subst, inl, inr, eq-eqb, ne_eqb, true≢false, Result, Ok, Err}
 use Rattle.std.specs.Prelude.{slice_set}
 use Rattle.std.specs.Bool.{OnFalse}
 use Rattle.std.specs.List.{list_any}
@@ -29,10 +30,12 @@ of_range k cube v = record { variable = v; low = low_in cube v; high = high_in k
 
 range_here : (k : ℕ) (l : Literal) (ls : List Literal) (v : ℕ) → l.variable ≡ v → l ≡ of_range k (l ∷ ls) v
 range_here k l ls v e = subst (λ w. l ≡ of_range k (l ∷ ls) w) e
-    (ap₂ (λ low high. record { variable = l.variable; low = low; high = high }) (sym (cond-true (l.variable == l.variable) l.low (low_in ls l.variable) (eq-eqb _ _ refl))) (sym (cond-true (l.variable == l.variable) l.high (high_in k ls l.variable) (eq-eqb _ _ refl))))
+    (ap₂ (λ low high. record { variable = l.variable; low = low; high = high }) (sym (cond-true (l.variable == l.variable) l.low (low_in ls l.variable) (eq-eqb _ _ refl)))
+    (sym (cond-true (l.variable == l.variable) l.high (high_in k ls l.variable) (eq-eqb _ _ refl))))
 
 range_later : (k : ℕ) (l : Literal) (ls : List Literal) (v : ℕ) → l.variable ≢ v → of_range k ls v ≡ of_range k (l ∷ ls) v
-range_later k l ls v n = ap₂ (λ low high. record { variable = v; low = low; high = high }) (sym (cond-false (l.variable == v) l.low (low_in ls v) (ne_eqb _ _ n))) (sym (cond-false (l.variable == v) l.high (high_in k ls v) (ne_eqb _ _ n)))
+range_later k l ls v n = ap₂ (λ low high. record { variable = v; low = low; high = high }) (sym (cond-false (l.variable == v) l.low (low_in ls v) (ne_eqb _ _ n)))
+    (sym (cond-false (l.variable == v) l.high (high_in k ls v) (ne_eqb _ _ n)))
 
 -- a range that isn't the whole one is a literal's
 pub spoken : (k : ℕ) (cube : List Literal) (v : ℕ) → (0 < low_in cube v) ⊎ (high_in k cube v < top k v) → Contains cube (of_range k cube v)
@@ -97,7 +100,8 @@ module _ (g : Graph) (few : process_count g ≤ 128) (v : ℕ) (known : IsVariab
       let rest : ℕ = mixed 0 d.time + sum_by hash_of (without v d.cube) in
       let sum_c : mixed 0 c.time + sum_by hash_of c.cube ≡ rest + hash_of (of_range k c.cube v) =
       add_parts (mixed 0 c.time) (sum_by hash_of c.cube) (mixed 0 d.time) (sum_by hash_of (without v d.cube)) (hash_of (of_range k c.cube v)) (ap (mixed 0) same)
-      (sum_parts hash_of v c.cube good_c.cube.rising (of_range k c.cube v) lc refl ∙ ap (λ ls. sum_by hash_of ls + hash_of (of_range k c.cube v)) (same_without g few v known c.cube d.cube good_c good_d touch.others)) in
+      (sum_parts hash_of v c.cube good_c.cube.rising (of_range k c.cube v) lc refl ∙ ap (λ ls. sum_by hash_of ls + hash_of (of_range k c.cube v))
+      (same_without g few v known c.cube d.cube good_c good_d touch.others)) in
       let sum_d : mixed 0 d.time + sum_by hash_of d.cube ≡ rest + hash_of (of_range k d.cube v) =
       add_parts (mixed 0 d.time) (sum_by hash_of d.cube) (mixed 0 d.time) (sum_by hash_of (without v d.cube)) (hash_of (of_range k d.cube v)) refl
       (sum_parts hash_of v d.cube good_d.cube.rising (of_range k d.cube v) ld refl) in
@@ -110,7 +114,8 @@ module _ (g : Graph) (few : process_count g ≤ 128) (v : ℕ) (known : IsVariab
       add_parts s t r w h e f = omega (arith, e, f)
 
 -- marks by the sums are marks by the same sums sorted
-pub marked_sorted : (columns : List Column) (marks : List Bool) (sorted : List ℕ) → IsPermutation (map total_of columns) sorted → AreMarkedBy sorted marks columns → AreMarkedBy (map total_of columns) marks columns
+pub marked_sorted : (columns : List Column) (marks : List Bool) (sorted : List ℕ) → IsPermutation (map total_of columns) sorted → AreMarkedBy sorted marks columns →
+    AreMarkedBy (map total_of columns) marks columns
 marked_sorted columns marks sorted p h = λ d l m n off low rest less is there. h d l m n off low rest less is (Contains-permutation (map total_of columns) sorted _ p there)
 
 -- columns have the marks that they have in another order
@@ -184,9 +189,13 @@ mark_off marks place false within off = refl
 
 -- marks by the columns before a place and by that there are marks by those before the next
 module _ {X : Type 0} (f : X → Column) (sums : List ℕ) (columns : List X) where
-  pub marked_next : (totals : List ℕ) (old new : List Bool) (place : ℕ) (x : X) → place < length columns → x ≡ get_or columns place x → totals ≡ map total_of (map f columns) → ((v : ℕ) → IsMarked old v → IsMarked new v)
-      → ((l : Literal) → Contains (f x).cube l → ¬ IsMarked new l.variable → HasNoPartner sums (get_or totals place 0) l) → AreMarkedBy sums old (take place (map f columns)) → AreMarkedBy sums new (take (place + 1) (map f columns))
-  marked_next totals old new place x within is e kept here before d l m = all_more (λ (y : Column). (n : Literal) → Contains y.cube n → ¬ IsMarked new n.variable → HasNoPartner sums (total_of y) n) (map f columns) place (f x) long (λ y h n i off. before y n h i (λ on. off (kept n.variable on))) (subst (λ (y : Column). (n : Literal) → Contains y.cube n → ¬ IsMarked new n.variable → HasNoPartner sums (total_of y) n) (sym at) now) d m l
+  pub marked_next : (totals : List ℕ) (old new : List Bool) (place : ℕ) (x : X) → place < length columns → x ≡ get_or columns place x → totals ≡ map total_of (map f columns) →
+      ((v : ℕ) → IsMarked old v → IsMarked new v)
+      → ((l : Literal) → Contains (f x).cube l → ¬ IsMarked new l.variable → HasNoPartner sums (get_or totals place 0) l) → AreMarkedBy sums old (take place (map f columns)) →
+      AreMarkedBy sums new (take (place + 1) (map f columns))
+  marked_next totals old new place x within is e kept here before d l m = all_more (λ (y : Column). (n : Literal) → Contains y.cube n → ¬ IsMarked new n.variable → HasNoPartner sums (total_of y) n)
+      (map f columns) place (f x) long (λ y h n i off. before y n h i (λ on. off (kept n.variable on)))
+      (subst (λ (y : Column). (n : Literal) → Contains y.cube n → ¬ IsMarked new n.variable → HasNoPartner sums (total_of y) n) (sym at) now) d m l
     where
       long : place < length (map f columns)
       long = let same = length-map columns f in omega (arith, within, same)

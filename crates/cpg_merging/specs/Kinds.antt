@@ -2,7 +2,7 @@
 use Rattle.std.specs.Prelude.{ℕ, ◌*◌, ◌%◌, ◌^◌, ◌≡◌, ◌≢◌, Bool, false, List, length, get_or, sum_by, Contains}
 use Rattle.cpg_cube.specs.declared.literal.Literal.{Literal}
 use Rattle.cpg_cube.specs.Column.{Column}
-use Rattle.cpg_merging.specs.declared.kinds.Kind.{Kind}
+use Rattle.cpg_merging.specs.declared.kinds.ColumnKind.{ColumnKind}
 use Rattle.cpg_merging.specs.Demands.{low_of}
 use Rattle.cpg_merging.specs.Totals.{mixed, place_in, IsMarked}
 
@@ -11,20 +11,20 @@ abbrev pub square_of : Literal → ℕ
 square_of l = l.variable * l.variable % 2 ^ 64
 
 -- the kind of a column with this time and these literals
-abbrev pub kind_by : ℕ → List Literal → Kind
+abbrev pub kind_by : ℕ → List Literal → ColumnKind
 kind_by time literals = record { number = mixed (mixed 0 time) (sum_by square_of literals % 2 ^ 64); asked = sum_by low_of literals % 256 }
 
 -- the kind of a column
-abbrev pub kind_of : Column → Kind
+abbrev pub kind_of : Column → ColumnKind
 kind_of c = kind_by c.time c.cube
 
 -- a column of this kind asks what its place tells, if no difference is noted
-abbrev pub IsTold : List ℕ → List Bool → Kind → Type 0
+abbrev pub IsTold : List ℕ → List Bool → ColumnKind → Type 0
 IsTold told differing kind = ¬ IsMarked differing (place_in (length told) kind.number) → get_or told (place_in (length told) kind.number) 0 ≡ kind.asked
 
 -- columns of these kinds ask what their places tell, if no difference is noted
-abbrev pub AreTold : List ℕ → List Bool → List Kind → Type 0
-AreTold told differing kinds = (kind : Kind) → Contains kinds kind → IsTold told differing kind
+abbrev pub AreTold : List ℕ → List Bool → List ColumnKind → Type 0
+AreTold told differing kinds = (kind : ColumnKind) → Contains kinds kind → IsTold told differing kind
 
 -- whether a column is one of a place where a difference is noted
 abbrev pub is_candidate : List Bool → Column → Bool

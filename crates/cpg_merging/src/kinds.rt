@@ -15,14 +15,14 @@ const SPREAD: usize = 8;
 
 /// What columns that touch have in common, and how much a column asks above 0 in all, in a byte.
 #[derive(Clone, Copy)]
-struct Kind {
+struct ColumnKind {
     /// A number for the time and the variables of the literals.
     number: u64,
     asked: u8,
 }
 
 /// The kind of a column with this time and these literals.
-fn kind_by(time: u64, literals: &[Literal]) -> Kind
+fn kind_by(time: u64, literals: &[Literal]) -> ColumnKind
     ensures { result ≡ kind_by time literals.now }
 {
     let mut squares: u64 = 0;
@@ -32,14 +32,14 @@ fn kind_by(time: u64, literals: &[Literal]) -> Kind
         squares = squares.wrapping_add(variable.wrapping_mul(variable));
         asked = asked.wrapping_add(literal.low);
     }
-    Kind {
+    ColumnKind {
         number: mixed(mixed(0, time), squares),
         asked,
     }
 }
 
 /// The kinds of columns.
-fn kinds(alloc: Global, columns: &[Entry]) -> Result<Vec<Kind>, OutOfMemory>
+fn kinds(alloc: Global, columns: &[Entry]) -> Result<Vec<ColumnKind>, OutOfMemory>
     ensures { IfOk result (λ kinds. kinds.items ≡ map kind_of columns.now) }
 {
     let mut kinds = Vec::new(alloc);
@@ -51,7 +51,7 @@ fn kinds(alloc: Global, columns: &[Entry]) -> Result<Vec<Kind>, OutOfMemory>
 }
 
 /// How much the last column of each place asks.
-fn last_asked(alloc: Global, count: usize, kinds: &[Kind]) -> Result<Vec<u8>, OutOfMemory>
+fn last_asked(alloc: Global, count: usize, kinds: &[ColumnKind]) -> Result<Vec<u8>, OutOfMemory>
     requires { 0 < count }
     ensures { IfOk result (λ told. length told.items ≡ count) }
 {
@@ -64,7 +64,7 @@ fn last_asked(alloc: Global, count: usize, kinds: &[Kind]) -> Result<Vec<u8>, Ou
 }
 
 /// Notes it if a column asks otherwise than its place tells.
-fn note(told: &[u8], kind: Kind, differing: &mut [bool])
+fn note(told: &[u8], kind: ColumnKind, differing: &mut [bool])
     requires some { 0 < length told.now }
     requires long { length differing.old ≡ length told.now }
     ensures long { length differing.new ≡ length told.now }
@@ -79,7 +79,7 @@ fn note(told: &[u8], kind: Kind, differing: &mut [bool])
 }
 
 /// The places where some column asks otherwise than its place tells.
-fn differing(alloc: Global, told: &[u8], kinds: &[Kind]) -> Result<Vec<bool>, OutOfMemory>
+fn differing(alloc: Global, told: &[u8], kinds: &[ColumnKind]) -> Result<Vec<bool>, OutOfMemory>
     requires { 0 < length told.now }
     ensures long { IfOk result (λ differing. length differing.items ≡ length told.now) }
     ensures told { IfOk result (λ differing. AreTold told.now differing.items kinds.now) }
@@ -95,7 +95,7 @@ fn differing(alloc: Global, told: &[u8], kinds: &[Kind]) -> Result<Vec<bool>, Ou
 fn chosen<'a>(
     alloc: Global,
     differing: &[bool],
-    kinds: &[Kind],
+    kinds: &[ColumnKind],
     columns: &'a [Entry],
 ) -> Result<Vec<&'a Entry>, OutOfMemory>
     requires some { 0 < length differing.now }

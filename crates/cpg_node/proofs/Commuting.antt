@@ -1,5 +1,6 @@
 -- Reports of different processes, and frames of one time, may come in any order.
-use Rattle.std.proofs.Common.{◌≡◌, ◌≢◌, ℕ, zero, suc, ◌<◌, ◌≤◌, min, max, Bool, true, false, not, ◌||◌, ◌==◌, List, [], ◌∷◌, length, set, get_or, Option, Some, None, refl, sym, ap, ap₂, ◌∙◌, subst, arith, inl, inr, eq-eqb, ne_eqb, le-ltb}
+use Rattle.std.proofs.Common.{◌≡◌, ◌≢◌, ℕ, zero, suc, ◌<◌, ◌≤◌, min, max, Bool, true, false, not, ◌||◌, ◌==◌, List, [], ◌∷◌, length, set, get_or, Option, Some, None, refl, sym, ap, ap₂, ◌∙◌, subst}
+use Rattle.std.proofs.Common.{arith, inl, inr, eq-eqb, ne_eqb, le-ltb}
 use Rattle.std.specs.Prelude.{IfSome, option_map, nat_lt}
 use Rattle.std.specs.List.{list_any}
 use Rattle.std.proofs.lemmas.Bool.{cases_eq, cases_lt, cond-true, cond-false, or_parts, or_from, ltb-false}
@@ -7,7 +8,8 @@ use Rattle.std.proofs.lemmas.Option.{none-some, same_Some}
 use Rattle.std.proofs.lemmas.List.{length-set, get_or-set_same, get_or-set_other, set_past, set-set, set_comm}
 use Rattle.cpg_cube.specs.declared.literal.Literal.{Literal}
 use Rattle.cpg_table.specs.Table.{Row, columns_in}
-use Rattle.cpg_node.specs.Dispatcher.{Dispatcher, Own, Range, Running, Ended, Frame, zip_with, with_report, finished, next, range_of, cut_range, cut, cut_all, frame_literals, hear_frame, hear, no_column, is_contradicted, is_strange}
+use Rattle.cpg_node.specs.Dispatcher.{Dispatcher, Own, Range, Running, Ended, Frame, zip_with, with_report, finished, next, range_of, cut_range, cut, cut_all, frame_literals, hear_frame, hear}
+use Rattle.cpg_node.specs.Dispatcher.{no_column, is_contradicted, is_strange}
 use Rattle.cpg_node.specs.State.{running_in, running_of, MayFinish}
 use Rattle.cpg_node.proofs.Turning.{next_reported}
 

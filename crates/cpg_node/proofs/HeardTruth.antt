@@ -1,5 +1,6 @@
 -- Each fact that a node is told is true of the scenario, and so is what they imply.
-use Rattle.std.proofs.Common.{◌≡◌, ℕ, ◌+◌, ◌-◌, ◌≤◌, Bool, true, false, cond, ◌==◌, List, [], map, filter, Contains, flat_map, refl, ap, arith, inl, inr, eqb-true, le-leb, leb, leb-true, lt-ltb, le-ltb, length, get_or}
+use Rattle.std.proofs.Common.{◌≡◌, ℕ, ◌+◌, ◌-◌, ◌≤◌, Bool, true, false, cond, ◌==◌, List, [], map, filter, Contains, flat_map, refl, ap, arith, inl, inr, eqb-true, le-leb, leb, leb-true, lt-ltb}
+use Rattle.std.proofs.Common.{le-ltb, length, get_or}
 use Rattle.std.proofs.lemmas.Bool.{cases_lt, and_from, and_parts, cond-true, cond-false}
 use Rattle.std.proofs.lemmas.List.{get_or_past}
 use Rattle.std.proofs.lemmas.List.Sums.{get_or-le-sum_by}
@@ -101,7 +102,8 @@ module _ (g : Graph) (tables : List NodeTable) (node time : ℕ) (s : Scenario) 
   high : (l : Literal) → number_of s l.variable ≤ kept_high g.faults fs l.variable
   high l = elim (least_cases (top g.faults l.variable) (map (λ (m : Literal). m.high) (filter (λ (m : Literal). m.variable == l.variable) fs))) [
     | inl z ↦ omega (arith, z, within l.variable)
-    | inr q ↦ let r = Contains-map_parts (λ (m : Literal). m.high) (filter (λ (m : Literal). m.variable == l.variable) fs) (kept_high g.faults fs l.variable) q in omega (arith, r.2, (true_of l r.0 r.1).1)
+    | inr q ↦ let r = Contains-map_parts (λ (m : Literal). m.high) (filter (λ (m : Literal). m.variable == l.variable) fs) (kept_high g.faults fs l.variable) q in
+        omega (arith, r.2, (true_of l r.0 r.1).1)
   ]
 
 -- a literal that is heard is true of the scenario, whatever the tables are

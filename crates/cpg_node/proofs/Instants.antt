@@ -1,5 +1,6 @@
 -- A node comes to finitely many instants: each turn leaves fewer.
-use Rattle.std.proofs.Common.{◌≡◌, ◌≢◌, ℕ, ◌+◌, ◌*◌, ◌<◌, ◌≤◌, Bool, true, false, cond, ◌||◌, ◌==◌, List, [], ◌∷◌, ◌++◌, length, filter, fold, Contains, Option, Some, None, refl, sym, ap, ◌∙◌, subst, arith, inl, inr, ◌⊎◌, true≢false, ltb, lt-ltb, ltb-true, le-ltb, eq-eqb, ne_eqb}
+use Rattle.std.proofs.Common.{◌≡◌, ◌≢◌, ℕ, ◌+◌, ◌*◌, ◌<◌, ◌≤◌, Bool, true, false, cond, ◌||◌, ◌==◌, List, [], ◌∷◌, ◌++◌, length, filter, fold, Contains, Option, Some, None, refl, sym, ap, ◌∙◌, subst}
+use Rattle.std.proofs.Common.{arith, inl, inr, ◌⊎◌, true≢false, ltb, lt-ltb, ltb-true, le-ltb, eq-eqb, ne_eqb}
 use Rattle.std.specs.Prelude.{is_some}
 use Rattle.std.specs.List.{flat_map, list_any}
 use Rattle.std.proofs.lemmas.Bool.{cases_eq, cond-true, cond-false}
@@ -10,7 +11,8 @@ use Rattle.cpg_base.proofs.Lists.{Contains-first, Contains-rest, Contains-cases,
 use Rattle.cpg_base.proofs.Sums.{length-filter-le}
 use Rattle.cpg_table.specs.Table.{Row}
 use Rattle.cpg_table.specs.Lawful.{IsTable, column_count, rows_of}
-use Rattle.cpg_node.specs.Dispatcher.{Dispatcher, Own, OwnTable, Running, Ended, Frame, Act, candidates, is_after, next, possible_ends, times_in, zip_with, running_after, ends_in_turn, acts_of_turn, turn, finished}
+use Rattle.cpg_node.specs.Dispatcher.{Dispatcher, Own, OwnTable, Running, Ended, Frame, Act, candidates, is_after, next, possible_ends, times_in, zip_with, running_after, ends_in_turn, acts_of_turn}
+use Rattle.cpg_node.specs.Dispatcher.{turn, finished}
 use Rattle.cpg_node.specs.Plan.{fixed_times}
 use Rattle.cpg_node.proofs.Next.{least_of_parts, next_is}
 use Rattle.cpg_node.proofs.Turning.{ends_reported}
@@ -41,7 +43,8 @@ one_less last time (x ∷ xs) a c = elim (Contains-cases x xs time c) [
   | inr m ↦ one_kept (ltb time x) (is_after last x) x (filter (is_after (Some time)) xs) (filter (is_after last) xs) (after_both last time x a) (one_less last time xs a m)
 ]
   where
-    first : (b c : Bool) → b ≡ false → c ≡ true → left_of (Some time) xs ≤ left_of last xs → length (cond b (x ∷ filter (is_after (Some time)) xs) (filter (is_after (Some time)) xs)) < length (cond c (x ∷ filter (is_after last) xs) (filter (is_after last) xs))
+    first : (b c : Bool) → b ≡ false → c ≡ true → left_of (Some time) xs ≤ left_of last xs →
+        length (cond b (x ∷ filter (is_after (Some time)) xs) (filter (is_after (Some time)) xs)) < length (cond c (x ∷ filter (is_after last) xs) (filter (is_after last) xs))
     first true c e f l = absurd (true≢false e)
     first false true e f l = omega arith
     first false false e f l = absurd (true≢false (sym f))
@@ -77,7 +80,8 @@ either_few : (p q : Own → Bool) (os : List Own) → length (filter (λ o. p o 
 either_few p q [] = omega arith
 either_few p q (o ∷ os) = go (p o) (q o) (filter (λ o. p o || q o) os) (filter p os) (filter q os) (either_few p q os)
   where
-    go : (a b : Bool) (all some others : List Own) → length all ≤ length some + length others → length (cond (a || b) (o ∷ all) all) ≤ length (cond a (o ∷ some) some) + length (cond b (o ∷ others) others)
+    go : (a b : Bool) (all some others : List Own) → length all ≤ length some + length others →
+        length (cond (a || b) (o ∷ all) all) ≤ length (cond a (o ∷ some) some) + length (cond b (o ∷ others) others)
     go true true all some others l = omega (arith, l)
     go true false all some others l = omega (arith, l)
     go false true all some others l = omega (arith, l)
@@ -144,7 +148,9 @@ grown_ends p ended acts time (o ∷ os) (run ∷ runs) h = go (list_any (λ (a :
 
 -- the next instant is planned, or is a possible end
 instant_is : (d : Dispatcher) (time : ℕ) → next d ≡ Some time → Contains (planned_times d) time ⊎ Contains (end_times d) time
-instant_is d time e = go (is_some d.last) (Contains-filter_parts (is_after d.last) (cond (is_some d.last) (candidates d) (0 ∷ candidates d)) time (least_of_parts (filter (is_after d.last) (cond (is_some d.last) (candidates d) (0 ∷ candidates d))) time e).0).0
+instant_is d time e = go (is_some d.last)
+    (Contains-filter_parts (is_after d.last) (cond (is_some d.last) (candidates d) (0 ∷ candidates d)) time
+    (least_of_parts (filter (is_after d.last) (cond (is_some d.last) (candidates d) (0 ∷ candidates d))) time e).0).0
   where
     go : (b : Bool) → Contains (cond b (candidates d) (0 ∷ candidates d)) time → Contains (cond b (fixed_times d.table) (0 ∷ fixed_times d.table)) time ⊎ Contains (end_times d) time
     go true c = Contains-append_cases (fixed_times d.table) (end_times d) time c
@@ -184,7 +190,8 @@ table_less d time frames comes made = turn_less d time frames comes (own_rise d.
 -- reports change nothing
 pub reported_left : (d : Dispatcher) (es : List Ended) → instants_left (fold finished d es) ≡ instants_left d
 reported_left d [] = refl
-reported_left d (e ∷ es) = reported_left (finished d e) es ∙ ap (λ l. left_of d.last (planned_times d) + left_of d.last (flat_map (λ ends. ends) l) + length (entries_left d) * 9) (ends_reported e d.table.own d.running)
+reported_left d (e ∷ es) = reported_left (finished d e) es ∙ ap (λ l. left_of d.last (planned_times d) + left_of d.last (flat_map (λ ends. ends) l) + length (entries_left d) * 9)
+    (ends_reported e d.table.own d.running)
 
 -- How many instants there are at all.
 

@@ -1,5 +1,6 @@
 -- The least of lists of times.
-use Rattle.std.proofs.Common.{◌≡◌, ℕ, ◌<◌, ◌≤◌, ◌+◌, Bool, min, List, [], ◌∷◌, ◌++◌, map, filter, fold, length, drop, get_or, Contains, Option, Some, None, refl, sym, ap, ◌∙◌, arith, drop-cons, add-one}
+use Rattle.std.proofs.Common.{◌≡◌, ℕ, ◌<◌, ◌≤◌, ◌+◌, Bool, min, List, [], ◌∷◌, ◌++◌, map, filter, fold, length, drop, get_or, Contains, Option, Some, None, refl, sym, ap, ◌∙◌, arith, drop-cons}
+use Rattle.std.proofs.Common.{add-one}
 use Rattle.std.specs.List.{flat_map}
 use Rattle.std.proofs.lemmas.List.Elements.{filter-append}
 use Rattle.cpg_base.proofs.Lists.{Contains-first, Contains-nil}
@@ -55,7 +56,8 @@ pub least_more : (p : ℕ → Bool) (first : Option ℕ) (xs ys : List ℕ) (who
     earlier (earlier first (least_of (filter p xs))) (least_of (filter p ys)) ≡ whole
 least_more p first xs ys whole e = earlier_assoc first (least_of (filter p xs)) (least_of (filter p ys)) ∙ ap (earlier first) (sym (least_passing p xs ys)) ∙ e
 
-pub least_zip : {A B : Type 0} (p : ℕ → Bool) (f : A → B → List ℕ) (n : ℕ) (os : List A) (rs : List B) (a : A) (b : B) (first now : Option ℕ) (whole : Option ℕ) → n < length os → length os ≡ length rs → a ≡ get_or os n a →
+pub least_zip : {A B : Type 0} (p : ℕ → Bool) (f : A → B → List ℕ) (n : ℕ) (os : List A) (rs : List B) (a : A) (b : B) (first now : Option ℕ) (whole : Option ℕ) → n < length os →
+    length os ≡ length rs → a ≡ get_or os n a →
     now ≡ earlier first (least_of (filter p (f a (get_or rs n b)))) → earlier first (least_of (filter p (flat_map (λ l. l) (zip_with f (drop n os) (drop n rs))))) ≡ whole →
     earlier now (least_of (filter p (flat_map (λ l. l) (zip_with f (drop (n + 1) os) (drop (n + 1) rs))))) ≡ whole
 least_zip p f n os rs a b first now whole l e at is h =
@@ -64,9 +66,11 @@ least_zip p f n os rs a b first now whole l e at is h =
     ∙ least_more p first (f a (get_or rs n b)) rest whole (ap (λ a. earlier first (least_of (filter p (f a (get_or rs n b) ++ rest)))) at
     ∙ ap (λ l. earlier first (least_of (filter p (flat_map (λ l. l) l)))) (sym (zip_with-drop f n os rs a b l e)) ∙ h)
 
-pub least_map : (p : ℕ → Bool) (f : ℕ → ℕ) (n : ℕ) (ts : List ℕ) (d : ℕ) (first now end whole : Option ℕ) → n < length ts → end ≡ least_of (filter p (f (get_or ts n d) ∷ [])) → now ≡ earlier first end →
+pub least_map : (p : ℕ → Bool) (f : ℕ → ℕ) (n : ℕ) (ts : List ℕ) (d : ℕ) (first now end whole : Option ℕ) → n < length ts → end ≡ least_of (filter p (f (get_or ts n d) ∷ [])) →
+    now ≡ earlier first end →
     earlier first (least_of (filter p (map f (drop n ts)))) ≡ whole → earlier now (least_of (filter p (map f (drop (n + 1) ts)))) ≡ whole
 least_map p f n ts d first now end whole l at is h =
     let rest = map f (drop (n + 1) ts) in
     ap (λ o. earlier o (least_of (filter p rest))) (is ∙ ap (earlier first) at)
-    ∙ least_more p first (f (get_or ts n d) ∷ []) rest whole (ap (λ l. earlier first (least_of (filter p (map f l)))) (sym (drop-cons ts n d l ∙ ap (λ m. get_or ts n d ∷ drop m ts) (sym (add-one n)))) ∙ h)
+    ∙ least_more p first (f (get_or ts n d) ∷ []) rest whole
+    (ap (λ l. earlier first (least_of (filter p (map f l)))) (sym (drop-cons ts n d l ∙ ap (λ m. get_or ts n d ∷ drop m ts) (sym (add-one n)))) ∙ h)

@@ -1,5 +1,6 @@
 -- What is planned for a time, and the acts of a turn.
-use Rattle.std.proofs.Common.{◌≡◌, ℕ, suc, zero, ◌<◌, ◌≤◌, ◌+◌, ◌-◌, Bool, true, false, cond, ◌&&◌, ◌==◌, List, [], ◌∷◌, ◌++◌, map, filter, length, take, drop, get_or, Contains, refl, sym, ap, ap₂, ◌∙◌, subst, arith, drop-cons, add-one, eqb-true, eq-eqb}
+use Rattle.std.proofs.Common.{◌≡◌, ℕ, suc, zero, ◌<◌, ◌≤◌, ◌+◌, ◌-◌, Bool, true, false, cond, ◌&&◌, ◌==◌, List, [], ◌∷◌, ◌++◌, map, filter, length, take, drop, get_or, Contains, refl, sym, ap, ap₂}
+use Rattle.std.proofs.Common.{◌∙◌, subst, arith, drop-cons, add-one, eqb-true, eq-eqb}
 use Rattle.std.specs.Prelude.{not}
 use Rattle.std.specs.List.{flat_map, list_all}
 use Rattle.std.specs.List.Sorted.{IsStableByKey}
@@ -65,7 +66,8 @@ acts_of_rows : (all : List Row) (heard : List Range) (time place : ℕ) (rows : 
     flat_map (λ (row : Row). acts_of_columns heard time row.item 0 row.columns) rows ≡ map act_of (filter (is_due all heard time) (plan_from place rows))
 acts_of_rows all heard time place [] at = refl
 acts_of_rows all heard time place (row ∷ rows) at =
-    ap₂ ◌++◌ (acts_of_row all heard time place row.item 0 row.columns (λ k n e. ap (λ (r : Row). get_or r.columns n no_column) (at 0 place (omega arith)) ∙ ap (λ n. get_or row.columns n no_column) (let m : n ≡ k = omega arith in m)))
+    ap₂ ◌++◌ (acts_of_row all heard time place row.item 0 row.columns
+    (λ k n e. ap (λ (r : Row). get_or r.columns n no_column) (at 0 place (omega arith)) ∙ ap (λ n. get_or row.columns n no_column) (let m : n ≡ k = omega arith in m)))
     (acts_of_rows all heard time (place + 1) rows (λ k n e. at (suc k) n (omega arith)))
     ∙ sym (ap (map act_of) (filter-append (is_due all heard time) (plan_of_columns place row.item 0 row.columns) (plan_from (place + 1) rows))
     ∙ map-append act_of (filter (is_due all heard time) (plan_of_columns place row.item 0 row.columns)) (filter (is_due all heard time) (plan_from (place + 1) rows)))
@@ -78,7 +80,8 @@ filter_both : {X : Type 0} (p q : X → Bool) (xs : List X) → filter (λ x. p 
 filter_both p q [] = refl
 filter_both p q (x ∷ xs) = go (p x) (filter_both p q xs)
   where
-    go : (b : Bool) → filter (λ x. p x && q x) xs ≡ filter q (filter p xs) → cond (b && q x) (x ∷ filter (λ x. p x && q x) xs) (filter (λ x. p x && q x) xs) ≡ filter q (cond b (x ∷ filter p xs) (filter p xs))
+    go : (b : Bool) → filter (λ x. p x && q x) xs ≡ filter q (filter p xs) → cond (b && q x) (x ∷ filter (λ x. p x && q x) xs) (filter (λ x. p x && q x) xs) ≡ filter q
+        (cond b (x ∷ filter p xs) (filter p xs))
     go true e = ap (λ l. cond (q x) (x ∷ l) l) e
     go false e = e
 
@@ -102,11 +105,13 @@ filter_run {X = X} test [] first end a b before in' after = sym (empty first (en
 filter_run test (x ∷ xs) zero zero a b before in' after = cond-false _ (x ∷ filter test xs) (filter test xs) (after 0 x (omega arith) (omega arith))
     ∙ filter_run test xs zero zero a (omega arith) (λ i d h. absurd (omega arith)) (λ i d h k. absurd (omega arith)) (λ i d h k. after (suc i) d (omega arith) (omega arith))
 filter_run test (x ∷ xs) zero (suc end) a b before in' after = cond-true _ (x ∷ filter test xs) (filter test xs) (in' 0 x (omega arith) (omega arith))
-    ∙ ap (λ l. x ∷ l) (filter_run test xs zero end (omega arith) (omega arith) (λ i d h. absurd (omega arith)) (λ i d h k. in' (suc i) d (omega arith) (omega arith)) (λ i d h k. after (suc i) d (omega arith) (omega arith)) ∙ ap (λ n. take n xs) (let e : end - 0 ≡ end = omega arith in e))
+    ∙ ap (λ l. x ∷ l) (filter_run test xs zero end (omega arith) (omega arith) (λ i d h. absurd (omega arith)) (λ i d h k. in' (suc i) d (omega arith) (omega arith))
+    (λ i d h k. after (suc i) d (omega arith) (omega arith)) ∙ ap (λ n. take n xs) (let e : end - 0 ≡ end = omega arith in e))
     ∙ ap (λ n. take n (x ∷ xs)) (let e : suc end ≡ suc end - 0 = omega arith in e)
 filter_run test (x ∷ xs) (suc first) zero a b before in' after = absurd (omega arith)
 filter_run test (x ∷ xs) (suc first) (suc end) a b before in' after = cond-false _ (x ∷ filter test xs) (filter test xs) (before 0 x (omega arith))
-    ∙ filter_run test xs first end (omega arith) (omega arith) (λ i d h. before (suc i) d (omega arith)) (λ i d h k. in' (suc i) d (omega arith) (omega arith)) (λ i d h k. after (suc i) d (omega arith) (omega arith))
+    ∙ filter_run test xs first end (omega arith) (omega arith) (λ i d h. before (suc i) d (omega arith)) (λ i d h k. in' (suc i) d (omega arith) (omega arith))
+    (λ i d h k. after (suc i) d (omega arith) (omega arith))
     ∙ ap (λ n. take n (drop first xs)) (let e : end - first ≡ suc end - suc first = omega arith in e)
 
 -- the step of a loop over entries
@@ -115,7 +120,8 @@ pub acts_next : (test : Planned → Bool) (ps : List Planned) (n : ℕ) (d : Pla
 acts_next test ps n d acts more l is m =
     let rest = map act_of (filter test (drop (n + 1) ps)) in
     ap (λ l. l ++ rest) m ∙ append_assoc acts (map act_of (filter test (get_or ps n d ∷ []))) rest
-    ∙ ap (λ l. acts ++ l) (sym (ap (λ l. map act_of (filter test l)) (drop-cons ps n d l ∙ ap (λ m. get_or ps n d ∷ drop m ps) (sym (add-one n))) ∙ acts_more test (get_or ps n d) (drop (n + 1) ps))) ∙ is
+    ∙ ap (λ l. acts ++ l) (sym (ap (λ l. map act_of (filter test l)) (drop-cons ps n d l ∙ ap (λ m. get_or ps n d ∷ drop m ps) (sym (add-one n))) ∙ acts_more test (get_or ps n d) (drop (n + 1) ps)))
+    ∙ is
 
 -- Members.
 
@@ -140,5 +146,6 @@ same_from_stable xs ys stable time =
 
 pub planned_is : (t : OwnTable) (new one two : List Planned) (sends starts : List Row) (n : ℕ) → new ≡ [] → sends ≡ t.sends → starts ≡ t.starts → n ≡ length t.sends →
     one ≡ new ++ plan_from 0 sends → two ≡ one ++ plan_from n starts → two ≡ plan_of t
-planned_is t new one two sends starts n a b c d e f = f ∙ ap₂ ◌++◌ (e ∙ ap (λ l. l ++ plan_from 0 sends) a ∙ ap (plan_from 0) b) (ap₂ plan_from (d ∙ (let z : length t.sends ≡ 0 + length t.sends = omega arith in z)) c)
+planned_is t new one two sends starts n a b c d e f = f ∙ ap₂ ◌++◌ (e ∙ ap (λ l. l ++ plan_from 0 sends) a ∙ ap (plan_from 0) b)
+    (ap₂ plan_from (d ∙ (let z : length t.sends ≡ 0 + length t.sends = omega arith in z)) c)
     ∙ sym (plan_from-append 0 t.sends t.starts)

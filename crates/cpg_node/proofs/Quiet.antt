@@ -1,5 +1,6 @@
 -- Turns at which nothing ends, arrives or is due.
-use Rattle.std.proofs.Common.{◌≡◌, ℕ, ◌+◌, ◌≤◌, Bool, true, false, cond, ◌&&◌, ◌==◌, List, [], ◌∷◌, ◌++◌, map, fold, length, get_or, Contains, Option, Some, None, refl, sym, ap, ap₂, ◌∙◌, subst, arith, inl, inr, ne_eqb}
+use Rattle.std.proofs.Common.{◌≡◌, ℕ, ◌+◌, ◌≤◌, Bool, true, false, cond, ◌&&◌, ◌==◌, List, [], ◌∷◌, ◌++◌, map, fold, length, get_or, Contains, Option, Some, None, refl, sym, ap, ap₂, ◌∙◌, subst}
+use Rattle.std.proofs.Common.{arith, inl, inr, ne_eqb}
 use Rattle.std.specs.Prelude.{All, IfSome}
 use Rattle.std.specs.List.{flat_map, list_all}
 use Rattle.std.proofs.lemmas.List.Elements.{All-cons, All-append, All-head, All-tail, All-nil, Contains-append_left, Contains-append_right, Contains-append_cases, Contains-get_or}
@@ -10,7 +11,8 @@ use Rattle.cpg_head.specs.Head.{IsHeadProcess}
 use Rattle.cpg_table.specs.Items.{own_front, own_from}
 use Rattle.cpg_table.specs.Table.{Row, NodeTable}
 use Rattle.cpg_table.specs.Lawful.{IsTable}
-use Rattle.cpg_node.specs.Dispatcher.{Own, Range, Running, Ended, times_in, zip_with, possible_ends, due_report, due_reports, due_reports_of, hear_end, has_heard, acts_of_columns, acts_at, heard_after, acts_of_turn, running_after}
+use Rattle.cpg_node.specs.Dispatcher.{Own, Range, Running, Ended, times_in, zip_with, possible_ends, due_report, due_reports, due_reports_of, hear_end, has_heard, acts_of_columns, acts_at}
+use Rattle.cpg_node.specs.Dispatcher.{heard_after, acts_of_turn, running_after}
 use Rattle.cpg_node.specs.Plan.{fixed_times}
 use Rattle.cpg_node.specs.Quiet.{QuietTurnsChangeNothing, awaited_faults, awaited_end, TurnsLeftOutAreQuiet, TellsFew, AwaitedAreCandidates}
 
@@ -62,7 +64,8 @@ no_reports k time (o ∷ os) (Some run ∷ runs) n = go run.report n (no_reports
         due_report time o run.start r ++ flat_map (λ es. es) (zip_with (due_reports_of time) os runs) ≡ []
     go None n ih = ih (λ m. n (Contains-rest _ rest time m))
     go (Some e) n ih = ap (λ b. cond b (e ∷ []) [] ++ flat_map (λ es. es) (zip_with (due_reports_of time) os runs))
-        (ne_eqb (run.start + get_or o.times e.faults 0) time (λ s. n (subst (Contains ((run.start + get_or o.times e.faults 0) ∷ rest)) s (Contains-first (run.start + get_or o.times e.faults 0) rest))))
+        (ne_eqb (run.start + get_or o.times e.faults 0) time
+        (λ s. n (subst (Contains ((run.start + get_or o.times e.faults 0) ∷ rest)) s (Contains-first (run.start + get_or o.times e.faults 0) rest))))
         ∙ ih (λ m. n (Contains-rest _ rest time m))
 
 pub turns_left_out : TurnsLeftOutAreQuiet

@@ -1,5 +1,6 @@
 -- How many acts a node may still do: each entry of its table is taken at most once.
-use Rattle.std.proofs.Common.{◌≡◌, ℕ, ◌+◌, ◌≤◌, Bool, true, false, cond, ◌&&◌, ◌==◌, List, [], ◌∷◌, ◌++◌, length, map, filter, Option, Some, None, refl, sym, ap, ap₂, ◌∙◌, arith, true≢false, ltb, lt-ltb, ltb-true, eqb-true}
+use Rattle.std.proofs.Common.{◌≡◌, ℕ, ◌+◌, ◌≤◌, Bool, true, false, cond, ◌&&◌, ◌==◌, List, [], ◌∷◌, ◌++◌, length, map, filter, Option, Some, None, refl, sym, ap, ap₂, ◌∙◌, arith, true≢false, ltb}
+use Rattle.std.proofs.Common.{lt-ltb, ltb-true, eqb-true}
 use Rattle.std.specs.List.{flat_map, list_all}
 use Rattle.std.proofs.lemmas.List.{length-map, length-append}
 use Rattle.std.proofs.lemmas.List.Elements.{filter-append}
@@ -22,7 +23,8 @@ columns_few heard time x i [] = omega arith
 columns_few heard time x i (c ∷ cs) = go (c.time == time) (list_all (has_heard heard) c.cube) (columns_few heard time x (i + 1) cs)
   where
     go : (a b : Bool) → length (acts_of_columns heard time x (i + 1) cs) ≤ length (now time (map (λ (c : Column). c.time) cs)) →
-        length (cond (a && b) (record { time = time; item = x; column = i } ∷ []) [] ++ acts_of_columns heard time x (i + 1) cs) ≤ length (cond a (c.time ∷ now time (map (λ (c : Column). c.time) cs)) (now time (map (λ (c : Column). c.time) cs)))
+        length (cond (a && b) (record { time = time; item = x; column = i } ∷ []) [] ++ acts_of_columns heard time x (i + 1) cs) ≤ length
+        (cond a (c.time ∷ now time (map (λ (c : Column). c.time) cs)) (now time (map (λ (c : Column). c.time) cs)))
     go true true l = omega (arith, l)
     go true false l = omega (arith, l)
     go false b l = l
@@ -57,7 +59,8 @@ left_then last time a (t ∷ ts) = go (t == time) (ltb time t) (is_after last t)
   where
     go : (e f b : Bool) → (e ≡ true → f ≡ true → ⊥) → (e ≡ true → b ≡ true) → (f ≡ true → b ≡ true) →
         length (now time ts) + length (filter (is_after (Some time)) ts) ≤ length (filter (is_after last) ts) →
-        length (cond e (t ∷ now time ts) (now time ts)) + length (cond f (t ∷ filter (is_after (Some time)) ts) (filter (is_after (Some time)) ts)) ≤ length (cond b (t ∷ filter (is_after last) ts) (filter (is_after last) ts))
+        length (cond e (t ∷ now time ts) (now time ts)) + length (cond f (t ∷ filter (is_after (Some time)) ts) (filter (is_after (Some time)) ts)) ≤ length
+        (cond b (t ∷ filter (is_after last) ts) (filter (is_after last) ts))
     go true true b apart x y h = absurd (apart refl refl)
     go true false true apart x y h = omega (arith, h)
     go true false false apart x y h = absurd (true≢false (sym (x refl)))
@@ -67,7 +70,8 @@ left_then last time a (t ∷ ts) = go (t == time) (ltb time t) (is_after last t)
     go false false false apart x y h = h
 
 -- the acts of a turn and the entries that are left after it
-pub room_turn : (d : Dispatcher) (time : ℕ) (frames : List Frame) → next d ≡ Some time → length (acts_of_turn d time [] frames) + length (entries_left (turn d time [] frames)) ≤ length (entries_left d)
+pub room_turn : (d : Dispatcher) (time : ℕ) (frames : List Frame) → next d ≡ Some time → length (acts_of_turn d time [] frames) + length (entries_left (turn d time [] frames)) ≤ length
+    (entries_left d)
 room_turn d time frames e = omega (
   arith,
   rows_few (heard_after d time [] frames) time (d.table.sends ++ d.table.starts),

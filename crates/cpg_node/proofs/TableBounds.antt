@@ -1,7 +1,8 @@
 -- What a lawful table says of its times.
 use Rattle.std.proofs.Common.{◌≡◌, ℕ, ◌<◌, ◌≤◌, ◌+◌, ◌^◌, Bool, true, false, cond, ◌==◌, List, [], ◌∷◌, ◌++◌, length, map, Contains, Some, None, refl, sym, ap, ◌∙◌, subst, arith, inl, inr}
 use Rattle.std.specs.Prelude.{All}
-use Rattle.std.proofs.lemmas.List.Elements.{All-cons, All-append, All-head, All-tail, All-nil, All-contains, All-contains_itself, All-weaker, Contains-append_left, Contains-append_right, Contains-append_cases}
+use Rattle.std.proofs.lemmas.List.Elements.{All-cons, All-append, All-head, All-tail, All-nil, All-contains, All-contains_itself, All-weaker, Contains-append_left, Contains-append_right}
+use Rattle.std.proofs.lemmas.List.Elements.{Contains-append_cases}
 use Rattle.cpg_base.specs.declared.limits.TheConstants.{MOST_COLUMNS}
 use Rattle.cpg_base.proofs.Lists.{Contains-cases, Contains-nil, Contains-flat_map_parts, Contains-map_parts}
 use Rattle.cpg_base.proofs.Ordered.{Rises, Rises-append}
@@ -51,7 +52,11 @@ own_rises : (node p c : ℕ) (qs : List HeadProcess) → DoRise (own_from node p
 own_rises node p c [] = tt
 own_rises node p c (q ∷ qs) = Rises-append (λ (a b : Own). a.process < b.process) (own_front node p c q) (own_from node (p + 1) (cond q.condition (c + 1) c) qs)
     (front (q.node == node)) (own_rises node (p + 1) (cond q.condition (c + 1) c) qs)
-    (λ a b m n. omega (arith, own_number p (record { process = p; condition = cond q.condition (Some c) None; times = q.times }) a (q.node == node) refl m, own_above node (p + 1) (cond q.condition (c + 1) c) qs b n))
+    (λ a b m n. omega (
+      arith,
+      own_number p (record { process = p; condition = cond q.condition (Some c) None; times = q.times }) a (q.node == node) refl m,
+      own_above node (p + 1) (cond q.condition (c + 1) c) qs b n,
+    ))
   where
     front : (b : Bool) → DoRise (cond b (record { process = p; condition = cond q.condition (Some c) None; times = q.times } ∷ []) [])
     front true = (λ o m. absurd (Contains-nil o m), tt)

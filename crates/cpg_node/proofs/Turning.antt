@@ -1,5 +1,6 @@
 -- What a node keeps before and after a turn.
-use Rattle.std.proofs.Common.{◌+◌, ◌⊎◌, ◌≡◌, ℕ, suc, ◌<◌, ◌≤◌, ◌-◌, ◌^◌, min, Bool, true, false, cond, ◌==◌, List, [], ◌∷◌, ◌++◌, map, filter, fold, length, take, drop, get_or, slice_get, Contains, Option, Some, None, refl, sym, ap, ap₂, ◌∙◌, subst, arith, inl, inr, true≢false, eq-eqb, eqb-true}
+use Rattle.std.proofs.Common.{◌+◌, ◌⊎◌, ◌≡◌, ℕ, suc, ◌<◌, ◌≤◌, ◌-◌, ◌^◌, min, Bool, true, false, cond, ◌==◌, List, [], ◌∷◌, ◌++◌, map, filter, fold, length, take, drop, get_or, slice_get, Contains}
+use Rattle.std.proofs.Common.{Option, Some, None, refl, sym, ap, ap₂, ◌∙◌, subst, arith, inl, inr, true≢false, eq-eqb, eqb-true}
 use Rattle.std.proofs.lemmas.Bool.{cases_lt, false_from_ne_true}
 use Rattle.std.proofs.lemmas.List.Sums.{fold-append}
 use Rattle.std.specs.Prelude.{is_some, All, IfSome, IsPermutation}
@@ -9,7 +10,8 @@ use Rattle.std.proofs.lemmas.List.Elements.{All-contains, All-cons, All-head, Al
 use Rattle.std.proofs.lemmas.Grind.{flat_map-append}
 use Rattle.std.proofs.lemmas.List.Sorted.{Contains-permutation, IsPermutation-sym}
 use Rattle.cpg_base.proofs.Lists.{Contains-nil, Contains-cases, Contains-map_parts, Contains-filter, Contains-filter_parts}
-use Rattle.cpg_node.specs.Dispatcher.{Dispatcher, times_in, Own, OwnTable, Range, Running, Ended, Frame, Act, zip_with, possible_ends, candidates, is_after, least_of, next, with_report, running_after, due_reports, hear_end, hear_frame, acts_at, heard_after, acts_of_turn, ends_in_turn, turn}
+use Rattle.cpg_node.specs.Dispatcher.{Dispatcher, times_in, Own, OwnTable, Range, Running, Ended, Frame, Act, zip_with, possible_ends, candidates, is_after, least_of, next, with_report, running_after}
+use Rattle.cpg_node.specs.Dispatcher.{due_reports, hear_end, hear_frame, acts_at, heard_after, acts_of_turn, ends_in_turn, turn}
 use Rattle.cpg_table.specs.Table.{Row}
 use Rattle.cpg_cube.specs.Column.{Column}
 use Rattle.cpg_node.specs.State.{NodeState, earlier, IsTimed, AreTimed}
@@ -34,7 +36,8 @@ pub next_open : (d : Dispatcher) → d.last ≡ None → Some 0 ≡ next d
 next_open d e = sym (ap (λ last. least_of (filter (is_after last) (cond (is_some last) (candidates d) (0 ∷ candidates d)))) e ∙ ap Some (fold_zero (filter (is_after None) (candidates d))))
 
 -- after a turn it is the first of the table's times that is left, or the first possible end
-pub next_found : (table : OwnTable) (heard : List Range) (running : List (Option Running)) (last : ℕ) (times : List ℕ) (place : ℕ) → IsPermutation (fixed_times table) times → IsLine (λ t. t) (Some last) times place →
+pub next_found : (table : OwnTable) (heard : List Range) (running : List (Option Running)) (last : ℕ) (times : List ℕ) (place : ℕ) → IsPermutation (fixed_times table) times →
+    IsLine (λ t. t) (Some last) times place →
     next (record { table = table; heard = heard; running = running; last = Some last })
     ≡ earlier (slice_get times place) (least_of (filter (is_after (Some last)) (flat_map (λ ends. ends) (zip_with possible_ends table.own running))))
 next_found table heard running last times place p line =
@@ -43,7 +46,9 @@ next_found table heard running last times place p line =
     let d : Dispatcher = record { table = table; heard = heard; running = running; last = Some last } in
     let parts : candidates d ≡ fixed_times table ++ ends = refl in
     ap (λ l. least_of (filter a l)) parts ∙ least_passing a (fixed_times table) ends
-    ∙ ap (λ o. earlier o (least_of (filter a ends))) (least_same (filter a (fixed_times table)) (filter a times) (kept (fixed_times table) times p) (kept times (fixed_times table) (IsPermutation-sym (fixed_times table) times p)) ∙ sym (first_left last times place line))
+    ∙ ap (λ o. earlier o (least_of (filter a ends)))
+    (least_same (filter a (fixed_times table)) (filter a times) (kept (fixed_times table) times p) (kept times (fixed_times table) (IsPermutation-sym (fixed_times table) times p)) ∙
+    sym (first_left last times place line))
   where
     kept : (xs ys : List ℕ) → IsPermutation xs ys → (x : ℕ) → Contains (filter (is_after (Some last)) xs) x → Contains (filter (is_after (Some last)) ys) x
     kept xs ys p x c = let r = Contains-filter_parts (is_after (Some last)) xs x c in Contains-filter (is_after (Some last)) ys x r.1 (Contains-permutation xs ys x p r.0)
@@ -77,7 +82,8 @@ timed_report e o (Some run) h = go (o.process == e.process)
     go false = h
 
 -- what holds of all that runs, place by place
-timed_zip : (f : Own → Option Running → Option Running) → ((o : Own) (run : Option Running) → IsTimed run → IsTimed (f o run)) → (os : List Own) (runs : List (Option Running)) → AreTimed runs → AreTimed (zip_with f os runs)
+timed_zip : (f : Own → Option Running → Option Running) → ((o : Own) (run : Option Running) → IsTimed run → IsTimed (f o run)) → (os : List Own) (runs : List (Option Running)) → AreTimed runs →
+    AreTimed (zip_with f os runs)
 timed_zip f keep [] runs h = All-nil IsTimed
 timed_zip f keep (o ∷ os) [] h = All-nil IsTimed
 timed_zip f keep (o ∷ os) (run ∷ runs) h = All-cons IsTimed (f o run) (zip_with f os runs) (keep o run (All-head IsTimed run runs h)) (timed_zip f keep os runs (All-tail IsTimed run runs h))
@@ -98,7 +104,8 @@ timed_after ended acts time early o run h = go (list_any (λ (a : Act). a.item =
     go false e true = tt
     go false e false = h
 
-pub timed_turn : (ended : List Ended) (acts : List Act) (time : ℕ) → (0 < length acts → time < 2 ^ 60) → (os : List Own) (runs : List (Option Running)) → AreTimed runs → AreTimed (zip_with (running_after ended acts time) os runs)
+pub timed_turn : (ended : List Ended) (acts : List Act) (time : ℕ) → (0 < length acts → time < 2 ^ 60) → (os : List Own) (runs : List (Option Running)) → AreTimed runs →
+    AreTimed (zip_with (running_after ended acts time) os runs)
 timed_turn ended acts time early = timed_zip (running_after ended acts time) (timed_after ended acts time early)
 
 pub length_zip : {A B C : Type 0} (f : A → B → C) (os : List A) (rs : List B) → length rs ≡ length os → length (zip_with f os rs) ≡ length os
@@ -130,7 +137,8 @@ turn_is table heard running last time ended due frames after acts runs is h a r 
 module _ (table : OwnTable) (heard : List Range) (running : List (Option Running)) (last : Option ℕ) (time : ℕ) (plan ps qs : List Planned) (place end : ℕ)
     (same : SameAtEachTime plan (plan_of table)) (line : IsLine (λ (p : Planned). p.time) last plan place)
     (comes : next (record { table = table; heard = heard; running = running; last = last }) ≡ Some time) (seen : ps ≡ plan) (sliced : qs ≡ plan)
-    (inside : (place ≤ end) × (end ≤ length ps)) (before : (i : ℕ) (d : Planned) → place ≤ i → i < end → (get_or ps i d).time ≤ time) (here : (d : Planned) → end < length ps → time < (get_or ps end d).time) where
+    (inside : (place ≤ end) × (end ≤ length ps)) (before : (i : ℕ) (d : Planned) → place ≤ i → i < end → (get_or ps i d).time ≤ time)
+    (here : (d : Planned) → end < length ps → time < (get_or ps end d).time) where
   abbrev node : Dispatcher
   node = record { table = table; heard = heard; running = running; last = last }
 
@@ -153,7 +161,8 @@ module _ (table : OwnTable) (heard : List Range) (running : List (Option Running
   planned_time' : (x : ℕ) → Contains (times_in (table.sends ++ table.starts)) x → Contains (candidates node) x
   planned_time' x c = Contains-append_left (fixed_times table) (flat_map (λ ends. ends) (zip_with possible_ends table.own running)) x
       (Contains-append_left (times_in table.starts ++ times_in table.sends) (times_in table.hears) x
-      (elim (Contains-append_cases (times_in table.sends) (times_in table.starts) x (subst (λ l. Contains l x) (flat_map-append (λ (row : Row). map (λ (c : Column). c.time) row.columns) table.sends table.starts) c)) [
+      (elim (Contains-append_cases (times_in table.sends) (times_in table.starts) x
+      (subst (λ l. Contains l x) (flat_map-append (λ (row : Row). map (λ (c : Column). c.time) row.columns) table.sends table.starts) c)) [
         | inl k ↦ Contains-append_right (times_in table.starts) (times_in table.sends) x k
         | inr k ↦ Contains-append_left (times_in table.starts) (times_in table.sends) x k
       ]))
@@ -163,7 +172,12 @@ module _ (table : OwnTable) (heard : List Range) (running : List (Option Running
 
   -- the time of an entry in the run
   at_time : (i : ℕ) (d : Planned) → place ≤ i → i < end → (get_or plan i d).time ≡ time
-  at_time i d k l = omega (arith, before' i d k l, next'.least (get_or plan i d).time (candidate i d (omega (arith, within))) (not_by last (get_or plan i d).time (line.left i d k (omega (arith, within)))))
+  at_time i d k l = omega (
+    arith,
+    before' i d k l,
+    next'.least (get_or plan i d).time (candidate i d (omega (arith, within)))
+        (not_by last (get_or plan i d).time (line.left i d k (omega (arith, within)))),
+  )
 
   other : (t : ℕ) → is_after last t ≡ false → (t == time) ≡ false
   other t e = false_from_ne_true (t == time) (λ s. true≢false (sym next'.after ∙ ap (is_after last) (sym (eqb-true t time s)) ∙ e))
@@ -197,15 +211,18 @@ module _ (table : OwnTable) (heard : List Range) (running : List (Option Running
 
 -- The clauses of a turn, about the state as a caller sees it.
 
-pub returned_turn : (now : NodeState) (d : Dispatcher) (acts : List Act) (time : ℕ) (after : Dispatcher) (ended : List Ended) (frames : List Frame) → record { dispatcher = d; acts = acts } ≡ now → next d ≡ Some time →
+pub returned_turn : (now : NodeState) (d : Dispatcher) (acts : List Act) (time : ℕ) (after : Dispatcher) (ended : List Ended) (frames : List Frame) → record { dispatcher = d; acts = acts } ≡ now →
+    next d ≡ Some time →
     after ≡ turn d time ended frames → IfSome (next now.dispatcher) (λ t. after ≡ turn now.dispatcher t ended frames)
 returned_turn now d acts time after ended frames view comes is =
     subst (λ (s : NodeState). IfSome (next s.dispatcher) (λ t. after ≡ turn s.dispatcher t ended frames)) view (subst (λ o. IfSome o (λ t. after ≡ turn d t ended frames)) (sym comes) is)
 
-pub returned_acts : (now : NodeState) (d : Dispatcher) (acts : List Act) (time : ℕ) (after : List Act) (ended : List Ended) (frames : List Frame) → record { dispatcher = d; acts = acts } ≡ now → next d ≡ Some time →
+pub returned_acts : (now : NodeState) (d : Dispatcher) (acts : List Act) (time : ℕ) (after : List Act) (ended : List Ended) (frames : List Frame) → record { dispatcher = d; acts = acts } ≡ now →
+    next d ≡ Some time →
     after ≡ acts_of_turn d time ended frames → IfSome (next now.dispatcher) (λ t. after ≡ acts_of_turn now.dispatcher t ended frames)
 returned_acts now d acts time after ended frames view comes is =
-    subst (λ (s : NodeState). IfSome (next s.dispatcher) (λ t. after ≡ acts_of_turn s.dispatcher t ended frames)) view (subst (λ o. IfSome o (λ t. after ≡ acts_of_turn d t ended frames)) (sym comes) is)
+    subst (λ (s : NodeState). IfSome (next s.dispatcher) (λ t. after ≡ acts_of_turn s.dispatcher t ended frames)) view
+    (subst (λ o. IfSome o (λ t. after ≡ acts_of_turn d t ended frames)) (sym comes) is)
 
 -- Times stay small.
 

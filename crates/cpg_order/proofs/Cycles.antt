@@ -1,5 +1,6 @@
 -- Cycles: found by a walk against the edges, turned into the direction of the edges, and not there under a topological order.
-use Rattle.std.proofs.Common.{ℕ, zero, suc, ◌+◌, ◌-◌, ◌<◌, ◌≤◌, ◌≡◌, ◌≢◌, ◌⊎◌, inl, inr, true, false, ◌&&◌, ◌==◌, nat_le, if◌then◌else◌, List, [], ◌∷◌, ◌++◌, length, get_or, drop, map, Contains, arith, refl, sym, ap, ap₂, ◌∙◌, subst, length-append, length-drop, eqb-true, eq-eqb, le-leb, subst₂}
+use Rattle.std.proofs.Common.{ℕ, zero, suc, ◌+◌, ◌-◌, ◌<◌, ◌≤◌, ◌≡◌, ◌≢◌, ◌⊎◌, inl, inr, true, false, ◌&&◌, ◌==◌, nat_le, if◌then◌else◌, List, [], ◌∷◌, ◌++◌, length, get_or, drop, map, Contains}
+use Rattle.std.proofs.Common.{arith, refl, sym, ap, ap₂, ◌∙◌, subst, length-append, length-drop, eqb-true, eq-eqb, le-leb, subst₂}
 use Rattle.std.specs.List.{AllPairs}
 use Rattle.std.proofs.lemmas.Bool.{cases_lt, cases_order, and_parts, and_from, both_ways, lt-leb}
 use Rattle.std.proofs.lemmas.List.{get_or-drop, get_or_append_left, get_or_default}
@@ -116,7 +117,8 @@ module _ (g : Graph) where
           some = omega arith;
           apart = λ i j d m n e. is.apart (from + i) (from + j) d (omega arith) (omega arith) (sym (get_or-drop from walk i d) ∙ e ∙ get_or-drop from walk j d);
           next = λ k m.
-              ap₂ (has_edge g) (get_or-drop from walk (k + 1) 0 ∙ ap (λ i. get_or walk i 0) (let e : from + (k + 1) ≡ from + k + 1 = omega arith in e)) (get_or-drop from walk k 0) ∙ is.next (from + k) (omega arith);
+              ap₂ (has_edge g) (get_or-drop from walk (k + 1) 0 ∙ ap (λ i. get_or walk i 0) (let e : from + (k + 1) ≡ from + k + 1 = omega arith in e)) (get_or-drop from walk k 0) ∙
+              is.next (from + k) (omega arith);
           last =
               ap₂ (has_edge g) (get_or-drop from walk 0 0 ∙ ap (λ i. get_or walk i 0) (let e : from + 0 ≡ from = omega arith in e) ∙ at)
               (get_or-drop from walk (length (drop from walk) - 1) 0 ∙ ap (λ i. get_or walk i 0) (let e : from + (length (drop from walk) - 1) ≡ length walk - 1 = omega arith in e))

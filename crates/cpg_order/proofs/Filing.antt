@@ -1,5 +1,6 @@
 -- Numbers filed by a key: one list for each key, and one more number at the end of one of them.
-use Rattle.std.proofs.Common.{ℕ, ◌+◌, ◌<◌, ◌≡◌, ◌==◌, List, [], ◌∷◌, ◌++◌, length, get_or, set, map, filter, arith, refl, sym, ap, ap₂, ◌∙◌, subst, inl, inr, get_or-set_other, get_or-set_same, length-set, eq-eqb}
+use Rattle.std.proofs.Common.{ℕ, ◌+◌, ◌<◌, ◌≡◌, ◌==◌, List, [], ◌∷◌, ◌++◌, length, get_or, set, map, filter, arith, refl, sym, ap, ap₂, ◌∙◌, subst, inl, inr, get_or-set_other, get_or-set_same}
+use Rattle.std.proofs.Common.{length-set, eq-eqb}
 use Rattle.std.proofs.lemmas.List.{ext_get_or}
 use Rattle.std.proofs.lemmas.List.FromFn.{length-map-range_with_len}
 use Rattle.std.proofs.lemmas.Bool.{cases_eq, ne_eqb}

@@ -1,5 +1,6 @@
 -- What tests of lists come to: that each number is there once, and that each edge leads to a later place.
-use Rattle.std.proofs.Common.{ℕ, ◌+◌, ◌<◌, ◌≤◌, ◌≡◌, ◌≢◌, inl, inr, Bool, true, false, ◌||◌, ◌==◌, List, [], ◌∷◌, length, get_or, set, take, replicate, Contains, IsPermutation, arith, refl, sym, ap, ◌∙◌, subst, length-set, get_or-set_other, get_or-set_same, eq-eqb}
+use Rattle.std.proofs.Common.{ℕ, ◌+◌, ◌<◌, ◌≤◌, ◌≡◌, ◌≢◌, inl, inr, Bool, true, false, ◌||◌, ◌==◌, List, [], ◌∷◌, length, get_or, set, take, replicate, Contains, IsPermutation, arith, refl, sym, ap}
+use Rattle.std.proofs.Common.{◌∙◌, subst, length-set, get_or-set_other, get_or-set_same, eq-eqb}
 use Rattle.std.specs.List.{AllPairs}
 use Rattle.std.proofs.lemmas.Bool.{cases_eq, both_ways, or_right, ne_eqb}
 use Rattle.std.proofs.lemmas.List.{take_more, take_all, get_or-replicate, length-replicate}
@@ -41,7 +42,8 @@ module _ (list : List ℕ) where
         record {
           long = length-set seen (get_or list i 0) true ∙ are.long;
           apart = subst (AllPairs (λ x y. x ≢ y)) (sym (take_more list i 0 l))
-              (AllPairs-append (λ x y. x ≢ y) (take i list) (get_or list i 0 ∷ []) are.apart (AllPairs-cons_by (λ x y. x ≢ y) (get_or list i 0) [] (λ y c. absurd (Contains-nil y c)) (AllPairs-nil (λ x y. x ≢ y)))
+              (AllPairs-append (λ x y. x ≢ y) (take i list) (get_or list i 0 ∷ []) are.apart
+              (AllPairs-cons_by (λ x y. x ≢ y) (get_or list i 0) [] (λ y c. absurd (Contains-nil y c)) (AllPairs-nil (λ x y. x ≢ y)))
               (λ x y c d e. elim (Contains-cases (get_or list i 0) [] y d) [
                 | inl s ↦ both_ways (is_in (take i list) (get_or list i 0)) new (is_in_from (take i list) (get_or list i 0) (subst (Contains (take i list)) (e ∙ sym s) c))
                 | inr n ↦ Contains-nil y n

@@ -1,5 +1,6 @@
 -- Processes that are put in order one after another: what each waits for, and what there is at the end.
-use Rattle.std.proofs.Common.{ℕ, ◌+◌, ◌-◌, ◌<◌, ◌≤◌, ◌≡◌, ◌≢◌, ◌⊎◌, inl, inr, Bool, true, false, not, cond, ◌==◌, List, [], ◌∷◌, ◌++◌, length, get_or, set, take, filter, Contains, IsPermutation, arith, refl, sym, ap, ◌∙◌, subst, true≢false, length-append, length-take, drop, length-set, get_or-set_other, get_or-set_same, eqb-true, eq-eqb}
+use Rattle.std.proofs.Common.{ℕ, ◌+◌, ◌-◌, ◌<◌, ◌≤◌, ◌≡◌, ◌≢◌, ◌⊎◌, inl, inr, Bool, true, false, not, cond, ◌==◌, List, [], ◌∷◌, ◌++◌, length, get_or, set, take, filter, Contains, IsPermutation}
+use Rattle.std.proofs.Common.{arith, refl, sym, ap, ◌∙◌, subst, true≢false, length-append, length-take, drop, length-set, get_or-set_other, get_or-set_same, eqb-true, eq-eqb}
 use Rattle.std.specs.List.{AllPairs}
 use Rattle.std.proofs.lemmas.Bool.{cases_Bool, cases_eq, cases_lt, both_ways, ne_eqb}
 use Rattle.std.proofs.lemmas.List.{get_or-take, get_or_append_left, get_or_default, take-append-le, take_more, take_all, take-append-drop, get_or_past}
@@ -207,7 +208,8 @@ apart_before xs d apart l = elim (cases_Bool (is_in (take d xs) (get_or xs d 0))
 ]
 
 module _ (g : Graph) (waiting : List ℕ) where
-  pub settled_first : (ready : List ℕ) → length waiting ≡ process_count g → ((p : ℕ) → p < process_count g → get_or waiting p 0 ≡ length (inputs g p)) → AreReady waiting ready → AreSettled g 0 waiting ready
+  pub settled_first : (ready : List ℕ) → length waiting ≡ process_count g → ((p : ℕ) → p < process_count g → get_or waiting p 0 ≡ length (inputs g p)) → AreReady waiting ready →
+      AreSettled g 0 waiting ready
   settled_first ready long counts are =
       let none : (p : ℕ) → p < process_count g → get_or waiting p 0 ≡ waits g [] p = λ p l. counts p l ∙ sym (all_passing (λ e. true) (inputs g p) (λ x. refl)) in
       record {
@@ -306,7 +308,12 @@ module _ (g : Graph) (waiting ready : List ℕ) (are : AreSettled g (length read
 
 -- a process has no more inputs than there are edges
 pub inputs-le : (g : Graph) (p : ℕ) → length (inputs g p) ≤ edge_count g
-inputs-le g p = omega (arith, length-filter (λ e. target g e == p) (numbers_below (edge_count g)), count_by-le-length (λ e. target g e == p) (numbers_below (edge_count g)), length-range_with_len 0 (edge_count g))
+inputs-le g p = omega (
+  arith,
+  length-filter (λ e. target g e == p) (numbers_below (edge_count g)),
+  count_by-le-length (λ e. target g e == p) (numbers_below (edge_count g)),
+  length-range_with_len 0 (edge_count g),
+)
 
 -- ---- one edge after another is settled
 

@@ -1,5 +1,6 @@
 -- A graph has exactly one list of tracks.
-use Rattle.std.proofs.Common.{◌≡◌, ◌≢◌, ℕ, zero, suc, ◌^◌, ◌<◌, Bool, true, false, not, cond, ◌&&◌, ◌||◌, List, [], ◌∷◌, length, get_or, filter, Contains, AllPairs, IsPermutation, refl, sym, ap, ◌∙◌, subst, arith, inl, inr, ◌⊎◌, true≢false}
+use Rattle.std.proofs.Common.{◌≡◌, ◌≢◌, ℕ, zero, suc, ◌^◌, ◌<◌, Bool, true, false, not, cond, ◌&&◌, ◌||◌, List, [], ◌∷◌, length, get_or, filter, Contains, AllPairs, IsPermutation, refl, sym, ap, ◌∙◌}
+use Rattle.std.proofs.Common.{subst, arith, inl, inr, ◌⊎◌, true≢false}
 use Rattle.std.proofs.lemmas.List.{ext_get_or}
 use Rattle.std.proofs.lemmas.List.Elements.{All-weaker, All-contains_itself, All-filter}
 use Rattle.std.proofs.lemmas.List.Kept.{AllPairs-filter}
@@ -46,7 +47,8 @@ module _ (g : Graph) where
       (r.0, record { within = numbers-Contains (condition_count g) r.0 r.1; one = not-true (get_or o r.0 false) t.0; other = t.1; same = s.1 })
 
   pub before_from : (o p : List Bool) (c : ℕ) → FirstDiffers o p c → is_outcome_before g o p ≡ true
-  before_from o p c h = list_any_true (λ c. not (get_or o c false) && get_or p c false && agree_on (earlier_conditions g c) o p) (numbers_below (condition_count g)) c (Contains-numbers (condition_count g) c h.within)
+  before_from o p c h = list_any_true (λ c. not (get_or o c false) && get_or p c false && agree_on (earlier_conditions g c) o p) (numbers_below (condition_count g)) c
+      (Contains-numbers (condition_count g) c h.within)
       (and_from (not (get_or o c false) && get_or p c false) (agree_on (earlier_conditions g c) o p)
       (and_from (not (get_or o c false)) (get_or p c false) (not_from_false (get_or o c false) h.one) h.other) h.same)
 
@@ -105,13 +107,15 @@ module _ (g : Graph) where
     some_differ : filter (differ o p) (numbers_below (condition_count g)) ≡ [] → ⊥
     some_differ e = ne (ext_get_or false o p (lo ∙ sym lp) (λ c l. elim (cases_Bool (same_bool (get_or o c false) (get_or p c false))) [
       | inl t ↦ same_bool_is (get_or o c false) (get_or p c false) t
-      | inr f ↦ absurd (Contains-nil c (subst (λ xs. Contains xs c) e (Contains-filter (differ o p) (numbers_below (condition_count g)) c (not_from_false (same_bool (get_or o c false) (get_or p c false)) f)
+      | inr f ↦ absurd (Contains-nil c (subst (λ xs. Contains xs c) e
+          (Contains-filter (differ o p) (numbers_below (condition_count g)) c (not_from_false (same_bool (get_or o c false) (get_or p c false)) f)
           (Contains-numbers (condition_count g) c (omega (arith, lo))))))
     ]))
 
     -- the conditions at which they differ, in order
     abbrev Listed : List ℕ → Type 0
-    Listed xs = ((c : ℕ) → Contains xs c → (c < condition_count g) × (differ o p c ≡ true)) × ((c : ℕ) → c < condition_count g → differ o p c ≡ true → Contains xs c) × AllPairs (λ c d. sooner c d ≡ true) xs
+    Listed xs = ((c : ℕ) → Contains xs c → (c < condition_count g) × (differ o p c ≡ true)) × ((c : ℕ) → c < condition_count g → differ o p c ≡ true → Contains xs c) ×
+        AllPairs (λ c d. sooner c d ≡ true) xs
 
     in_order : List ℕ
     in_order = sorted sooner (filter (differ o p) (numbers_below (condition_count g)))
@@ -121,11 +125,14 @@ module _ (g : Graph) where
     listed =
         let xs : List ℕ = filter (differ o p) (numbers_below (condition_count g)) in
         let perm : IsPermutation xs (sorted sooner xs) = permutation_sorted sooner xs in (
-          λ c k. let r = Contains-filter_parts (differ o p) (numbers_below (condition_count g)) c (Contains-permutation (sorted sooner xs) xs c (IsPermutation-sym xs (sorted sooner xs) perm) k) in (numbers-Contains (condition_count g) c r.0, r.1),
+          λ c k. let r = Contains-filter_parts (differ o p) (numbers_below (condition_count g)) c (Contains-permutation (sorted sooner xs) xs c (IsPermutation-sym xs (sorted sooner xs) perm) k) in
+              (numbers-Contains (condition_count g) c r.0, r.1),
           λ c l d. Contains-permutation xs (sorted sooner xs) c perm (Contains-filter (differ o p) (numbers_below (condition_count g)) c d (Contains-numbers (condition_count g) c l)),
           rises_sorted sooner (λ c. c < condition_count g) (λ c d l m n. urgent_total g (process_of g c) (process_of g d) (conditions_apart c d l m n))
               (λ c d e l m n h k. urgent_chain g (process_of g c) (process_of g d) (process_of g e) h k) xs
-              (All-filter (differ o p) (λ c. c < condition_count g) (numbers_below (condition_count g)) (All-weaker (Contains (numbers_below (condition_count g))) (λ c. c < condition_count g) (λ c k. numbers-Contains (condition_count g) c k) (numbers_below (condition_count g)) (All-contains_itself (numbers_below (condition_count g)))))
+              (All-filter (differ o p) (λ c. c < condition_count g) (numbers_below (condition_count g))
+              (All-weaker (Contains (numbers_below (condition_count g))) (λ c. c < condition_count g) (λ c k. numbers-Contains (condition_count g) c k) (numbers_below (condition_count g))
+              (All-contains_itself (numbers_below (condition_count g)))))
               (AllPairs-filter ◌≢◌ (differ o p) (numbers_below (condition_count g)) (numbers_apart (condition_count g))),
         )
 
@@ -186,7 +193,9 @@ tracks_exist g = let all : List (List Bool) = filter (is_track g) (outcomes (con
   record {
     all = permutation_sorted (is_outcome_before g) all;
     in_order = rises_sorted (is_outcome_before g) (λ o. length o ≡ condition_count g) (λ o p l m ne. before_total g o p l m ne) (λ o p q l m n h k. before_chain g o p q h k) all
-        (All-filter (is_track g) (λ o. length o ≡ condition_count g) (outcomes (condition_count g)) (All-weaker (Contains (outcomes (condition_count g))) (λ o. length o ≡ condition_count g) (λ o k. length_of_outcome (condition_count g) o k) (outcomes (condition_count g)) (All-contains_itself (outcomes (condition_count g)))))
+        (All-filter (is_track g) (λ o. length o ≡ condition_count g) (outcomes (condition_count g))
+        (All-weaker (Contains (outcomes (condition_count g))) (λ o. length o ≡ condition_count g) (λ o k. length_of_outcome (condition_count g) o k) (outcomes (condition_count g))
+        (All-contains_itself (outcomes (condition_count g)))))
         (AllPairs-filter ◌≢◌ (is_track g) (outcomes (condition_count g)) (outcomes_apart (condition_count g)));
   },
 )

@@ -33,7 +33,8 @@ module _ (g : Graph) where
   none_but_tracks : (reached : List ℕ) (o : List Bool) → if_quiet reached o ≡ cond (is_track g o) (if_quiet reached o) 0
   none_but_tracks reached o = ⊎_elim
       (λ (t : is_quiet g reached o ≡ true). ap (λ b. cond b (if_quiet reached o) 0) (sym (track_of_quiet reached o t)))
-      (λ (t : is_quiet g reached o ≡ false). let e : if_quiet reached o ≡ 0 = ap (λ b. cond b (views_of_outcome g reached o) 0) t in e ∙ sym (stays (is_track g o) 0) ∙ ap (λ n. cond (is_track g o) n 0) (sym e))
+      (λ (t : is_quiet g reached o ≡ false). let e : if_quiet reached o ≡ 0 = ap (λ b. cond b (views_of_outcome g reached o) 0) t in e ∙ sym (stays (is_track g o) 0) ∙
+      ap (λ n. cond (is_track g o) n 0) (sym e))
       (cases_Bool (is_quiet g reached o))
     where
       stays : (b : Bool) (n : ℕ) → cond b n n ≡ n
@@ -41,7 +42,8 @@ module _ (g : Graph) where
       stays false n = refl
 
   -- if the tracks are listed, those of them that are quiet give all views
-  pub views_of_tracks : (reached : List ℕ) (tracks : List (List Bool)) → process_count g ≤ 128 → AreTracks g tracks → views g reached ≡ sum_by (views_of_outcome g reached) (filter (is_quiet g reached) tracks)
+  pub views_of_tracks : (reached : List ℕ) (tracks : List (List Bool)) → process_count g ≤ 128 → AreTracks g tracks →
+      views g reached ≡ sum_by (views_of_outcome g reached) (filter (is_quiet g reached) tracks)
   views_of_tracks reached tracks few are =
       views-sum g reached few
       ∙ sum_by-filter (views_of_outcome g reached) (is_quiet g reached) (outcomes (condition_count g))
@@ -64,7 +66,9 @@ module _ (g : Graph) where
       let e = views_of_tracks reached tracks few are in
       let a = length-filter (is_quiet g reached) tracks in
       let b = count_by-le-length (is_quiet g reached) tracks in
-      let s = sum_by-le (views_of_outcome g reached) (2 ^ 42) (filter (is_quiet g reached) tracks) (All-from_get_or (λ o. views_of_outcome g reached o ≤ 2 ^ 42) (filter (is_quiet g reached) tracks) [] (λ i l. let v = views_of_outcome_small few faults reached (get_or (filter (is_quiet g reached) tracks) i []) in omega arith)) in
+      let s = sum_by-le (views_of_outcome g reached) (2 ^ 42) (filter (is_quiet g reached) tracks)
+      (All-from_get_or (λ o. views_of_outcome g reached o ≤ 2 ^ 42) (filter (is_quiet g reached) tracks) []
+      (λ i l. let v = views_of_outcome_small few faults reached (get_or (filter (is_quiet g reached) tracks) i []) in omega arith)) in
       let m = mul-le (length (filter (is_quiet g reached) tracks)) (2 ^ 42) 16384 (2 ^ 42) (omega arith) (omega arith) in
       omega arith
 

@@ -19,19 +19,19 @@ use std::cmp::Reverse;
 
 /// What the processes are sorted by: a longer way first, and of equal ones the lower number.
 #[derive(Clone, Copy, Debug, PartialEq, Eq, PartialOrd, Ord)]
-struct Rank {
+struct UrgencyRank {
     tail: Reverse<u64>,
     process: u32,
 }
 
-fn ranks(alloc: Global, tails: &[u64]) -> Result<Vec<Rank>, OutOfMemory>
+fn ranks(alloc: Global, tails: &[u64]) -> Result<Vec<UrgencyRank>, OutOfMemory>
     requires { length tails.now ≤ 128 }
     ensures { IfOk result (λ ranks. ranks.items ≡ map (rank_of tails.now) (numbers_below (length tails.now))) }
 {
     let mut ranks = Vec::new(alloc);
     ranks.reserve(tails.len())?;
     for (process, tail) in tails.iter().enumerate() {
-        ranks.push(Rank {
+        ranks.push(UrgencyRank {
             tail: Reverse(*tail),
             process: process as u32,
         })?;
@@ -39,7 +39,7 @@ fn ranks(alloc: Global, tails: &[u64]) -> Result<Vec<Rank>, OutOfMemory>
     Ok(ranks)
 }
 
-fn processes(alloc: Global, ranks: &[Rank]) -> Result<Vec<u32>, OutOfMemory>
+fn processes(alloc: Global, ranks: &[UrgencyRank]) -> Result<Vec<u32>, OutOfMemory>
     ensures { IfOk result (λ processes. processes.items ≡ map (λ r. r.process) ranks.now) }
 {
     let mut processes = Vec::new(alloc);

@@ -1,6 +1,6 @@
 -- What following a stream leaves of a shelf.
 use Rattle.std.proofs.Common.{ℕ, ◌≡◌, ◌∙◌, true, true≢false, List, [], ◌∷◌, refl, sym, ap}
-use Rattle.cpg_tale.specs.Fetch.{Fetch}
+use Rattle.cpg_history.specs.Fetch.{Fetch}
 use Rattle.cpg_io.specs.State.{SinkState}
 use Rattle.cpg_head.specs.Head.{Head}
 use Rattle.cpg_table.specs.Table.{NodeTable}
@@ -23,7 +23,8 @@ closed_sound h table name past now start old new s fetch before is failed =
     true≢false (sym failed ∙ (ap (λ (f : Fetch). f.failed) (same_head fetch s.fetch before past (sym is ∙ s.history_is)) ∙ s.is.1.sound))
 
 -- a call of a stream failed only if the shelf met a fault
-pub failed_rose : (P : Type 0) (h : Head) (table : NodeTable) (name : List ℕ) (past now : List Fetch) (start : List ℕ) (old new : SinkState) (broken : Broken) → IsStreamed (λ s. Breaks h table s broken) name past now start old new →
+pub failed_rose : (P : Type 0) (h : Head) (table : NodeTable) (name : List ℕ) (past now : List Fetch) (start : List ℕ) (old new : SinkState) (broken : Broken) →
+    IsStreamed (λ s. Breaks h table s broken) name past now start old new →
     (broken ≡ Shelf → P) → (fetch : Fetch) (before : List Fetch) → now ≡ fetch ∷ before → fetch.failed ≡ true → P
 failed_rose P h table name past now start old new Shelf s rose fetch before is failed = rose refl
 failed_rose P h table name past now start old new Sink s rose fetch before is failed =

@@ -1,7 +1,7 @@
 -- What the fetch of a stream gave.
 use Rattle.std.proofs.Common.{ℕ, ◌≡◌, List, ◌∷◌}
 use Rattle.std.specs.Prelude.{Result, Ok, Err, MatchResult}
-use Rattle.cpg_tale.specs.Fetch.{Fetch}
+use Rattle.cpg_history.specs.Fetch.{Fetch}
 use Rattle.cpg_io.specs.State.{SinkState}
 use Rattle.cpg_live.specs.Following.{IsStreamed, Stream}
 use Rattle.cpg_live.specs.declared.following.Broken.{Broken}

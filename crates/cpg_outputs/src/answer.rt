@@ -13,7 +13,7 @@ use std::alloc::Global;
 pub(crate) const WRITE_FAULT: u8 = 3;
 
 /// Writes bytes. Answers the given status, or that of a fault.
-pub(crate) fn send<O: Sink>(status: u8, bytes: &[u8], sink: &mut O) -> u8
+pub(crate) fn send_line<O: Sink>(status: u8, bytes: &[u8], sink: &mut O) -> u8
     requires { status ≢ WRITE_FAULT }
     ensures { Sent (sent (O.state sink.old) (O.state sink.new)) result status bytes.now }
 {
@@ -54,14 +54,14 @@ pub(crate) fn cut<E: Sink>(err: &mut E) -> u8
 pub(crate) fn miss<E: Sink>(err: &mut E) -> u8
     ensures { Sent (sent (E.state err.old) (E.state err.new)) result (status_of Halt.Read) (line_of Halt.Read) }
 {
-    send(Halt::Read.status(), b"cpgc: read fault\n", err)
+    send_line(Halt::Read.status(), b"cpgc: read fault\n", err)
 }
 
 /// Writes the line of out of memory.
 fn want<E: Sink>(err: &mut E) -> u8
     ensures { Sent (sent (E.state err.old) (E.state err.new)) result (status_of Halt.Memory) (line_of Halt.Memory) }
 {
-    send(Halt::Memory.status(), b"cpgc: memory\n", err)
+    send_line(Halt::Memory.status(), b"cpgc: memory\n", err)
 }
 
 /// Makes the line of a run that stops and writes it, or that of out of memory if there is none for the line.
@@ -71,7 +71,7 @@ fn tell<E: Sink>(alloc: Global, halt: &Halt, err: &mut E) -> u8
         Sent (sent (E.state err.old) (E.state err.new)) result (status_of Halt.Memory) (line_of Halt.Memory) }
 {
     match line(alloc, halt) {
-        Ok(line) => send(halt.status(), line.as_bytes(), err),
+        Ok(line) => send_line(halt.status(), line.as_bytes(), err),
         Err(_) => want(err),
     }
 }
@@ -82,7 +82,7 @@ pub fn stop<E: Sink>(alloc: Global, halt: &Halt, err: &mut E) -> u8
     ensures { IsStopped halt.now (sent (E.state err.old) (E.state err.new)) result }
 {
     match halt {
-        Halt::Words => send(Halt::Words.status(), b"cpgc: words\n", err),
+        Halt::Words => send_line(Halt::Words.status(), b"cpgc: words\n", err),
         Halt::Read => miss(err),
         Halt::Memory => want(err),
         other => tell(alloc, other, err),

@@ -1,5 +1,6 @@
 -- What sets of variables have after others are added to them.
-use Rattle.std.proofs.Common.{ℕ, ◌+◌, ◌<◌, ◌≡◌, ◌==◌, Bool, true, false, cond, ◌||◌, List, [], ◌∷◌, ◌++◌, length, get_or, map, filter, flat_map, is_some, Some, option_to_list, refl, sym, ap, ◌∙◌, subst, arith}
+use Rattle.std.proofs.Common.{ℕ, ◌+◌, ◌<◌, ◌≡◌, ◌==◌, Bool, true, false, cond, ◌||◌, List, [], ◌∷◌, ◌++◌, length, get_or, map, filter, flat_map, is_some, Some, option_to_list, refl, sym, ap, ◌∙◌}
+use Rattle.std.proofs.Common.{subst, arith}
 use Rattle.std.proofs.lemmas.List.Folds.{list_any-append}
 use Rattle.std.proofs.lemmas.Grind.{flat_map-append}
 use Rattle.std.proofs.lemmas.List.{append-nil, get_or_default}
@@ -54,7 +55,8 @@ module _ (F : ℕ → List ℕ) (T : ℕ → Bool) (n : ℕ) (a b : List ℕ) (s
   next_is t e = ap (flat_map F) (filter_below_push T n ∙ ap (λ s. filter T (numbers_below n) ++ cond s (n ∷ []) []) e) ∙ flat_map-append F (filter T (numbers_below n)) (cond t (n ∷ []) [])
 
   pub loop_takes : (c : List ℕ) → T n ≡ true → Adds b (F n) c → Adds a (flat_map F (filter T (numbers_below (n + 1)))) c
-  loop_takes c e h = subst (λ xs. Adds a xs c) (ap (λ ys. flat_map F (filter T (numbers_below n)) ++ ys) (sym (append-nil (F n))) ∙ sym (next_is true e)) (adds_two a (flat_map F (filter T (numbers_below n))) b (F n) c so_far h)
+  loop_takes c e h = subst (λ xs. Adds a xs c) (ap (λ ys. flat_map F (filter T (numbers_below n)) ++ ys) (sym (append-nil (F n))) ∙ sym (next_is true e))
+      (adds_two a (flat_map F (filter T (numbers_below n))) b (F n) c so_far h)
 
   pub loop_skips : T n ≡ false → Adds a (flat_map F (filter T (numbers_below (n + 1)))) b
   loop_skips e = subst (λ xs. Adds a xs b) (sym (append-nil (flat_map F (filter T (numbers_below n)))) ∙ sym (next_is false e)) so_far

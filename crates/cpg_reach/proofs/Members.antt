@@ -60,7 +60,8 @@ pub united_set : (old others marks : List Bool) (v : ℕ) → v < length marks �
 united_set old others marks v l t h = record {
   done = λ u k. ⊎_elim
       (λ (m : u < v). get_or-set_other marks v u true false (λ e. omega arith) ∙ h.done u m)
-      (λ (e : u ≡ v). ap (λ w. get_or (set marks v true) w false) e ∙ get_or-set_same marks v true false l ∙ sym (or_right (get_or old u false) (get_or others u false) (ap (λ w. get_or others w false) e ∙ t)))
+      (λ (e : u ≡ v). ap (λ w. get_or (set marks v true) w false) e ∙ get_or-set_same marks v true false l ∙
+      sym (or_right (get_or old u false) (get_or others u false) (ap (λ w. get_or others w false) e ∙ t)))
       (below_next v u k);
   left = λ u k. get_or-set_other marks v u true false (λ e. omega arith) ∙ h.left u (omega arith);
 }

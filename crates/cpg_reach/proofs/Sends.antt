@@ -23,7 +23,8 @@ module _ (g : Graph) (r : Reach) (sent : List (List ℕ)) where
   pub one_node : (c : ℕ) → length g.nodes ≤ 1 → send_by g r sent (Broadcast c) ≡ []
   one_node c l = ap (λ b. cond b ((end_reach r (process_of g c) ++ get_or sent (node_of g (process_of g c)) []) ++ []) []) (le-ltb 1 (length g.nodes) l)
 
-  pub broadcast_sent : (c p node : ℕ) (xs : List ℕ) → 1 < length g.nodes → p ≡ process_of g c → node ≡ node_of g p → SameElements xs (end_reach r p ++ get_or sent node []) → SameElements xs (send_by g r sent (Broadcast c))
+  pub broadcast_sent : (c p node : ℕ) (xs : List ℕ) → 1 < length g.nodes → p ≡ process_of g c → node ≡ node_of g p → SameElements xs (end_reach r p ++ get_or sent node []) →
+      SameElements xs (send_by g r sent (Broadcast c))
   broadcast_sent c p node xs l e f h v = h v
       ∙ ap (λ n. is_in (end_reach r p ++ get_or sent n []) v) f
       ∙ ap (λ q. is_in (end_reach r q ++ get_or sent (node_of g q) []) v) e
@@ -40,7 +41,8 @@ module _ (g : Graph) (r : Reach) (sent : List (List ℕ)) where
   pub within_node : (e : ℕ) → node_of g (source g e) ≡ node_of g (target g e) → send_by g r sent (Message e) ≡ []
   within_node e h = ap (λ b. by_tests e (not b) (edge_at g e).frozen) (eq-eqb (node_of g (source g e)) (node_of g (target g e)) h)
 
-  pub message_sent : (e : ℕ) (frozen : Bool) (mid xs : List ℕ) → (node_of g (source g e) ≡ node_of g (target g e) → ⊥) → (edge_at g e).frozen ≡ frozen → SameElements mid (before_value e frozen) → Adds mid (source_value g e) xs
+  pub message_sent : (e : ℕ) (frozen : Bool) (mid xs : List ℕ) → (node_of g (source g e) ≡ node_of g (target g e) → ⊥) → (edge_at g e).frozen ≡ frozen → SameElements mid (before_value e frozen) →
+      Adds mid (source_value g e) xs
       → SameElements xs (send_by g r sent (Message e))
   message_sent e frozen mid xs h f m a v = same_after mid (before_value e frozen) (source_value g e) xs m a v
       ∙ ap (λ zs. is_in zs v) (ap (λ b. by_tests e true b) (sym f) ∙ ap (λ b. by_tests e (not b) (edge_at g e).frozen) (sym (ne_eqb (node_of g (source g e)) (node_of g (target g e)) h)))

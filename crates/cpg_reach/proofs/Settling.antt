@@ -1,11 +1,13 @@
 -- The walk along an order: at each moment the reach of at most one item is found, and it is right.
-use Rattle.std.proofs.Common.{ℕ, ◌+◌, ◌*◌, ◌<◌, ◌≤◌, ◌≡◌, ◌==◌, Bool, true, false, cond, ◌&&◌, ◌||◌, List, [], ◌∷◌, ◌++◌, length, get_or, set, flat_map, Contains, refl, sym, ap, ap₂, ◌∙◌, subst, ⊎_elim, inl, inr, arith, lt-ltb, le-ltb, eq-eqb, eqb-true, ltb-true}
+use Rattle.std.proofs.Common.{ℕ, ◌+◌, ◌*◌, ◌<◌, ◌≤◌, ◌≡◌, ◌==◌, Bool, true, false, cond, ◌&&◌, ◌||◌, List, [], ◌∷◌, ◌++◌, length, get_or, set, flat_map, Contains, refl, sym, ap, ap₂, ◌∙◌, subst}
+use Rattle.std.proofs.Common.{⊎_elim, inl, inr, arith, lt-ltb, le-ltb, eq-eqb, eqb-true, ltb-true}
 use Rattle.std.specs.Prelude.{nat_lt}
 use Rattle.std.proofs.lemmas.Bool.{cases_Bool, cases_lt, cases_eq, cases_order, and_parts, and_from, both_ways, or_left, or_right}
 use Rattle.std.proofs.lemmas.List.{length-set, get_or-set_same, get_or-set_other}
 use Rattle.cpg_base.specs.Numbers.{numbers_below}
 use Rattle.cpg_base.specs.Graph.{Graph, process_count, edge_count, condition_count, item_count, item_at, broadcast_item, source, is_sent, producer, producer_of_item, home, process_of}
-use Rattle.cpg_base.proofs.Lists.{Contains-first, Contains-rest, Contains-filter, Contains-filter_parts, Contains-flat_map, Contains-flat_map_parts, Contains-numbers, numbers-Contains, same_truth, same_filter}
+use Rattle.cpg_base.proofs.Lists.{Contains-first, Contains-rest, Contains-filter, Contains-filter_parts, Contains-flat_map, Contains-flat_map_parts, Contains-numbers, numbers-Contains, same_truth}
+use Rattle.cpg_base.proofs.Lists.{same_filter}
 use Rattle.cpg_base.proofs.Items.{item_cases, same_condition}
 use Rattle.cpg_order.specs.Urgency.{IsTopological}
 use Rattle.cpg_base.specs.Order.{place}
@@ -45,7 +47,8 @@ module _ (g : Graph) (order : List ℕ) (top : IsTopological g order) where
   pub same_moment : (x y : ℕ) → x < item_count g → y < item_count g → moment g order x ≡ moment g order y → x ≡ y
   same_moment x y l m e =
       let r = apart_products (place order (producer g x)) (place order (producer g y)) (phase (item_at g x)) (phase (item_at g y)) (phases g) (phase_below g x l) (phase_below g y m) e in
-      let p = same_place order (producer g x) (producer g y) (Contains-order (process_count g) order top.all (producer g x) (producer_in_range g order top x l)) (Contains-order (process_count g) order top.all (producer g y) (producer_in_range g order top y m)) r.0 in
+      let p = same_place order (producer g x) (producer g y) (Contains-order (process_count g) order top.all (producer g x) (producer_in_range g order top x l))
+      (Contains-order (process_count g) order top.all (producer g y) (producer_in_range g order top y m)) r.0 in
       elim (item_cases g x l) [
         | inl c ↦ elim (item_cases g y m) [
           | inl d ↦ sym (ap (producer_of_item g) c.1) ∙ p ∙ ap (producer_of_item g) d.1
@@ -67,8 +70,10 @@ module _ (g : Graph) (order : List ℕ) (top : IsTopological g order) where
   -- whose phase is that of the moment, and whose producer stands at its place
   pub moment_parts : (x p f : ℕ) → x < item_count g → p < process_count g → f < phases g → moment g order x ≡ place order p * phases g + f → (producer g x ≡ p) × (phase (item_at g x) ≡ f)
   moment_parts x p f l n h e =
-      let r = apart_products (place order (producer g x)) (place order p) (phase (item_at g x)) f (phases g) (phase_below g x l) h e in
-      (same_place order (producer g x) p (Contains-order (process_count g) order top.all (producer g x) (producer_in_range g order top x l)) (Contains-order (process_count g) order top.all p n) r.0, r.1)
+      let r = apart_products (place order (producer g x)) (place order p) (phase (item_at g x)) f (phases g) (phase_below g x l) h e in (
+        same_place order (producer g x) p (Contains-order (process_count g) order top.all (producer g x) (producer_in_range g order top x l)) (Contains-order (process_count g) order top.all p n) r.0,
+        r.1,
+      )
 
   -- nothing happens between a start and the broadcast
   pub nothing_at_end : (p x : ℕ) → p < process_count g → x < item_count g → moment g order x ≡ place order p * phases g + 1 → ⊥
@@ -106,7 +111,8 @@ module _ (g : Graph) (order : List ℕ) (top : IsTopological g order) where
   pub sent_kept : (m node : ℕ) → ((y : ℕ) → y < item_count g → is_sent g y ≡ true → moment g order y ≡ m → ⊥) → sent_before g order (m + 1) node ≡ sent_before g order m node
   sent_kept m node none = same_filter _ _ (numbers_below (item_count g)) (λ y k. by_sent y (numbers-Contains (item_count g) y k) (is_sent g y) refl)
     where
-      by_sent : (y : ℕ) → y < item_count g → (b : Bool) → is_sent g y ≡ b → (is_sent g y && (home g y == node) && nat_lt (moment g order y) (m + 1)) ≡ (is_sent g y && (home g y == node) && nat_lt (moment g order y) m)
+      by_sent : (y : ℕ) → y < item_count g → (b : Bool) → is_sent g y ≡ b → (is_sent g y && (home g y == node) && nat_lt (moment g order y) (m + 1)) ≡
+          (is_sent g y && (home g y == node) && nat_lt (moment g order y) m)
       by_sent y l true e = ap (λ t. is_sent g y && (home g y == node) && t) (elim (cases_order (moment g order y) m) [
         | inl is ↦ absurd (none y l e is)
         | inr (inl less) ↦ lt-ltb (moment g order y) (m + 1) (omega arith) ∙ sym (lt-ltb (moment g order y) m less)
@@ -136,14 +142,16 @@ module _ (g : Graph) (order : List ℕ) (top : IsTopological g order) where
     from_sent m node v t = let a = Contains-flat_map_parts (reach_of r) (sent_before g order m node) v (from_is_in (sent_reach m node) v t) in (a.0, a.1, is_in_from (reach_of r a.0) v a.2)
 
     -- with the item that is sent at the moment
-    sent_next : (x m node : ℕ) → x < item_count g → is_sent g x ≡ true → moment g order x ≡ m → home g x ≡ node → (v : ℕ) → is_in (sent_reach (m + 1) node) v ≡ (is_in (sent_reach m node) v || is_in (reach_of r x) v)
+    sent_next : (x m node : ℕ) → x < item_count g → is_sent g x ≡ true → moment g order x ≡ m → home g x ≡ node → (v : ℕ) →
+        is_in (sent_reach (m + 1) node) v ≡ (is_in (sent_reach m node) v || is_in (reach_of r x) v)
     sent_next x m node l e is h v = same_truth (is_in (sent_reach (m + 1) node) v) (is_in (sent_reach m node) v || is_in (reach_of r x) v)
         (λ t. let a = from_sent (m + 1) node v t in let b = sent_parts (m + 1) node a.0 a.1 in ⊎_elim
         (λ (k : moment g order a.0 < m). or_left _ _ (in_sent m node a.0 v (sent_by m node a.0 b.0 b.1 b.2 k) a.2))
         (λ (k : m ≤ moment g order a.0). or_right _ _ (subst (λ y. is_in (reach_of r y) v ≡ true) (same_moment a.0 x b.0 l (let n = b.3 in omega arith)) a.2))
         (cases_lt (moment g order a.0) m))
         (λ t. ⊎_elim
-        (λ (s : is_in (sent_reach m node) v ≡ true). let a = from_sent m node v s in let b = sent_parts m node a.0 a.1 in in_sent (m + 1) node a.0 v (sent_by (m + 1) node a.0 b.0 b.1 b.2 (let n = b.3 in omega arith)) a.2)
+        (λ (s : is_in (sent_reach m node) v ≡ true). let a = from_sent m node v s in let b = sent_parts m node a.0 a.1 in
+        in_sent (m + 1) node a.0 v (sent_by (m + 1) node a.0 b.0 b.1 b.2 (let n = b.3 in omega arith)) a.2)
         (λ (s : is_in (sent_reach m node) v ≡ false). in_sent (m + 1) node x v (sent_by (m + 1) node x l e h (omega arith)) (sym (ap (λ b. b || is_in (reach_of r x) v) s) ∙ t))
         (cases_Bool (is_in (sent_reach m node) v)))
 
@@ -172,7 +180,8 @@ module _ (g : Graph) (order : List ℕ) (top : IsTopological g order) where
       module _ (x : ℕ) (within : x < item_count g) (at : moment g order x ≡ m) (reach : List ℕ) (right : SameElements reach (reach_of r x)) where
         reached_next : (y : ℕ) → y < item_count g → moment g order y < m + 1 → SameElements (reach_of (set rs x reach) y) (reach_of r y)
         reached_next y l h v = ⊎_elim
-            (λ (e : y ≡ x). ap (λ z. is_in (reach_of (set rs x reach) z) v) e ∙ ap (λ zs. is_in zs v) (get_or-set_same rs x reach [] (let i = agrees.items in omega arith)) ∙ right v ∙ ap (λ z. is_in (reach_of r z) v) (sym e))
+            (λ (e : y ≡ x). ap (λ z. is_in (reach_of (set rs x reach) z) v) e ∙ ap (λ zs. is_in zs v) (get_or-set_same rs x reach [] (let i = agrees.items in omega arith)) ∙ right v ∙
+            ap (λ z. is_in (reach_of r z) v) (sym e))
             (λ (e : y ≡ x → ⊥). ap (λ zs. is_in zs v) (get_or-set_other rs x y reach [] e) ∙ agrees.reached y l (before_it e) v)
             (cases_eq y x)
           where
@@ -198,7 +207,8 @@ module _ (g : Graph) (order : List ℕ) (top : IsTopological g order) where
             reached = reached_next;
             knows = agrees.knows;
             sends = λ node l v. ⊎_elim
-                (λ (e : node ≡ home g x). ap (λ n. is_in (get_or (set sent (home g x) b) n []) v) e ∙ ap (λ zs. is_in zs v) (get_or-set_same sent (home g x) b [] (let i = agrees.sent_nodes in omega arith))
+                (λ (e : node ≡ home g x). ap (λ n. is_in (get_or (set sent (home g x) b) n []) v) e ∙
+                ap (λ zs. is_in zs v) (get_or-set_same sent (home g x) b [] (let i = agrees.sent_nodes in omega arith))
                 ∙ here_next (is_sent g x) refl v ∙ ap (λ n. is_in (sent_reach (m + 1) n) v) (sym e))
                 (λ (e : node ≡ home g x → ⊥). ap (λ zs. is_in zs v) (get_or-set_other sent (home g x) node b [] e) ∙ agrees.sends node l v
                 ∙ sym (other_node x m node within at (λ d. e (sym d)) v))

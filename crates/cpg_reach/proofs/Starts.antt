@@ -21,7 +21,8 @@ module _ (g : Graph) (r : Reach) (known : List (List ℕ)) (p : ℕ) where
   pub start_frozen : (xs : List ℕ) → (process_at g p).frozen ≡ true → SameElements xs (map value_variable (conditions_of g p)) → SameElements xs (start_by g r known p)
   start_frozen xs e h v = h v ∙ ap (λ b. is_in (by_test b) v) (sym e)
 
-  pub start_plain : (a b c : List ℕ) (node : ℕ) → (process_at g p).frozen ≡ false → node ≡ node_of g p → a ≡ get_or known node [] → Adds a (heard_by g r node (conditions_of g p)) b → Adds b (flat_map (input_reach g r) (inputs g p)) c → SameElements c (start_by g r known p)
+  pub start_plain : (a b c : List ℕ) (node : ℕ) → (process_at g p).frozen ≡ false → node ≡ node_of g p → a ≡ get_or known node [] → Adds a (heard_by g r node (conditions_of g p)) b →
+      Adds b (flat_map (input_reach g r) (inputs g p)) c → SameElements c (start_by g r known p)
   start_plain a b c node e n is heard ins v =
       same_after b (get_or known node [] ++ heard_by g r node (conditions_of g p)) (flat_map (input_reach g r) (inputs g p)) c
       (same_after a (get_or known node []) (heard_by g r node (conditions_of g p)) b (λ u. ap (λ xs. is_in xs u) is) heard) ins v

@@ -1,5 +1,6 @@
 -- The steps of the walk along an order: a start, and what may be sent after an end.
-use Rattle.std.proofs.Common.{ℕ, ◌+◌, ◌*◌, ◌<◌, ◌≤◌, ◌≡◌, ◌==◌, Bool, true, false, cond, ◌&&◌, ◌||◌, List, [], ◌∷◌, ◌++◌, length, get_or, set, take, map, filter, flat_map, Contains, refl, sym, ap, ap₂, ◌∙◌, subst, ⊎_elim, inl, inr, arith, lt-ltb, le-ltb, eq-eqb, ltb-true}
+use Rattle.std.proofs.Common.{ℕ, ◌+◌, ◌*◌, ◌<◌, ◌≤◌, ◌≡◌, ◌==◌, Bool, true, false, cond, ◌&&◌, ◌||◌, List, [], ◌∷◌, ◌++◌, length, get_or, set, take, map, filter, flat_map, Contains, refl, sym, ap}
+use Rattle.std.proofs.Common.{ap₂, ◌∙◌, subst, ⊎_elim, inl, inr, arith, lt-ltb, le-ltb, eq-eqb, ltb-true}
 use Rattle.std.specs.Prelude.{nat_lt}
 use Rattle.std.specs.List.{list_any}
 use Rattle.std.proofs.lemmas.Bool.{cases_lt, cases_eq, cases_order, and_parts, and_from, both_ways, or_left, or_right, and_right}
@@ -8,7 +9,8 @@ use Rattle.std.proofs.lemmas.List.{length-set, get_or-set_same, get_or-set_other
 use Rattle.std.proofs.lemmas.List.Elements.{filter-append}
 use Rattle.std.proofs.lemmas.Grind.{flat_map-append}
 use Rattle.cpg_base.specs.Numbers.{numbers_below}
-use Rattle.cpg_base.specs.Graph.{Graph, process_count, edge_count, condition_count, item_count, item_at, message_item, broadcast_item, process_at, node_of, source, inputs, is_message, is_sent, is_sent_item, is_frozen, producer, home, process_of, value_variable}
+use Rattle.cpg_base.specs.Graph.{Graph, process_count, edge_count, condition_count, item_count, item_at, message_item, broadcast_item, process_at, node_of, source, inputs, is_message, is_sent}
+use Rattle.cpg_base.specs.Graph.{is_sent_item, is_frozen, producer, home, process_of, value_variable}
 use Rattle.cpg_base.specs.declared.item.Item.{Item}
 use Rattle.cpg_base.proofs.Lists.{Contains-filter_parts, numbers-Contains, list_any_parts, same_truth, same_filter, filter_none}
 use Rattle.cpg_base.proofs.Inputs.{inputs_parts}
@@ -58,7 +60,8 @@ module _ (g : Graph) (order : List ℕ) (top : IsTopological g order) (r : Reach
     end_right : (q : ℕ) → q < process_count g → place order q * phases g + 0 < m → SameElements (end_reach rs q) (end_reach r q)
     end_right q l h = same_append (reach_of rs q) (q ∷ []) (reach_of r q) (q ∷ []) (agrees.reached q (omega arith) (let e = moment_of_start g order top q l in omega arith)) (λ v. refl)
 
-    hearing_right : (p c node : ℕ) → place order p * phases g ≤ m → c < condition_count g → place order (process_of g c) < place order p → SameElements (hearing_reach g rs node c) (hearing_reach g r node c)
+    hearing_right : (p c node : ℕ) → place order p * phases g ≤ m → c < condition_count g → place order (process_of g c) < place order p →
+        SameElements (hearing_reach g rs node c) (hearing_reach g r node c)
     hearing_right p c node d n l = let b = end_sooner g order top p (process_of g c) l in
         same_cond (node_of g (process_of g c) == node) (end_reach rs (process_of g c)) (reach_of rs (broadcast_item g c)) (end_reach r (process_of g c)) (reach_of r (broadcast_item g c))
         (λ t. end_right (process_of g c) (process_of_below g c n) (omega arith))
@@ -69,7 +72,8 @@ module _ (g : Graph) (order : List ℕ) (top : IsTopological g order) (r : Reach
         let l : e < edge_count g = (inputs_parts g p e i).0 in
         let up = input_goes_up g order top p e i in
         let b = end_sooner g order top p (source g e) up in
-        same_append (cond (is_message g e) (reach_of rs (message_item g e)) (end_reach rs (source g e))) (source_value g e) (cond (is_message g e) (reach_of r (message_item g e)) (end_reach r (source g e))) (source_value g e)
+        same_append (cond (is_message g e) (reach_of rs (message_item g e)) (end_reach rs (source g e))) (source_value g e)
+        (cond (is_message g e) (reach_of r (message_item g e)) (end_reach r (source g e))) (source_value g e)
         (same_cond (is_message g e) (reach_of rs (message_item g e)) (end_reach rs (source g e)) (reach_of r (message_item g e)) (end_reach r (source g e))
         (λ t. agrees.reached (message_item g e) (omega arith) (omega (arith, message_sooner g order top p e l up)))
         (λ t. end_right (source g e) (source_in_order g order top e l) (omega arith)))
@@ -77,7 +81,8 @@ module _ (g : Graph) (order : List ℕ) (top : IsTopological g order) (r : Reach
 
   -- ---- a start
 
-  module _ (p : ℕ) (within : p < process_count g) (rs known sent : List (List ℕ)) (agrees : AgreesUntil g order r (place order p) (place order p * phases g) rs known sent) (there : node_of g p < length g.nodes) where
+  module _ (p : ℕ) (within : p < process_count g) (rs known sent : List (List ℕ)) (agrees : AgreesUntil g order r (place order p) (place order p * phases g) rs known sent)
+      (there : node_of g p < length g.nodes) where
     abbrev heard_own : Reach → List ℕ
     heard_own s = heard_by g s (node_of g p) (conditions_of g p)
 
@@ -130,12 +135,14 @@ module _ (g : Graph) (order : List ℕ) (top : IsTopological g order) (r : Reach
         ap (filter (λ q. node_of g q == node)) (take_more order (place order p) p (place-lt order p c) ∙ ap (λ q. take (place order p) order ++ q ∷ []) (get_or-place order p p c))
         ∙ filter-append (λ q. node_of g q == node) (take (place order p) order) (p ∷ [])
 
-    module _ (reach a b d : List ℕ) (right : SameElements reach (reach_of r p)) (heard : Adds (get_or known (node_of g p) []) (heard_own rs) a) (started : Adds a reach b) (ended : Adds b (p ∷ []) d) where
+    module _ (reach a b d : List ℕ) (right : SameElements reach (reach_of r p)) (heard : Adds (get_or known (node_of g p) []) (heard_own rs) a) (started : Adds a reach b)
+        (ended : Adds b (p ∷ []) d) where
       known_after_here : known_after g r (node_of g p) (earlier ++ p ∷ []) ≡ (heard_earlier ++ heard_own r) ++ (ends_earlier ++ end_reach r p)
       known_after_here = ap₂ ◌++◌ heard_up_to (flat_map-append (end_reach r) earlier (p ∷ []) ∙ ap (λ xs. ends_earlier ++ xs) (append-nil (end_reach r p)))
 
       here : SameElements d (known_after g r (node_of g p) (earlier ++ p ∷ []))
-      here v = ended v ∙ ap (λ t. t || is_in (p ∷ []) v) (started v ∙ ap₂ ◌||◌ (heard v ∙ ap₂ ◌||◌ (agrees.knows (node_of g p) there v ∙ in_append heard_earlier ends_earlier v) (heard_right v)) (right v))
+      here v = ended v ∙ ap (λ t. t || is_in (p ∷ []) v)
+          (started v ∙ ap₂ ◌||◌ (heard v ∙ ap₂ ◌||◌ (agrees.knows (node_of g p) there v ∙ in_append heard_earlier ends_earlier v) (heard_right v)) (right v))
           ∙ known_parts (is_in heard_earlier v) (is_in ends_earlier v) (is_in (heard_own r) v) (is_in (reach_of r p) v) (is_in (p ∷ []) v)
           ∙ ap₂ ◌||◌ (sym (in_append heard_earlier (heard_own r) v)) (ap (λ t. is_in ends_earlier v || t) (sym (in_append (reach_of r p) (p ∷ []) v)) ∙ sym (in_append ends_earlier (end_reach r p) v))
           ∙ sym (in_append (heard_earlier ++ heard_own r) (ends_earlier ++ end_reach r p) v)
@@ -150,12 +157,14 @@ module _ (g : Graph) (order : List ℕ) (top : IsTopological g order) (r : Reach
             ∙ ap (λ qs. is_in (known_after g r node qs) v) (ap (λ t. on_node g order (place order p) node ++ cond t (p ∷ []) []) (sym same.0) ∙ sym (on_node_next node))
         | inr other ↦ ap (λ zs. is_in zs v) (get_or-set_other known (node_of g p) node d [] (λ e. other.1 (sym e)))
             ∙ agrees.knows node l v
-            ∙ ap (λ qs. is_in (known_after g r node qs) v) (sym (append-nil (on_node g order (place order p) node)) ∙ ap (λ t. on_node g order (place order p) node ++ cond t (p ∷ []) []) (sym other.0) ∙ sym (on_node_next node))
+            ∙ ap (λ qs. is_in (known_after g r node qs) v)
+            (sym (append-nil (on_node g order (place order p) node)) ∙ ap (λ t. on_node g order (place order p) node ++ cond t (p ∷ []) []) (sym other.0) ∙ sym (on_node_next node))
       ]
 
       reached_start : (y : ℕ) → y < item_count g → moment g order y < place order p * phases g + 2 → SameElements (reach_of (set rs p reach) y) (reach_of r y)
       reached_start y l h v = ⊎_elim
-          (λ (e : y ≡ p). ap (λ z. is_in (reach_of (set rs p reach) z) v) e ∙ ap (λ zs. is_in zs v) (get_or-set_same rs p reach [] (let i = agrees.items in omega arith)) ∙ right v ∙ ap (λ z. is_in (reach_of r z) v) (sym e))
+          (λ (e : y ≡ p). ap (λ z. is_in (reach_of (set rs p reach) z) v) e ∙ ap (λ zs. is_in zs v) (get_or-set_same rs p reach [] (let i = agrees.items in omega arith)) ∙ right v ∙
+          ap (λ z. is_in (reach_of r z) v) (sym e))
           (λ (e : y ≡ p → ⊥). ap (λ zs. is_in zs v) (get_or-set_other rs p y reach [] e) ∙ agrees.reached y l (sooner_than e) v)
           (cases_eq y p)
         where
@@ -215,7 +224,8 @@ module _ (g : Graph) (order : List ℕ) (top : IsTopological g order) (r : Reach
     sent_right : is_sent g x ≡ true → SameElements ((cond (is_frozen g x) values (end_reach rs (producer g x) ++ get_or sent (home g x) [])) ++ sent_value g (item_at g x)) (send_reach g order r x)
     sent_right t = same_append (cond (is_frozen g x) values (end_reach rs (producer g x) ++ get_or sent (home g x) [])) (sent_value g (item_at g x))
         (cond (is_frozen g x) values (end_reach r (producer g x) ++ flat_map (reach_of r) (queued_before g order x))) (sent_value g (item_at g x))
-        (same_cond (is_frozen g x) values (end_reach rs (producer g x) ++ get_or sent (home g x) []) values (end_reach r (producer g x) ++ flat_map (reach_of r) (queued_before g order x)) (λ e v. refl)
+        (same_cond (is_frozen g x) values (end_reach rs (producer g x) ++ get_or sent (home g x) []) values (end_reach r (producer g x) ++ flat_map (reach_of r) (queued_before g order x))
+        (λ e v. refl)
         (λ e. same_append (end_reach rs (producer g x)) (get_or sent (home g x) []) (end_reach r (producer g x)) (flat_map (reach_of r) (queued_before g order x))
         (end_right k (moment g order x) rs known sent agrees (producer g x) (producer_in_range g order top x within) (let u = phase_is_rank g (item_at g x) t in omega arith))
         (λ v. agrees.sends (home g x) there v ∙ ap (λ ys. is_in (flat_map (reach_of r) ys) v) (sym (queue_is x within t)))))
@@ -226,7 +236,8 @@ module _ (g : Graph) (order : List ℕ) (top : IsTopological g order) (r : Reach
     if_sent i = cond (is_sent_item g i) (send_reach g order r x) []
 
     any_right : SameElements (send_by g rs sent (item_at g x)) (if_sent (item_at g x))
-    any_right = same_cond (is_sent g x) ((cond (is_frozen g x) values (end_reach rs (producer g x) ++ get_or sent (home g x) [])) ++ sent_value g (item_at g x)) [] (send_reach g order r x) [] sent_right (λ e v. refl)
+    any_right = same_cond (is_sent g x) ((cond (is_frozen g x) values (end_reach rs (producer g x) ++ get_or sent (home g x) [])) ++ sent_value g (item_at g x)) []
+        (send_reach g order r x) [] sent_right (λ e v. refl)
 
     module _ (i : Item) (at : item_at g x ≡ i) (rule : reach_by_item g order r x i ≡ if_sent i) where
       pub send_right : (reach : List ℕ) → SameElements reach (send_by g rs sent i) → SameElements reach (reach_of r x)
@@ -241,7 +252,8 @@ module _ (g : Graph) (order : List ℕ) (top : IsTopological g order) (r : Reach
 
 -- ---- at first
 
-pub walk_begins : (g : Graph) (order : List ℕ) (r : Reach) (rs known sent : List (List ℕ)) → AreEmpty (item_count g) rs → AreEmpty (length g.nodes) known → AreEmpty (length g.nodes) sent → AgreesUntil g order r 0 0 rs known sent
+pub walk_begins : (g : Graph) (order : List ℕ) (r : Reach) (rs known sent : List (List ℕ)) → AreEmpty (item_count g) rs → AreEmpty (length g.nodes) known → AreEmpty (length g.nodes) sent →
+    AgreesUntil g order r 0 0 rs known sent
 walk_begins g order r rs known sent a b c = record {
   items = a.count;
   known_nodes = b.count;
@@ -252,7 +264,8 @@ walk_begins g order r rs known sent a b c = record {
 }
   where
     none : (node : ℕ) → sent_before g order 0 node ≡ []
-    none node = filter_none (λ y. is_sent g y && (home g y == node) && nat_lt (moment g order y) 0) (numbers_below (item_count g)) (λ y k. and_right (is_sent g y && (home g y == node)) (nat_lt (moment g order y) 0) (le-ltb (moment g order y) 0 (omega arith)))
+    none node = filter_none (λ y. is_sent g y && (home g y == node) && nat_lt (moment g order y) 0) (numbers_below (item_count g))
+        (λ y k. and_right (is_sent g y && (home g y == node)) (nat_lt (moment g order y) 0) (le-ltb (moment g order y) 0 (omega arith)))
 
 -- what every walk keeps, whatever the reach
 pub walked_some : (g : Graph) (order : List ℕ) (top : IsTopological g order) (k m : ℕ) (rs known sent : List (List ℕ)) → ((r : Reach) → IsReach g order r → AgreesUntil g order r k m rs known sent)

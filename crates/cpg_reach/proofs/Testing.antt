@@ -1,5 +1,6 @@
 -- A reduced and ordered tree tests exactly the conditions that decide its process in some scenario.
-use Rattle.std.proofs.Common.{ℕ, ◌+◌, ◌<◌, ◌≤◌, ◌≡◌, Bool, true, false, if◌then◌else◌, List, [], ◌∷◌, ◌++◌, length, get_or, set, map, replicate, length-append, Contains, refl, sym, ap, ◌∙◌, subst, ⊎_elim, arith}
+use Rattle.std.proofs.Common.{ℕ, ◌+◌, ◌<◌, ◌≤◌, ◌≡◌, Bool, true, false, if◌then◌else◌, List, [], ◌∷◌, ◌++◌, length, get_or, set, map, replicate, length-append, Contains, refl, sym, ap, ◌∙◌, subst}
+use Rattle.std.proofs.Common.{⊎_elim, arith}
 use Rattle.std.proofs.lemmas.Bool.{cases_Bool, cases_lt}
 use Rattle.std.specs.List.{list_any}
 use Rattle.std.proofs.lemmas.List.{length-set, get_or-set_same, get_or-set_other, length-replicate, get_or_append_left}
@@ -7,7 +8,8 @@ use Rattle.std.proofs.Math.Seq.{get_or-append_seam}
 use Rattle.std.proofs.lemmas.List.Elements.{Contains-append_cases, Contains-append_left, Contains-append_right}
 use Rattle.cpg_base.specs.Numbers.{numbers_below}
 use Rattle.cpg_base.specs.Graph.{Graph, process_count, condition_count, process_of, value_variable}
-use Rattle.cpg_base.proofs.Lists.{Contains-first, Contains-rest, Contains-cases, Contains-nil, Contains-map, Contains-map_parts, Contains-filter, Contains-filter_parts, Contains-numbers, numbers-Contains, list_any_true, list_any_parts, same_truth}
+use Rattle.cpg_base.proofs.Lists.{Contains-first, Contains-rest, Contains-cases, Contains-nil, Contains-map, Contains-map_parts, Contains-filter, Contains-filter_parts, Contains-numbers}
+use Rattle.cpg_base.proofs.Lists.{numbers-Contains, list_any_true, list_any_parts, same_truth}
 use Rattle.cpg_order.specs.Urgency.{IsUrgencyOrder}
 use Rattle.cpg_base.specs.Order.{place}
 use Rattle.cpg_order.specs.Deciding.{outcomes, decides, conditions_of}
@@ -118,7 +120,8 @@ tests_below n m (Test c off on) l h = (omega (arith, h.0), tests_below n m off l
 pub deciding_first : (g : Graph) → AreDecidingUntil g 0 []
 deciding_first g = record { count = refl; each = λ p l. absurd (omega arith) }
 
-pub deciding_next : (g : Graph) (n : ℕ) (values : List (List ℕ)) (more : List ℕ) → SameElements more (map value_variable (conditions_of g n)) → AreDecidingUntil g n values → AreDecidingUntil g (n + 1) (values ++ more ∷ [])
+pub deciding_next : (g : Graph) (n : ℕ) (values : List (List ℕ)) (more : List ℕ) → SameElements more (map value_variable (conditions_of g n)) → AreDecidingUntil g n values →
+    AreDecidingUntil g (n + 1) (values ++ more ∷ [])
 deciding_next g n values more same h = let c = h.count in record {
   count = let e = length-append values (more ∷ []) in omega arith;
   each = λ p l v. ⊎_elim
@@ -134,5 +137,6 @@ module _ (g : Graph) (order : List ℕ) (guards : Guards) (admitted : IsAdmitted
   pub tests_fit : (t : Guard) → TestsBelow guards.conditions t → TestsBelow 32 t
   tests_fit t h = let a = admitted.guards.conditions in let b = admitted.limits.few_conditions in tests_below guards.conditions 32 t (omega arith) h
 
-  pub tree_decides : (p : ℕ) → p < process_count g → (t : Guard) → t ≡ tree_of guards p → (found : List ℕ) → Adds [] (tested_values t) found → SameElements found (map value_variable (conditions_of g p))
+  pub tree_decides : (p : ℕ) → p < process_count g → (t : Guard) → t ≡ tree_of guards p → (found : List ℕ) → Adds [] (tested_values t) found →
+      SameElements found (map value_variable (conditions_of g p))
   tree_decides p l t is found adds v = adds v ∙ ap (λ u. is_in (tested_values u) v) is ∙ tests_are_deciding g order admitted.urgency p (tree_of guards p) (admitted.guards.trees p l) v

@@ -35,7 +35,8 @@ views_whole g order guards admitted reached =
     let f = views_fit g admitted.limits.few_processes admitted.limits.faults reached t.0 t.1 (omega arith) in
     omega arith
 
-pub has_views : (g : Graph) (order : List ℕ) (top : IsTopological g order) (guards : Guards) (urgency : List ℕ) → IsAdmitted g urgency guards → (rs : Reach) → AreReaches g order rs → (x n : ℕ) (xs : List ℕ) → x < item_count g → xs ≡ get_or rs x xs
+pub has_views : (g : Graph) (order : List ℕ) (top : IsTopological g order) (guards : Guards) (urgency : List ℕ) → IsAdmitted g urgency guards → (rs : Reach) → AreReaches g order rs →
+    (x n : ℕ) (xs : List ℕ) → x < item_count g → xs ≡ get_or rs x xs
     → n ≡ min 18446744073709551615 (views g xs) → HasViews g order x n
 has_views g order top guards urgency admitted rs are x n xs l at is = record {
   some = some_reach g order top;
@@ -57,7 +58,8 @@ loads_first g order = record { few = omega arith; sum = λ r is. refl; narrow = 
 sum_next : (f : ℕ → ℕ) (x : ℕ) → sum_by f (numbers_below (x + 1)) ≡ sum_by f (numbers_below x) + f x
 sum_next f x = ap (sum_by f) (below_push x) ∙ sum_by-append f (numbers_below x) (x ∷ []) ∙ (let e = sum_by-cons f x [] in omega arith)
 
-module _ (g : Graph) (order : List ℕ) (top : IsTopological g order) (rs : Reach) (are : AreReaches g order rs) (x loads : ℕ) (so_far : AreLoads g order x loads) (within : x < item_count g) (xs : List ℕ) (at : xs ≡ get_or rs x xs) where
+module _ (g : Graph) (order : List ℕ) (top : IsTopological g order) (rs : Reach) (are : AreReaches g order rs) (x loads : ℕ) (so_far : AreLoads g order x loads) (within : x < item_count g)
+    (xs : List ℕ) (at : xs ≡ get_or rs x xs) where
   views_are : (r : Reach) → IsReach g order r → views g xs ≡ views g (reach_of r x)
   views_are r is = same_views g xs (reach_of r x) (λ v. ap (λ ys. is_in ys v) (set_at rs x xs (let c = are.count in omega arith) at) ∙ are.each r is x within v)
 

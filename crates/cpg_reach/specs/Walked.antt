@@ -7,7 +7,7 @@ use Rattle.cpg_base.specs.declared.item.Item.{Item}
 use Rattle.cpg_order.specs.Deciding.{conditions_of}
 use Rattle.cpg_order.specs.Reach.{Reach, IsReach, reach_of, end_reach, hearing_reach, input_reach, sent_value}
 use Rattle.cpg_order.proofs.Moments.{moment}
-use Rattle.cpg_reach.specs.declared.reaches.Walk.{Walk}
+use Rattle.cpg_reach.specs.declared.reaches.OrderWalk.{OrderWalk}
 use Rattle.cpg_order.specs.Elements.{SameElements}
 
 -- what hearing these conditions on a node depends on, and their values
@@ -49,7 +49,7 @@ pub record AgreesUntil (g : Graph) (order : List ℕ) (r : Reach) (k m : ℕ) (r
   pub sends : (node : ℕ) → node < length g.nodes → SameElements (get_or sent node []) (flat_map (reach_of r) (sent_before g order m node))
 
 -- a walk has come so far
-abbrev pub IsWalkedTo : Graph → List ℕ → ℕ → ℕ → Walk → Type 0
+abbrev pub IsWalkedTo : Graph → List ℕ → ℕ → ℕ → OrderWalk → Type 0
 IsWalkedTo g order k m w = (r : Reach) → IsReach g order r → AgreesUntil g order r k m w.reaches.items w.known.items w.sent.items
 
 -- these are the reaches of all items

@@ -18,7 +18,7 @@ use std::alloc::Global;
 
 /// How far a walk along an order has come.
 #[derive(Drop)]
-pub struct Walk {
+pub struct OrderWalk {
     /// By item, what its time depends on, as far as it has been found.
     reaches: Vec<Variables>,
     /// By node, what its processes so far make later ones wait for.
@@ -45,7 +45,7 @@ fn settle_start(
     order: &Order,
     deciding: &[Variables],
     process: u32,
-    walk: &mut Walk,
+    walk: &mut OrderWalk,
 )
     requires order { IsTopological problem.now order.now }
     requires process { process < process_count problem.now }
@@ -79,7 +79,7 @@ fn settle_start(
 }
 
 /// Takes the reach of what a node may send.
-fn settle(item: usize, node: u32, reach: Variables, walk: &mut Walk)
+fn settle(item: usize, node: u32, reach: Variables, walk: &mut OrderWalk)
     requires item { item < length walk.old.reaches.items }
     requires node { node < length walk.old.sent.items }
     ensures reaches { walk.new.reaches.items ≡ slice_set walk.old.reaches.items item reach }
@@ -93,7 +93,7 @@ fn settle(item: usize, node: u32, reach: Variables, walk: &mut Walk)
 }
 
 /// Finds the reach of the broadcast of a process's condition, if it has one. The contract alone names `order`.
-fn settle_broadcast(problem: &Problem, order: &Order, process: u32, walk: &mut Walk)
+fn settle_broadcast(problem: &Problem, order: &Order, process: u32, walk: &mut OrderWalk)
     requires order { IsTopological problem.now order.now }
     requires process { process < process_count problem.now }
     requires walked { IsWalkedTo problem.now order.now (place order.now process + 1) (place order.now process * phases problem.now + 2) walk.old }
@@ -119,7 +119,7 @@ fn settle_message(
     deciding: &[Variables],
     process: u32,
     edge: u32,
-    walk: &mut Walk,
+    walk: &mut OrderWalk,
 )
     requires order { IsTopological problem.now order.now }
     requires process { process < process_count problem.now }
@@ -148,7 +148,7 @@ fn settle_process(
     order: &Order,
     deciding: &[Variables],
     process: u32,
-    walk: &mut Walk,
+    walk: &mut OrderWalk,
 )
     requires order { IsTopological problem.now order.now }
     requires process { process < process_count problem.now }
@@ -176,7 +176,7 @@ pub fn reaches(
     let deciding = deciding_values(alloc, admitted)?;
     let items = problem.processes().len() + problem.edges().len() + problem.conditions() as usize;
     let nodes = problem.nodes().len();
-    let mut walk = Walk {
+    let mut walk = OrderWalk {
         reaches: empty_sets(alloc, items)?,
         known: empty_sets(alloc, nodes)?,
         sent: empty_sets(alloc, nodes)?,

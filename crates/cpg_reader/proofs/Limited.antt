@@ -1,5 +1,6 @@
 -- A written document is within the limits.
-use Rattle.std.proofs.Common.{◌≡◌, ◌≢◌, ℕ, ◌+◌, ◌<◌, ◌≤◌, suc, Bool, true, false, ◌==◌, List, [], ◌∷◌, ◌++◌, length, get_or, map, filter, Option, Some, None, Ok, AllPairs, Contains, ⊎_elim, inl, inr, ◌⊎◌, cond, refl, sym, ap, ◌∙◌, subst, arith, le-leb, pos, is_some, eq-eqb}
+use Rattle.std.proofs.Common.{◌≡◌, ◌≢◌, ℕ, ◌+◌, ◌<◌, ◌≤◌, suc, Bool, true, false, ◌==◌, List, [], ◌∷◌, ◌++◌, length, get_or, map, filter, Option, Some, None, Ok, AllPairs, Contains, ⊎_elim, inl, inr}
+use Rattle.std.proofs.Common.{◌⊎◌, cond, refl, sym, ap, ◌∙◌, subst, arith, le-leb, pos, is_some, eq-eqb}
 use Rattle.std.specs.Prelude.{IfSome, bytes_eq, unwrap_or, option_map}
 use Rattle.std.specs.List.{AllByRecursion, list_any}
 use Rattle.std.proofs.lemmas.Bool.{and_from}
@@ -22,7 +23,7 @@ use Rattle.cpg_reader.specs.declared.place.Table.{Table}
 use Rattle.cpg_reader.specs.declared.place.Table.TheVariants as places
 use Rattle.cpg_reader.specs.declared.place.What.{What}
 use Rattle.cpg_reader.specs.declared.shape.RawEdge.{RawEdge}
-use Rattle.cpg_reader.specs.declared.ranges.Bounded.{Bounded}
+use Rattle.cpg_reader.specs.declared.ranges.BoundedField.{BoundedField}
 use Rattle.cpg_reader.specs.Ranges.{top_numbers, slot_numbers, process_numbers, edge_numbers, is_within, in_range, all_in_range, at_most, sources, different, limits}
 use Rattle.cpg_reader.specs.RawOf.{raw_slot, raw_process, raw_edge, raw_of, names_of}
 use Rattle.cpg_reader.proofs.RawReads.{all_by_recursion}
@@ -30,15 +31,16 @@ use Rattle.cpg_reader.proofs.RawReads.{all_by_recursion}
 within : (low high n : ℕ) → low ≤ n → n ≤ high → is_within low high (pos n) ≡ true
 within low high n l h = rw (le-leb low n l, le-leb n high h) refl
 
-abbrev pub AreWithin : List Bounded → Type 0
+abbrev pub AreWithin : List BoundedField → Type 0
 AreWithin [] = Unit {0}
 AreWithin (n ∷ ns) = (is_within n.low n.high n.value ≡ true) × AreWithin ns
 
-in_range-within : (table : Table) (i : ℕ) (ns : List Bounded) → AreWithin ns → in_range table i ns ≡ Ok tt
+in_range-within : (table : Table) (i : ℕ) (ns : List BoundedField) → AreWithin ns → in_range table i ns ≡ Ok tt
 in_range-within table i [] h = refl
 in_range-within table i (n ∷ ns) h = rw h.0 (in_range-within table i ns h.1)
 
-all_in_range-within : {S T : Type 0} (table : Table) (numbers_of : T → List Bounded) (f : S → T) (i : ℕ) (xs : List S) → AllByRecursion (λ x. AreWithin (numbers_of (f x))) xs → all_in_range table numbers_of i (map f xs) ≡ Ok tt
+all_in_range-within : {S T : Type 0} (table : Table) (numbers_of : T → List BoundedField) (f : S → T) (i : ℕ) (xs : List S) → AllByRecursion (λ x. AreWithin (numbers_of (f x))) xs →
+    all_in_range table numbers_of i (map f xs) ≡ Ok tt
 all_in_range-within table numbers_of f i [] h = refl
 all_in_range-within table numbers_of f i (x ∷ xs) h = rw (in_range-within table i (numbers_of (f x)) h.0) (all_in_range-within table numbers_of f (i + 1) xs h.1)
 
@@ -100,7 +102,8 @@ module _ (g : Graph) (limited : IsWithinLimits g) where
       let named : name_of e.from ≡ x = ap (λ (r : RawEdge). r.from) same ∙ is in
       let below = limited.edges here.0 e here.1 in
       let from : e.from < process_count g = subst (λ (d : Edge). d.from < process_count g) here.2 below.from in
-      let passes : has_conditional_output g.edges e.from ≡ true = list_any_true (is_conditional_output e.from) g.edges e here (and_from (e.from == e.from) (is_some e.when) (eq-eqb e.from e.from refl) when) in
+      let passes : has_conditional_output g.edges e.from ≡ true = list_any_true (is_conditional_output e.from) g.edges e here
+      (and_from (e.from == e.from) (is_some e.when) (eq-eqb e.from e.from refl) when) in
       subst (Contains (map name_of conditional)) named
       (Contains-map name_of conditional e.from (Contains-filter (has_conditional_output g.edges) (numbers_below (process_count g)) e.from passes (Contains-numbers (process_count g) e.from from)))
 
@@ -146,8 +149,10 @@ pub raw_limited : (g : Graph) → IsWithinLimits g → limits (raw_of g) ≡ Ok 
 unfolding limits
 raw_limited g h =
     let slots = all_in_range-within places.Slot slot_numbers (raw_slot g.nodes) 0 g.slots (all_weaker _ _ (slot_in g.nodes) g.slots (all_by_recursion _ g.slots h.slots)) in
-    let processes = all_in_range-within places.Process process_numbers (raw_process g.nodes) 0 g.processes (all_weaker _ _ (process_in g.nodes) g.processes (all_by_recursion _ g.processes h.processes)) in
-    let edges = all_in_range-within places.Edge edge_numbers (raw_edge (names_of g.processes)) 0 g.edges (all_weaker _ _ (edge_in (names_of g.processes) (process_count g)) g.edges (all_by_recursion _ g.edges h.edges)) in
+    let processes = all_in_range-within places.Process process_numbers (raw_process g.nodes) 0 g.processes
+    (all_weaker _ _ (process_in g.nodes) g.processes (all_by_recursion _ g.processes h.processes)) in
+    let edges = all_in_range-within places.Edge edge_numbers (raw_edge (names_of g.processes)) 0 g.edges
+    (all_weaker _ _ (edge_in (names_of g.processes) (process_count g)) g.edges (all_by_recursion _ g.edges h.edges)) in
     let top = in_range-within places.Top 0 (top_numbers (raw_of g)) (within 0 MOST_FAULTS g.faults (omega arith) h.faults, (within 0 LONGEST g.deadline (omega arith) h.deadline, tt)) in
     rw (
       at_most-few MOST_NODES _ g.nodes h.few_nodes,

@@ -8,7 +8,7 @@ use Rattle.cpg_reader.specs.declared.place.Table.TheVariants as tables
 use Rattle.cpg_reader.specs.declared.place.What.{What}
 use Rattle.cpg_reader.specs.declared.place.What.TheVariants.{Nodes, Slots, Processes, Edges, Conditions}
 use Rattle.cpg_reader.specs.declared.place.ReadFault.{ReadFault}
-use Rattle.cpg_reader.specs.declared.ranges.Bounded.{Bounded}
+use Rattle.cpg_reader.specs.declared.ranges.BoundedField.{BoundedField}
 use Rattle.cpg_reader.specs.Reading.{Reading, done}
 use Rattle.cpg_reader.specs.Shape.{RawGraph}
 use Rattle.cpg_reader.specs.Ranges.{top_numbers, slot_numbers, process_numbers, edge_numbers, is_within, in_range, all_in_range, at_most, sources, different, limits}
@@ -17,7 +17,7 @@ use Rattle.cpg_reader.specs.Names.{process_names}
 use Rattle.cpg_reader.proofs.Steps.{then-parts}
 
 -- numbers in their ranges
-abbrev pub AreIn : List Bounded → Type 0
+abbrev pub AreIn : List BoundedField → Type 0
 AreIn [] = Unit {0}
 AreIn (n ∷ ns) = (n.low ≤ natural n.value) × (natural n.value ≤ n.high) × AreIn ns
 
@@ -45,14 +45,15 @@ natural-within low high (pos n) h =
     (leb-true low n above, leb-true n high below)
 natural-within low high (negsuc n) h = absurd (false≢true h)
 
-AreIn-from_in_range : (table : Table) (i : ℕ) (ns : List Bounded) (x : Unit {0}) → in_range table i ns ≡ Ok x → AreIn ns
+AreIn-from_in_range : (table : Table) (i : ℕ) (ns : List BoundedField) (x : Unit {0}) → in_range table i ns ≡ Ok x → AreIn ns
 AreIn-from_in_range table i [] x h = tt
 AreIn-from_in_range table i (n ∷ ns) x h =
     let (here, rest) = passes (is_within n.low n.high n.value) (in_range table i ns) _ x h in
     let (low, high) = natural-within n.low n.high n.value here in
     (low, high, AreIn-from_in_range table i ns x rest)
 
-all_in_range-at : {T : Type 0} (table : Table) (numbers_of : T → List Bounded) (i : ℕ) (xs : List T) (x : Unit {0}) → all_in_range table numbers_of i xs ≡ Ok x → All (λ y. AreIn (numbers_of y)) xs
+all_in_range-at : {T : Type 0} (table : Table) (numbers_of : T → List BoundedField) (i : ℕ) (xs : List T) (x : Unit {0}) → all_in_range table numbers_of i xs ≡ Ok x →
+    All (λ y. AreIn (numbers_of y)) xs
 all_in_range-at table numbers_of i [] x h k d l = absurd (omega arith)
 all_in_range-at table numbers_of i (y ∷ ys) x h zero d l =
     let (_, here, rest) = then-parts (in_range table i (numbers_of y)) (all_in_range table numbers_of (i + 1) ys) x h in

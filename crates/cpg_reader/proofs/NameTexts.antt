@@ -28,6 +28,7 @@ pub named : (found : Option (List ℕ)) (text : List ℕ) → IfSome found (λ n
 named (Some name) text same taken refused = ap Some same ∙ sym (if_name text true (is_name-from_IsName text taken))
 named None text same taken refused = sym (not_name text (is_name text) refl refused)
 
-pub named_ok : {E : Type 0} (r : Result (Option (List ℕ)) E) (text : List ℕ) → IfOk r (λ found. IfSome found (λ name. name ≡ text)) → IfOk r (λ found. IfSome found (λ _. IsName text)) → IfOk r (λ found. IfNone found (¬ IsName text)) → IfOk r (λ found. found ≡ name_if text)
+pub named_ok : {E : Type 0} (r : Result (Option (List ℕ)) E) (text : List ℕ) → IfOk r (λ found. IfSome found (λ name. name ≡ text)) → IfOk r (λ found. IfSome found (λ _. IsName text)) →
+    IfOk r (λ found. IfNone found (¬ IsName text)) → IfOk r (λ found. found ≡ name_if text)
 named_ok (Ok found) text same taken refused = named found text same taken refused
 named_ok (Err e) text same taken refused = tt

@@ -1,5 +1,6 @@
 -- The names of a written document stand for the numbers that they were written for.
-use Rattle.std.proofs.Common.{◌≡◌, ◌≢◌, ℕ, ◌+◌, ◌<◌, Bool, false, List, [], ◌∷◌, ◌++◌, length, get_or, map, Option, Some, None, Ok, Err, AllPairs, refl, sym, ap, ◌∙◌, subst, arith, lt-ltb, append_assoc, zero, suc}
+use Rattle.std.proofs.Common.{◌≡◌, ◌≢◌, ℕ, ◌+◌, ◌<◌, Bool, false, List, [], ◌∷◌, ◌++◌, length, get_or, map, Option, Some, None, Ok, Err, AllPairs, refl, sym, ap, ◌∙◌, subst, arith, lt-ltb}
+use Rattle.std.proofs.Common.{append_assoc, zero, suc}
 use Rattle.std.specs.Prelude.{bytes_eq, position, option_map, IfSome}
 use Rattle.std.specs.List.{AllByRecursion, list_any, position_or_len}
 use Rattle.std.proofs.lemmas.Bool.{cond-true, false_from_ne_true}
@@ -65,7 +66,8 @@ number_at names place n h l =
     let found : position passes names ≡ Some n = cond-true _ _ _ (lt-ltb (position_or_len passes names) (length names) (omega (arith, at, l))) ∙ ap Some at in
     rw found refl
 
-each_back : {S T : Type 0} (step : ℕ → T → Reading S) (f : S → T) (P : S → Type 0) → ((i : ℕ) (x : S) → P x → step i (f x) ≡ Ok x) → (i : ℕ) (xs : List S) → AllByRecursion P xs → each step i (map f xs) ≡ Ok xs
+each_back : {S T : Type 0} (step : ℕ → T → Reading S) (f : S → T) (P : S → Type 0) → ((i : ℕ) (x : S) → P x → step i (f x) ≡ Ok x) → (i : ℕ) (xs : List S) → AllByRecursion P xs →
+    each step i (map f xs) ≡ Ok xs
 each_back step f P h i [] a = refl
 each_back step f P h i (x ∷ xs) a = rw (h i x a.0, each_back step f P h (i + 1) xs a.1) refl
 
@@ -144,7 +146,8 @@ module _ (g : Graph) (limited : IsWithinLimits g) where
       let slot_name = map_map (raw_slot g.nodes) (λ s. s.node) g.slots in
       let process_name = map_map (raw_process g.nodes) (λ p. p.name) g.processes in
       let slots = each_back (slot_of g.nodes) (raw_slot g.nodes) (IsSlotWithin (length g.nodes)) slot_back 0 g.slots (all_by_recursion _ g.slots limited.slots) in
-      let processes = each_back (process_of g.nodes) (raw_process g.nodes) (IsProcessWithin (length g.nodes)) (λ i p h. process_by i p p.deadline refl h) 0 g.processes (all_by_recursion _ g.processes limited.processes) in
+      let processes = each_back (process_of g.nodes) (raw_process g.nodes) (IsProcessWithin (length g.nodes)) (λ i p h. process_by i p p.deadline refl h) 0 g.processes
+      (all_by_recursion _ g.processes limited.processes) in
       let edges = each_back (edge_of (names_of g.processes)) (raw_edge (names_of g.processes)) (IsEdgeWithin (process_count g)) edge_back 0 g.edges (all_by_recursion _ g.edges limited.edges) in
       rw (
         slot_name,

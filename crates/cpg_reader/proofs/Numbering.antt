@@ -1,5 +1,6 @@
 -- What is known of names that differ, of the number of a name, and of the different ones among names.
-use Rattle.std.proofs.Common.{◌≡◌, ◌≢◌, ◌⊎◌, inl, inr, ⊎_elim, ℕ, ◌+◌, ◌<◌, Bool, true, false, List, [], ◌∷◌, ◌++◌, length, get_or, Option, Some, None, Ok, Err, AllPairs, Contains, refl, sym, ◌∙◌, subst, cond, arith, append_assoc, append-nil, true≢false}
+use Rattle.std.proofs.Common.{◌≡◌, ◌≢◌, ◌⊎◌, inl, inr, ⊎_elim, ℕ, ◌+◌, ◌<◌, Bool, true, false, List, [], ◌∷◌, ◌++◌, length, get_or, Option, Some, None, Ok, Err, AllPairs, Contains, refl, sym, ◌∙◌}
+use Rattle.std.proofs.Common.{subst, cond, arith, append_assoc, append-nil, true≢false}
 use Rattle.std.specs.Prelude.{bytes_eq, position}
 use Rattle.std.specs.List.{list_any}
 use Rattle.std.proofs.lemmas.Slice.Eq.{bytes_eq-Decides}
@@ -37,7 +38,8 @@ apart_from-pairs : (table : Table) (key : Key) (i : ℕ) (earlier names : List (
 apart_from-pairs table key i earlier [] x p h = subst (AllPairs (λ a b. a ≢ b)) (sym (append-nil earlier)) p
 apart_from-pairs table key i earlier (name ∷ names) x p h =
     let (new, rest) = goes_by (list_any (bytes_eq name) earlier) (apart_from table key (i + 1) (earlier ++ name ∷ []) names) _ x h in
-    let more = all_pairs_push (λ a b. a ≢ b) earlier name p (λ k d l. differ (get_or earlier k d) name (from_any_false (bytes_eq name) earlier (get_or earlier k d) new (Contains-get_or earlier k d l))) in
+    let more = all_pairs_push (λ a b. a ≢ b) earlier name p
+    (λ k d l. differ (get_or earlier k d) name (from_any_false (bytes_eq name) earlier (get_or earlier k d) new (Contains-get_or earlier k d l))) in
     subst (AllPairs (λ a b. a ≢ b)) (append_assoc earlier (name ∷ []) names) (apart_from-pairs table key (i + 1) (earlier ++ name ∷ []) names x more rest)
 
 -- no two names are equal

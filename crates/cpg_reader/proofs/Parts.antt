@@ -6,11 +6,21 @@ use Rattle.cpg_reader.specs.declared.place.Key.TheVariants.{Faults, Deadline, No
 use Rattle.cpg_reader.specs.declared.shape.RawWork.{RawWork}
 use Rattle.cpg_reader.specs.declared.shape.RawLink.{RawLink}
 use Rattle.cpg_reader.specs.Reading.{Reading, pure, ◌>>=◌, ◌>>◌}
-use Rattle.cpg_reader.specs.Rows.{Row, name_at, integer_at, integer_or, flag_or, optional, as_names, tables_at, only}
+use Rattle.cpg_reader.specs.Rows.{DocumentRow, name_at, integer_at, integer_or, flag_or, optional, as_names, tables_at, only}
 use Rattle.cpg_reader.specs.Shape.{process_at, work_at, process_with, edge_at, link_at, edge_with, Tops, lists_at, tops_at, elements_at, raw_graph_at}
 
-after_work : {T : Type 0} (wcet_at : Reading ℤ) (parts_at : Reading ℤ) (alpha_at : Reading ℤ) (chi_at : Reading ℤ) (mu_at : Reading ℤ) (join_at : Reading Bool) (frozen_at : Reading Bool) (release_at : Reading ℤ) (deadline_at : Reading (Option ℤ)) (end : Reading (Unit {0})) (next : RawWork → Reading T)
-    → (wcet_at >>= (λ wcet. parts_at >>= (λ parts. alpha_at >>= (λ alpha. chi_at >>= (λ chi. mu_at >>= (λ mu. join_at >>= (λ join. frozen_at >>= (λ frozen. release_at >>= (λ release. deadline_at >>= (λ deadline. end >> next (record { wcet = wcet; parts = parts; alpha = alpha; chi = chi; mu = mu; join = join; frozen = frozen; release = release; deadline = deadline }))))))))))) ≡ ((wcet_at >>= (λ wcet. parts_at >>= (λ parts. alpha_at >>= (λ alpha. chi_at >>= (λ chi. mu_at >>= (λ mu. join_at >>= (λ join. frozen_at >>= (λ frozen. release_at >>= (λ release. deadline_at >>= (λ deadline. end >> pure (record { wcet = wcet; parts = parts; alpha = alpha; chi = chi; mu = mu; join = join; frozen = frozen; release = release; deadline = deadline }))))))))))) >>= next)
+after_work : {T : Type 0} (wcet_at : Reading ℤ) (parts_at : Reading ℤ) (alpha_at : Reading ℤ) (chi_at : Reading ℤ) (mu_at : Reading ℤ) (join_at : Reading Bool) (frozen_at : Reading Bool)
+    (release_at : Reading ℤ) (deadline_at : Reading (Option ℤ)) (end : Reading (Unit {0})) (next : RawWork → Reading T)
+    → (wcet_at >>= (λ wcet. parts_at >>= (λ parts. alpha_at >>=
+    (λ alpha. chi_at >>= (λ chi. mu_at >>= (λ mu. join_at >>=
+    (λ join. frozen_at >>= (λ frozen. release_at >>=
+    (λ release. deadline_at >>= (λ deadline. end >> next
+    (record { wcet = wcet; parts = parts; alpha = alpha; chi = chi; mu = mu; join = join; frozen = frozen; release = release; deadline = deadline }))))))))))) ≡
+    ((wcet_at >>= (λ wcet. parts_at >>= (λ parts. alpha_at >>=
+    (λ alpha. chi_at >>= (λ chi. mu_at >>= (λ mu. join_at >>=
+    (λ join. frozen_at >>= (λ frozen. release_at >>=
+    (λ release. deadline_at >>= (λ deadline. end >> pure
+    (record { wcet = wcet; parts = parts; alpha = alpha; chi = chi; mu = mu; join = join; frozen = frozen; release = release; deadline = deadline }))))))))))) >>= next)
 after_work (Err fault) parts_at alpha_at chi_at mu_at join_at frozen_at release_at deadline_at end next = refl
 after_work (Ok wcet) (Err fault) alpha_at chi_at mu_at join_at frozen_at release_at deadline_at end next = refl
 after_work (Ok wcet) (Ok parts) (Err fault) chi_at mu_at join_at frozen_at release_at deadline_at end next = refl
@@ -24,7 +34,7 @@ after_work (Ok wcet) (Ok parts) (Ok alpha) (Ok chi) (Ok mu) (Ok join) (Ok frozen
 after_work (Ok wcet) (Ok parts) (Ok alpha) (Ok chi) (Ok mu) (Ok join) (Ok frozen) (Ok release) (Ok deadline) (Ok done) next = refl
 
 -- a process whose names are read
-pub process-parts : (row : Row) (name node : List ℕ) → name_at row Name ≡ Ok name → name_at row Node ≡ Ok node → process_at row ≡ (work_at row >>= (λ work. pure (process_with name node work)))
+pub process-parts : (row : DocumentRow) (name node : List ℕ) → name_at row Name ≡ Ok name → name_at row Node ≡ Ok node → process_at row ≡ (work_at row >>= (λ work. pure (process_with name node work)))
 unfolding process_at work_at
 process-parts row name node is_name is_node = rw (is_name, is_node)
     (after_work (integer_at row Wcet) (integer_or (pos 1) row Parts) (integer_or (pos 0) row Alpha) (integer_or (pos 0) row Chi) (integer_or (pos 0) row Mu)
@@ -33,7 +43,8 @@ process-parts row name node is_name is_node = rw (is_name, is_node)
     (λ work. pure (process_with name node work)))
 
 after_link : {T : Type 0} (bytes_at : Reading ℤ) (when_at : Reading (Option Bool)) (frozen_at : Reading Bool) (end : Reading (Unit {0})) (next : RawLink → Reading T)
-    → (bytes_at >>= (λ bytes. when_at >>= (λ when. frozen_at >>= (λ frozen. end >> next (record { bytes = bytes; when = when; frozen = frozen }))))) ≡ ((bytes_at >>= (λ bytes. when_at >>= (λ when. frozen_at >>= (λ frozen. end >> pure (record { bytes = bytes; when = when; frozen = frozen }))))) >>= next)
+    → (bytes_at >>= (λ bytes. when_at >>= (λ when. frozen_at >>= (λ frozen. end >> next (record { bytes = bytes; when = when; frozen = frozen }))))) ≡
+    ((bytes_at >>= (λ bytes. when_at >>= (λ when. frozen_at >>= (λ frozen. end >> pure (record { bytes = bytes; when = when; frozen = frozen }))))) >>= next)
 after_link (Err fault) when_at frozen_at end next = refl
 after_link (Ok bytes) (Err fault) frozen_at end next = refl
 after_link (Ok bytes) (Ok when) (Err fault) end next = refl
@@ -41,14 +52,23 @@ after_link (Ok bytes) (Ok when) (Ok frozen) (Err fault) next = refl
 after_link (Ok bytes) (Ok when) (Ok frozen) (Ok done) next = refl
 
 -- an edge whose ends are read
-pub edge-parts : (row : Row) (from to : List ℕ) → name_at row From ≡ Ok from → name_at row To ≡ Ok to → edge_at row ≡ (link_at row >>= (λ link. pure (edge_with from to link)))
+pub edge-parts : (row : DocumentRow) (from to : List ℕ) → name_at row From ≡ Ok from → name_at row To ≡ Ok to → edge_at row ≡ (link_at row >>= (λ link. pure (edge_with from to link)))
 unfolding edge_at link_at
 edge-parts row from to is_from is_to = rw (is_from, is_to)
     (after_link (integer_or (pos 1) row Bytes) (optional as_bool row When) (flag_or false row Frozen) (only (From ∷ To ∷ Bytes ∷ When ∷ Frozen ∷ []) row)
     (λ link. pure (edge_with from to link)))
 
-after_top : {T : Type 0} (faults_at : Reading ℤ) (deadline_at : Reading ℤ) (nodes_at : Reading (List Members)) (slots_at : Reading (List Members)) (processes_at : Reading (List Members)) (edges_at : Reading (List Members)) (order_at : Reading (Option (List (List ℕ)))) (end : Reading (Unit {0})) (next : Tops → Reading T)
-    → (faults_at >>= (λ faults. deadline_at >>= (λ deadline. nodes_at >>= (λ nodes. slots_at >>= (λ slots. processes_at >>= (λ processes. edges_at >>= (λ edges. order_at >>= (λ order. end >> next (record { faults = faults; deadline = deadline; nodes = nodes; slots = slots; processes = processes; edges = edges; order = order }))))))))) ≡ ((faults_at >>= (λ faults. deadline_at >>= (λ deadline. nodes_at >>= (λ nodes. slots_at >>= (λ slots. processes_at >>= (λ processes. edges_at >>= (λ edges. order_at >>= (λ order. end >> pure (record { faults = faults; deadline = deadline; nodes = nodes; slots = slots; processes = processes; edges = edges; order = order }))))))))) >>= next)
+after_top : {T : Type 0} (faults_at : Reading ℤ) (deadline_at : Reading ℤ) (nodes_at : Reading (List Members)) (slots_at : Reading (List Members)) (processes_at : Reading (List Members))
+    (edges_at : Reading (List Members)) (order_at : Reading (Option (List (List ℕ)))) (end : Reading (Unit {0})) (next : Tops → Reading T)
+    → (faults_at >>= (λ faults. deadline_at >>=
+    (λ deadline. nodes_at >>= (λ nodes. slots_at >>=
+    (λ slots. processes_at >>= (λ processes. edges_at >>=
+    (λ edges. order_at >>= (λ order. end >> next (record { faults = faults; deadline = deadline; nodes = nodes; slots = slots; processes = processes; edges = edges; order = order }))))))))) ≡
+    ((faults_at >>= (λ faults. deadline_at >>=
+    (λ deadline. nodes_at >>= (λ nodes. slots_at >>=
+    (λ slots. processes_at >>= (λ processes. edges_at >>=
+    (λ edges. order_at >>= (λ order. end >> pure (record { faults = faults; deadline = deadline; nodes = nodes; slots = slots; processes = processes; edges = edges; order = order }))))))))) >>=
+    next)
 after_top (Err fault) deadline_at nodes_at slots_at processes_at edges_at order_at end next = refl
 after_top (Ok faults) (Err fault) nodes_at slots_at processes_at edges_at order_at end next = refl
 after_top (Ok faults) (Ok deadline) (Err fault) slots_at processes_at edges_at order_at end next = refl
@@ -63,6 +83,6 @@ after_top (Ok faults) (Ok deadline) (Ok nodes) (Ok slots) (Ok processes) (Ok edg
 pub graph-parts : (ms : Members) → raw_graph_at ms ≡ (tops_at (record { table = tables.Top; index = 0; members = ms }) >>= elements_at)
 unfolding raw_graph_at tops_at lists_at elements_at
 graph-parts ms =
-    let top : Row = record { table = tables.Top; index = 0; members = ms } in
+    let top : DocumentRow = record { table = tables.Top; index = 0; members = ms } in
     after_top (integer_at top Faults) (integer_at top Deadline) (tables_at top Node) (tables_at top Slot) (tables_at top Process) (tables_at top Edge) (optional as_names top Order)
     (only (Faults ∷ Deadline ∷ Node ∷ Slot ∷ Process ∷ Edge ∷ Order ∷ []) top) elements_at

@@ -61,7 +61,8 @@ tables_read : {T : Type 0} (f : T → Members) (xs : List T) → items_as as_tab
 tables_read f [] = refl
 tables_read f (x ∷ xs) = rw (tables_read f xs) refl
 
-names_read : (names : List (List ℕ)) (order : List ℕ) → AllByRecursion (λ p. IsName (name_in names p)) order → items_as as_name (items_of (map (λ p. string (name_in names p)) order)) ≡ Some (map (name_in names) order)
+names_read : (names : List (List ℕ)) (order : List ℕ) → AllByRecursion (λ p. IsName (name_in names p)) order →
+    items_as as_name (items_of (map (λ p. string (name_in names p)) order)) ≡ Some (map (name_in names) order)
 names_read names [] h = refl
 names_read names (p ∷ ps) h = rw (name_read (name_in names p) h.0, names_read names ps h.1) refl
 
@@ -92,7 +93,8 @@ edges_read g h = each_read (λ i ms. edge_at (record { table = places.Edge; inde
     (λ i e c. edge_by g.processes i e e.when refl c) 0 g.edges h.edges
 
 -- a written document is read as what the graph says, whatever order it gives
-raw_by : (g : Graph) (order : Option (List ℕ)) → g.order ≡ order → AreNames g → IfSome order (AllByRecursion (λ p. IsName (name_in (names_of g.processes) p))) → raw_graph_at (graph_members g) ≡ Ok (raw_of g)
+raw_by : (g : Graph) (order : Option (List ℕ)) → g.order ≡ order → AreNames g → IfSome order (AllByRecursion (λ p. IsName (name_in (names_of g.processes) p))) →
+    raw_graph_at (graph_members g) ≡ Ok (raw_of g)
 unfolding raw_graph_at integer_at tables_at optional only
 raw_by g None is h named =
     rw (

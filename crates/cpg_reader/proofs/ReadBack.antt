@@ -72,7 +72,8 @@ module _ (g : Graph) (limited : IsWithinLimits g) (nodes : All IsName g.nodes) (
     nodes = all_by_recursion IsName g.nodes nodes;
     slots = all_by_recursion (λ s. IsName (get_or g.nodes s.node [])) g.slots (λ k d l. node_named (get_or g.slots k d).node (limited.slots k d l).node);
     processes = all_by_recursion (IsCalled g.nodes) g.processes (λ k d l. record { name = processes k d l; node = node_named (get_or g.processes k d).node (limited.processes k d l).node });
-    edges = all_by_recursion (IsJoined (names_of g.processes)) g.edges (λ k d l. record { from = process_named (get_or g.edges k d).from (limited.edges k d l).from; to = process_named (get_or g.edges k d).to (limited.edges k d l).to });
+    edges = all_by_recursion (IsJoined (names_of g.processes)) g.edges
+        (λ k d l. record { from = process_named (get_or g.edges k d).from (limited.edges k d l).from; to = process_named (get_or g.edges k d).to (limited.edges k d l).to });
     order = order_named g.order limited.order;
   }
 

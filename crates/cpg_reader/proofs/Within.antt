@@ -1,5 +1,6 @@
 -- The graph of a document that is within the limits is within the limits.
-use Rattle.std.proofs.Common.{◌≡◌, ◌≢◌, ℕ, ◌<◌, ◌≤◌, false, List, [], length, get_or, map, filter, Option, Some, None, Ok, AllPairs, Contains, sym, ap, ◌∙◌, subst, inr, arith, ℤ, pos, eqb-true, zero-add}
+use Rattle.std.proofs.Common.{◌≡◌, ◌≢◌, ℕ, ◌<◌, ◌≤◌, false, List, [], length, get_or, map, filter, Option, Some, None, Ok, AllPairs, Contains, sym, ap, ◌∙◌, subst, inr, arith, ℤ, pos, eqb-true}
+use Rattle.std.proofs.Common.{zero-add}
 use Rattle.std.specs.Prelude.{All, IfSome, unwrap_or, option_map, is_some, ◌==◌}
 use Rattle.std.proofs.lemmas.Bool.{and_parts}
 use Rattle.std.proofs.lemmas.List.{length-map, get_or-map}

@@ -11,25 +11,25 @@ use Rattle.cpg_reader.specs.declared.place.ReadFault.TheVariants.{OverLimit}
 use Rattle.cpg_reader.specs.declared.shape.RawSlot.{RawSlot}
 use Rattle.cpg_reader.specs.declared.shape.RawProcess.{RawProcess}
 use Rattle.cpg_reader.specs.declared.shape.RawEdge.{RawEdge}
-use Rattle.cpg_reader.specs.declared.ranges.Bounded.{Bounded}
+use Rattle.cpg_reader.specs.declared.ranges.BoundedField.{BoundedField}
 use Rattle.cpg_reader.specs.Reading.{Reading, done, ◌>>◌}
 use Rattle.cpg_reader.specs.Shape.{RawGraph}
 
 -- the number of a key, and the least and the greatest that it may be
-abbrev pub top_numbers : RawGraph → List Bounded
+abbrev pub top_numbers : RawGraph → List BoundedField
 top_numbers g =
     record { key = Faults; value = g.faults; low = 0; high = MOST_FAULTS }
     ∷ record { key = Deadline; value = g.deadline; low = 0; high = LONGEST }
     ∷ []
 
-abbrev pub slot_numbers : RawSlot → List Bounded
+abbrev pub slot_numbers : RawSlot → List BoundedField
 slot_numbers s =
     record { key = Length; value = s.length; low = 1; high = LONGEST }
     ∷ record { key = Bytes; value = s.bytes; low = 1; high = LARGEST }
     ∷ []
 
 -- a deadline that is absent counts as 0
-abbrev pub process_numbers : RawProcess → List Bounded
+abbrev pub process_numbers : RawProcess → List BoundedField
 process_numbers p =
     record { key = Wcet; value = p.wcet; low = 1; high = LONGEST }
     ∷ record { key = Parts; value = p.parts; low = 1; high = MOST_PARTS }
@@ -40,7 +40,7 @@ process_numbers p =
     ∷ record { key = Deadline; value = unwrap_or p.deadline (pos 0); low = 0; high = LONGEST }
     ∷ []
 
-abbrev pub edge_numbers : RawEdge → List Bounded
+abbrev pub edge_numbers : RawEdge → List BoundedField
 edge_numbers e = record { key = Bytes; value = e.bytes; low = 1; high = LARGEST } ∷ []
 
 abbrev pub is_within : ℕ → ℕ → ℤ → Bool
@@ -48,14 +48,14 @@ is_within low high (pos n) = nat_le low n && nat_le n high
 is_within low high (negsuc n) = false
 
 -- the numbers of one table of the document are in range
-abbrev pub in_range : Table → ℕ → List Bounded → Reading (Unit {0})
+abbrev pub in_range : Table → ℕ → List BoundedField → Reading (Unit {0})
 in_range table i [] = done
 in_range table i (n ∷ ns) = if is_within n.low n.high n.value
     then in_range table i ns
     else Err (OverLimit (Number (record { table = table; index = i; key = n.key })))
 
 -- the numbers of all elements of a list are in range
-abbrev pub all_in_range : {T : Type 0} → Table → (T → List Bounded) → ℕ → List T → Reading (Unit {0})
+abbrev pub all_in_range : {T : Type 0} → Table → (T → List BoundedField) → ℕ → List T → Reading (Unit {0})
 all_in_range table numbers_of i [] = done
 all_in_range table numbers_of i (x ∷ xs) = do
   in_range table i (numbers_of x)

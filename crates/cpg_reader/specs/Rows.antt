@@ -9,7 +9,7 @@ use Rattle.cpg_reader.specs.declared.place.Table.{Table}
 use Rattle.cpg_reader.specs.declared.place.Key.{Key}
 use Rattle.cpg_reader.specs.declared.place.Key.TheVariants.{Faults, Deadline, Node, Slot, Process, Edge, Order, Name, Length, Bytes, Wcet, Parts, Alpha, Chi, Mu, Join, Frozen, Release, From, To, When, Unknown}
 use Rattle.cpg_reader.specs.declared.place.ReadFault.TheVariants.{BadField}
-use Rattle.cpg_reader.specs.declared.row.Row.{Row as RowOfCode}
+use Rattle.cpg_reader.specs.declared.row.DocumentRow.{DocumentRow as RowOfCode}
 use Rattle.cpg_reader.specs.Reading.{Reading, pure, done, ◌>>=◌}
 
 -- a key as it is written
@@ -38,48 +38,48 @@ text_of When = codes "when"
 text_of Unknown = []
 
 -- a table of the document and where it stands
-pub record Row : Type 0 where
+pub record DocumentRow : Type 0 where
   pub table : Table
   pub index : ℕ
   pub members : Members
 
-abbrev pub row_view : RowOfCode → Row
+abbrev pub row_view : RowOfCode → DocumentRow
 row_view r = record { table = r.table; index = r.index; members = table_view r.members.now }
 
 -- the place of a key in a table of the document
-abbrev pub place_in : Row → Key → Place
+abbrev pub place_in : DocumentRow → Key → Place
 place_in row key = record { table = row.table; index = row.index; key = key }
 
 -- the refusal of what stands at a key
-abbrev pub bad : {T : Type 0} → Row → Key → Reading T
+abbrev pub bad : {T : Type 0} → DocumentRow → Key → Reading T
 bad row key = Err (BadField (place_in row key))
 
 -- what stands at a key
-abbrev pub value_at : Row → Key → Option Data
+abbrev pub value_at : DocumentRow → Key → Option Data
 value_at row key = get_member (text_of key) row.members
 
-abbrev pub typed_in : {T : Type 0} → Row → Key → Option T → Reading (Option T)
+abbrev pub typed_in : {T : Type 0} → DocumentRow → Key → Option T → Reading (Option T)
 typed_in row key None = bad row key
 typed_in row key (Some x) = pure (Some x)
 
 -- what stands at a key, as what it has to be, if anything stands there
-abbrev pub optional_in : {T : Type 0} → Row → Key → (Data → Option T) → Option Data → Reading (Option T)
+abbrev pub optional_in : {T : Type 0} → DocumentRow → Key → (Data → Option T) → Option Data → Reading (Option T)
 optional_in row key as_type None = pure None
 optional_in row key as_type (Some d) = typed_in row key (as_type d)
 
-unfoldable pub optional : {T : Type 0} → (Data → Option T) → Row → Key → Reading (Option T)
+unfoldable pub optional : {T : Type 0} → (Data → Option T) → DocumentRow → Key → Reading (Option T)
 optional as_type row key = optional_in row key as_type (value_at row key)
 
-abbrev pub required_in : {T : Type 0} → Row → Key → Option T → Reading T
+abbrev pub required_in : {T : Type 0} → DocumentRow → Key → Option T → Reading T
 required_in row key None = bad row key
 required_in row key (Some x) = pure x
 
 -- what stands at a key, as what it has to be; something has to stand there
-abbrev pub required : {T : Type 0} → (Data → Option T) → Row → Key → Reading T
+abbrev pub required : {T : Type 0} → (Data → Option T) → DocumentRow → Key → Reading T
 required as_type row key = optional as_type row key >>= required_in row key
 
 -- what stands at a key, as what it has to be, or a default if nothing stands there
-abbrev pub with_default : {T : Type 0} → T → (Data → Option T) → Row → Key → Reading T
+abbrev pub with_default : {T : Type 0} → T → (Data → Option T) → DocumentRow → Key → Reading T
 with_default value as_type row key = do
   found ← optional as_type row key
   pure (unwrap_or found value)
@@ -111,21 +111,21 @@ are_listed keys no_members = true
 are_listed keys (member text d ms) = list_any (λ key. bytes_eq (text_of key) text) keys && are_listed keys ms
 
 -- a table has none but these keys
-unfoldable pub only : List Key → Row → Reading (Unit {0})
+unfoldable pub only : List Key → DocumentRow → Reading (Unit {0})
 only keys row = if are_listed keys row.members then done else bad row Unknown
 
 -- the fields of a table, by what they are
-unfoldable pub name_at : Row → Key → Reading (List ℕ)
+unfoldable pub name_at : DocumentRow → Key → Reading (List ℕ)
 name_at = required as_name
 
-unfoldable pub integer_at : Row → Key → Reading ℤ
+unfoldable pub integer_at : DocumentRow → Key → Reading ℤ
 integer_at = required as_integer
 
-unfoldable pub integer_or : ℤ → Row → Key → Reading ℤ
+unfoldable pub integer_or : ℤ → DocumentRow → Key → Reading ℤ
 integer_or value = with_default value as_integer
 
-unfoldable pub flag_or : Bool → Row → Key → Reading Bool
+unfoldable pub flag_or : Bool → DocumentRow → Key → Reading Bool
 flag_or value = with_default value as_bool
 
-unfoldable pub tables_at : Row → Key → Reading (List Members)
+unfoldable pub tables_at : DocumentRow → Key → Reading (List Members)
 tables_at = with_default [] as_tables

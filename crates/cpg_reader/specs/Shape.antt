@@ -13,15 +13,15 @@ use Rattle.cpg_reader.specs.declared.shape.RawWork.{RawWork}
 use Rattle.cpg_reader.specs.declared.shape.RawLink.{RawLink}
 use Rattle.cpg_reader.specs.declared.shape.Tops.{Tops as TopsOfCode}
 use Rattle.cpg_reader.specs.Reading.{Reading, pure, ◌>>=◌, ◌>>◌, each}
-use Rattle.cpg_reader.specs.Rows.{Row, name_at, integer_at, integer_or, flag_or, optional, as_names, tables_at, only}
+use Rattle.cpg_reader.specs.Rows.{DocumentRow, name_at, integer_at, integer_or, flag_or, optional, as_names, tables_at, only}
 
-unfoldable pub node_at : Row → Reading (List ℕ)
+unfoldable pub node_at : DocumentRow → Reading (List ℕ)
 node_at row = do
   name ← name_at row Name
   only (Name ∷ []) row
   pure name
 
-unfoldable pub slot_at : Row → Reading RawSlot
+unfoldable pub slot_at : DocumentRow → Reading RawSlot
 slot_at row = do
   node ← name_at row Node
   length ← integer_at row Length
@@ -29,7 +29,7 @@ slot_at row = do
   only (Node ∷ Length ∷ Bytes ∷ []) row
   pure (record { node = node; length = length; bytes = bytes })
 
-unfoldable pub process_at : Row → Reading RawProcess
+unfoldable pub process_at : DocumentRow → Reading RawProcess
 process_at row = do
   name ← name_at row Name
   node ← name_at row Node
@@ -58,7 +58,7 @@ process_at row = do
   })
 
 -- what a process has beside its names, and the end of its table
-unfoldable pub work_at : Row → Reading RawWork
+unfoldable pub work_at : DocumentRow → Reading RawWork
 work_at row = do
   wcet ← integer_at row Wcet
   parts ← integer_or (pos 1) row Parts
@@ -88,7 +88,7 @@ process_with name node w = record {
   deadline = w.deadline;
 }
 
-unfoldable pub edge_at : Row → Reading RawEdge
+unfoldable pub edge_at : DocumentRow → Reading RawEdge
 edge_at row = do
   from ← name_at row From
   to ← name_at row To
@@ -99,7 +99,7 @@ edge_at row = do
   pure (record { from = from; to = to; bytes = bytes; when = when; frozen = frozen })
 
 -- what an edge has beside its ends, and the end of its table
-unfoldable pub link_at : Row → Reading RawLink
+unfoldable pub link_at : DocumentRow → Reading RawLink
 link_at row = do
   bytes ← integer_or (pos 1) row Bytes
   when ← optional as_bool row When
@@ -112,7 +112,7 @@ abbrev pub edge_with : List ℕ → List ℕ → RawLink → RawEdge
 edge_with from to l = record { from = from; to = to; bytes = l.bytes; when = l.when; frozen = l.frozen }
 
 -- the elements of a list of the document
-abbrev pub rows_at : {T : Type 0} → Table → (Row → Reading T) → List Members → Reading (List T)
+abbrev pub rows_at : {T : Type 0} → Table → (DocumentRow → Reading T) → List Members → Reading (List T)
 rows_at table element_at members = each (λ i ms. element_at (record { table = table; index = i; members = ms })) 0 members
 
 -- what a document says: numbers of any size, and names that need not name anything
@@ -139,7 +139,7 @@ raw_view p = record {
 -- the whole document: first the keys of the top, then each element of each list
 unfoldable pub raw_graph_at : Members → Reading RawGraph
 raw_graph_at ms = do
-  let top : Row = record { table = tables.Top; index = 0; members = ms }
+  let top : DocumentRow = record { table = tables.Top; index = 0; members = ms }
   faults ← integer_at top Faults
   deadline ← integer_at top Deadline
   node_tables ← tables_at top Node
@@ -176,7 +176,7 @@ tops_view t = record {
 }
 
 -- the tables of each list, the names of the order, and the end of the top
-unfoldable pub lists_at : Row → ℤ → ℤ → Reading Tops
+unfoldable pub lists_at : DocumentRow → ℤ → ℤ → Reading Tops
 lists_at top faults deadline = do
   node_tables ← tables_at top Node
   slot_tables ← tables_at top Slot
@@ -187,7 +187,7 @@ lists_at top faults deadline = do
   pure (record { faults = faults; deadline = deadline; nodes = node_tables; slots = slot_tables; processes = process_tables; edges = edge_tables; order = order })
 
 -- all keys of the top
-unfoldable pub tops_at : Row → Reading Tops
+unfoldable pub tops_at : DocumentRow → Reading Tops
 tops_at top = do
   faults ← integer_at top Faults
   deadline ← integer_at top Deadline

@@ -179,7 +179,7 @@ fn order_of(
 
 /// The parts of a document that hold numbers in place of names.
 #[derive(Drop)]
-struct Parts {
+struct NumberedParts {
     slots: Vec<Slot>,
     processes: Vec<Process>,
     edges: Vec<Edge>,
@@ -192,7 +192,7 @@ fn resolved(
     raw: &RawProblem,
     nodes: &Names<'_>,
     names: &Names<'_>,
-) -> Result<Parts, ReadFault>
+) -> Result<NumberedParts, ReadFault>
     requires limits { limits (raw_view raw.now) ≡ Ok tt }
     requires nodes { nodes.now ≡ (raw_view raw.now).nodes }
     requires names { names.now ≡ process_names (raw_view raw.now).processes }
@@ -202,7 +202,7 @@ fn resolved(
     let processes = processes_of(alloc, raw, nodes)?;
     let edges = edges_of(alloc, raw, names)?;
     let order = order_of(alloc, raw, names)?;
-    Ok(Parts {
+    Ok(NumberedParts {
         slots,
         processes,
         edges,
@@ -244,7 +244,7 @@ fn order_differs(alloc: Global, raw: &RawProblem) -> Result<(), ReadFault>
 
 /// The parts of a document whose nodes have these names.
 #[tactic(auto, unfolding(crate::specs::Names::named))]
-fn parts_on(alloc: Global, raw: &RawProblem, nodes: &Names<'_>) -> Result<Parts, ReadFault>
+fn parts_on(alloc: Global, raw: &RawProblem, nodes: &Names<'_>) -> Result<NumberedParts, ReadFault>
     requires limits { limits (raw_view raw.now) ≡ Ok tt }
     requires nodes { nodes.now ≡ (raw_view raw.now).nodes }
     ensures { Gives (λ p. graph_with (raw_view raw.now) p.slots.items p.processes.items p.edges.items (option_map (λ v. v.items) p.order)) result (named (raw_view raw.now)) }
@@ -255,7 +255,7 @@ fn parts_on(alloc: Global, raw: &RawProblem, nodes: &Names<'_>) -> Result<Parts,
 }
 
 #[tactic(auto, unfolding(crate::specs::Names::graph_of, crate::specs::Names::named))]
-fn parts_of(alloc: Global, raw: &RawProblem) -> Result<Parts, ReadFault>
+fn parts_of(alloc: Global, raw: &RawProblem) -> Result<NumberedParts, ReadFault>
     requires { limits (raw_view raw.now) ≡ Ok tt }
     ensures { Gives (λ p. graph_with (raw_view raw.now) p.slots.items p.processes.items p.edges.items (option_map (λ v. v.items) p.order)) result (graph_of (raw_view raw.now)) }
 {

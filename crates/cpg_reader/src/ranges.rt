@@ -19,7 +19,7 @@ const LARGEST: u64 = cpg_base::LARGEST as u64;
 
 /// The number of a key, and the least and the greatest that it may be.
 #[derive(Clone, Copy)]
-pub struct Bounded {
+pub struct BoundedField {
     pub key: Key,
     pub value: i64,
     pub low: u64,
@@ -28,7 +28,7 @@ pub struct Bounded {
 
 /// An element with numbers.
 pub trait Numbered {
-    ghost use Rattle.cpg_reader.specs.declared.ranges.Bounded.{Bounded as BoundedNumber};
+    ghost use Rattle.cpg_reader.specs.declared.ranges.BoundedField.{BoundedField as BoundedNumber};
 
     ghost numbers: { Self → List BoundedNumber };
 
@@ -42,11 +42,11 @@ fn is_within(value: i64, low: u64, high: u64) -> bool
     value >= 0 && low <= value as u64 && value as u64 <= high
 }
 
-impl Bounded {
-    fn new(key: Key, value: i64, low: u64, high: u64) -> Bounded
+impl BoundedField {
+    fn new(key: Key, value: i64, low: u64, high: u64) -> BoundedField
         ensures { result ≡ record { key = key; value = value; low = low; high = high } }
     {
-        Bounded {
+        BoundedField {
             key,
             value,
             low,
@@ -55,7 +55,7 @@ impl Bounded {
     }
 }
 
-fn in_range(table: Table, index: u64, numbers: &[Bounded]) -> Result<(), ReadFault>
+fn in_range(table: Table, index: u64, numbers: &[BoundedField]) -> Result<(), ReadFault>
     ensures { Gives (λ _. tt) result (in_range table index numbers.now) }
 {
     for number in numbers {
@@ -78,8 +78,8 @@ impl Numbered for RawSlot {
             table,
             index,
             &[
-                Bounded::new(Key::Length, self.length, 1, LONGEST),
-                Bounded::new(Key::Bytes, self.bytes, 1, LARGEST),
+                BoundedField::new(Key::Length, self.length, 1, LONGEST),
+                BoundedField::new(Key::Bytes, self.bytes, 1, LARGEST),
             ],
         )
     }
@@ -93,13 +93,13 @@ impl Numbered for RawProcess {
             table,
             index,
             &[
-                Bounded::new(Key::Wcet, self.wcet, 1, LONGEST),
-                Bounded::new(Key::Parts, self.parts, 1, MOST_PARTS),
-                Bounded::new(Key::Alpha, self.alpha, 0, LONGEST),
-                Bounded::new(Key::Chi, self.chi, 0, LONGEST),
-                Bounded::new(Key::Mu, self.mu, 0, LONGEST),
-                Bounded::new(Key::Release, self.release, 0, LONGEST),
-                Bounded::new(Key::Deadline, self.deadline.unwrap_or(0), 0, LONGEST),
+                BoundedField::new(Key::Wcet, self.wcet, 1, LONGEST),
+                BoundedField::new(Key::Parts, self.parts, 1, MOST_PARTS),
+                BoundedField::new(Key::Alpha, self.alpha, 0, LONGEST),
+                BoundedField::new(Key::Chi, self.chi, 0, LONGEST),
+                BoundedField::new(Key::Mu, self.mu, 0, LONGEST),
+                BoundedField::new(Key::Release, self.release, 0, LONGEST),
+                BoundedField::new(Key::Deadline, self.deadline.unwrap_or(0), 0, LONGEST),
             ],
         )
     }
@@ -112,7 +112,7 @@ impl Numbered for RawEdge {
         in_range(
             table,
             index,
-            &[Bounded::new(Key::Bytes, self.bytes, 1, LARGEST)],
+            &[BoundedField::new(Key::Bytes, self.bytes, 1, LARGEST)],
         )
     }
 }
@@ -133,8 +133,8 @@ fn top_in_range(raw: &RawProblem) -> Result<(), ReadFault>
         Table::Top,
         0,
         &[
-            Bounded::new(Key::Faults, raw.faults, 0, MOST_FAULTS),
-            Bounded::new(Key::Deadline, raw.deadline, 0, LONGEST),
+            BoundedField::new(Key::Faults, raw.faults, 0, MOST_FAULTS),
+            BoundedField::new(Key::Deadline, raw.deadline, 0, LONGEST),
         ],
     )
 }

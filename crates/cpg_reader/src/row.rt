@@ -14,13 +14,13 @@ use toml::value::Array;
 
 /// A table of the document, and where it stands.
 #[derive(Clone, Copy)]
-pub struct Row<'a> {
+pub struct DocumentRow<'a> {
     pub table: Table,
     pub index: u64,
     pub members: &'a toml::Table,
 }
 
-impl<'a> Row<'a> {
+impl<'a> DocumentRow<'a> {
     fn bad(&self, key: Key) -> ReadFault
         ensures { result ≡ ReadFault.BadField (place_in (row_view self.now) key) }
     {

@@ -2,11 +2,11 @@
 ghost use Rattle.std.specs.Prelude.{◌≡◌, map};
 ghost use Rattle.toml.specs.View.{table_view};
 ghost use Rattle.cpg_reader.specs.Reading.{Reading, Gives, each};
-ghost use Rattle.cpg_reader.specs.Rows.{Row as RowOfDocument, row_view};
+ghost use Rattle.cpg_reader.specs.Rows.{DocumentRow as RowOfDocument, row_view};
 ghost use Rattle.cpg_reader.specs.Shape.{node_at, slot_at, process_at, work_at, edge_at, link_at, rows_at, raw_view, raw_graph_at, tops_view, tops_at, lists_at, elements_at};
 
 use crate::place::{Key, ReadFault, Table};
-use crate::row::Row;
+use crate::row::DocumentRow;
 use cpg_base::Name;
 use std::alloc::Global;
 
@@ -14,7 +14,7 @@ use std::alloc::Global;
 pub trait Element {
     ghost reads: { RowOfDocument → Reading Self };
 
-    fn read(alloc: Global, row: &Row<'_>) -> Result<Self, ReadFault>
+    fn read(alloc: Global, row: &DocumentRow<'_>) -> Result<Self, ReadFault>
         ensures { Gives (λ x. x) result (reads (row_view row.now)) };
 }
 
@@ -68,7 +68,7 @@ impl Element for Name {
     ghost reads = { node_at };
 
     #[tactic(auto, unfolding(crate::specs::Shape::node_at))]
-    fn read(alloc: Global, row: &Row<'_>) -> Result<Name, ReadFault> {
+    fn read(alloc: Global, row: &DocumentRow<'_>) -> Result<Name, ReadFault> {
         let name = row.name(alloc, Key::Name)?;
         row.only(&[Key::Name])?;
         Ok(name)
@@ -79,7 +79,7 @@ impl Element for RawSlot {
     ghost reads = { slot_at };
 
     #[tactic(auto, unfolding(crate::specs::Shape::slot_at))]
-    fn read(alloc: Global, row: &Row<'_>) -> Result<RawSlot, ReadFault> {
+    fn read(alloc: Global, row: &DocumentRow<'_>) -> Result<RawSlot, ReadFault> {
         let node = row.name(alloc, Key::Node)?;
         let length = row.integer(Key::Length)?;
         let bytes = row.integer(Key::Bytes)?;
@@ -108,7 +108,7 @@ struct RawWork {
 
 /// What a process has beside its names, if its table has no other key.
 #[tactic(auto, unfolding(crate::specs::Shape::work_at))]
-fn read_work(row: &Row<'_>) -> Result<RawWork, ReadFault>
+fn read_work(row: &DocumentRow<'_>) -> Result<RawWork, ReadFault>
     ensures { Gives (λ x. x) result (work_at (row_view row.now)) }
 {
     let wcet = row.integer(Key::Wcet)?;
@@ -150,7 +150,7 @@ impl Element for RawProcess {
     ghost reads = { process_at };
 
     #[tactic(auto, unfolding(crate::specs::Shape::process_at))]
-    fn read(alloc: Global, row: &Row<'_>) -> Result<RawProcess, ReadFault> {
+    fn read(alloc: Global, row: &DocumentRow<'_>) -> Result<RawProcess, ReadFault> {
         let name = row.name(alloc, Key::Name)?;
         let node = row.name(alloc, Key::Node)?;
         let work = read_work(row)?;
@@ -180,7 +180,7 @@ struct RawLink {
 
 /// What an edge has beside its ends, if its table has no other key.
 #[tactic(auto, unfolding(crate::specs::Shape::link_at))]
-fn read_link(row: &Row<'_>) -> Result<RawLink, ReadFault>
+fn read_link(row: &DocumentRow<'_>) -> Result<RawLink, ReadFault>
     ensures { Gives (λ x. x) result (link_at (row_view row.now)) }
 {
     let bytes = row.integer_or(Key::Bytes, 1)?;
@@ -198,7 +198,7 @@ impl Element for RawEdge {
     ghost reads = { edge_at };
 
     #[tactic(auto, unfolding(crate::specs::Shape::edge_at))]
-    fn read(alloc: Global, row: &Row<'_>) -> Result<RawEdge, ReadFault> {
+    fn read(alloc: Global, row: &DocumentRow<'_>) -> Result<RawEdge, ReadFault> {
         let from = row.name(alloc, Key::From)?;
         let to = row.name(alloc, Key::To)?;
         let link = read_link(row)?;
@@ -222,7 +222,7 @@ fn rows<T: Element + Drop>(
 {
     let mut rows = Vec::with_capacity(alloc, elements.len())?;
     for (index, members) in elements.iter().enumerate() {
-        let row = Row {
+        let row = DocumentRow {
             table,
             index: index as u64,
             members,
@@ -248,7 +248,7 @@ struct Tops<'a> {
 #[tactic(auto, unfolding(crate::specs::Shape::lists_at))]
 fn read_lists<'a>(
     alloc: Global,
-    top: &Row<'a>,
+    top: &DocumentRow<'a>,
     faults: i64,
     deadline: i64,
 ) -> Result<Tops<'a>, ReadFault>
@@ -281,7 +281,7 @@ fn read_lists<'a>(
 
 /// What stands at the keys of the top.
 #[tactic(auto, unfolding(crate::specs::Shape::tops_at))]
-fn read_top<'a>(alloc: Global, top: &Row<'a>) -> Result<Tops<'a>, ReadFault>
+fn read_top<'a>(alloc: Global, top: &DocumentRow<'a>) -> Result<Tops<'a>, ReadFault>
     ensures { Gives tops_view result (tops_at (row_view top.now)) }
 {
     let faults = top.integer(Key::Faults)?;
@@ -313,7 +313,7 @@ fn read_elements(alloc: Global, tops: Tops<'_>) -> Result<RawProblem, ReadFault>
 pub fn raw_problem(alloc: Global, members: &toml::Table) -> Result<RawProblem, ReadFault>
     ensures { Gives raw_view result (raw_graph_at (table_view members.now)) }
 {
-    let top = Row {
+    let top = DocumentRow {
         table: Table::Top,
         index: 0,
         members,

@@ -1,5 +1,6 @@
 -- The trees that are composed along an order are the guards of the processes.
-use Rattle.std.proofs.Common.{ℕ, ◌+◌, ◌<◌, ◌≤◌, ◌≡◌, Bool, true, false, ◌&&◌, if◌then◌else◌, List, [], ◌∷◌, length, get_or, set, map, drop, filter, replicate, Option, Some, None, Contains, arith, refl, sym, ap, ap₂, ◌∙◌, subst, inl, inr, get_or-set_other, get_or-set_same, length-set}
+use Rattle.std.proofs.Common.{ℕ, ◌+◌, ◌<◌, ◌≤◌, ◌≡◌, Bool, true, false, ◌&&◌, if◌then◌else◌, List, [], ◌∷◌, length, get_or, set, map, drop, filter, replicate, Option, Some, None, Contains, arith}
+use Rattle.std.proofs.Common.{refl, sym, ap, ap₂, ◌∙◌, subst, inl, inr, get_or-set_other, get_or-set_same, length-set}
 use Rattle.std.specs.List.{list_all}
 use Rattle.std.proofs.lemmas.Bool.{cases_eq}
 use Rattle.std.proofs.lemmas.List.{length-map, length-replicate}
@@ -141,9 +142,11 @@ module _ (g : Graph) (order : List ℕ) (topological : IsTopological g order) wh
         record {
           is = λ o long. met_at o join (place_ranks g order) (input_tree g join trees (input_of g e)) (composed g join (place_ranks g order) trees (map (input_of g) (d ∷ es)))
               ∙ ap₂ (first_settling join) (input_at e c o long) (later.is o long) ∙ by_more (live g o e) join e d es (live g o) refl;
-          ranked = met_ranked (place_ranks g order) ranks_apart (place order p) join 0 (input_tree g join trees (input_of g e)) (composed g join (place_ranks g order) trees (map (input_of g) (d ∷ es)))
+          ranked = met_ranked (place_ranks g order) ranks_apart (place order p) join 0 (input_tree g join trees (input_of g e))
+              (composed g join (place_ranks g order) trees (map (input_of g) (d ∷ es)))
               (input_ranked e c) later.ranked;
-          reduced = met_reduced join (place_ranks g order) (input_tree g join trees (input_of g e)) (composed g join (place_ranks g order) trees (map (input_of g) (d ∷ es))) (input_reduced e c) later.reduced;
+          reduced = met_reduced join (place_ranks g order) (input_tree g join trees (input_of g e)) (composed g join (place_ranks g order) trees (map (input_of g) (d ∷ es)))
+              (input_reduced e c) later.reduced;
         }
 
   -- the trees of the processes before a place are made
@@ -156,7 +159,8 @@ module _ (g : Graph) (order : List ℕ) (topological : IsTopological g order) wh
   one_more_composed k p trees are h at = record {
     long = length-set trees p tree ∙ are.long;
     made = λ q l m. elim (cases_eq q p) [
-      | inl e ↦ subst (λ x. IsComposed x (get_or (set trees p tree) x (Leaf Inactive))) (sym e) (subst (IsComposed p) (sym (get_or-set_same trees p tree (Leaf Inactive) (omega (arith, are.long)))) its)
+      | inl e ↦ subst (λ x. IsComposed x (get_or (set trees p tree) x (Leaf Inactive))) (sym e)
+          (subst (IsComposed p) (sym (get_or-set_same trees p tree (Leaf Inactive) (omega (arith, are.long)))) its)
       | inr n ↦ subst (IsComposed q) (sym (get_or-set_other trees p q tree (Leaf Inactive) n)) (are.made q l (let d = place_differs g order topological q p l h n in omega (arith, at)))
     ];
   }

@@ -1,5 +1,6 @@
 -- The ways along an order are as many as the graph has tracks.
-use Rattle.std.proofs.Common.{ℕ, ◌+◌, ◌<◌, ◌≤◌, ◌≡◌, Bool, true, false, ◌&&◌, if◌then◌else◌, List, [], ◌∷◌, ◌++◌, length, get_or, set, map, drop, replicate, sum_by, Option, Some, None, arith, refl, sym, ap, ap₂, ◌∙◌, subst, get_or-set_other, get_or-set_same, length-set}
+use Rattle.std.proofs.Common.{ℕ, ◌+◌, ◌<◌, ◌≤◌, ◌≡◌, Bool, true, false, ◌&&◌, if◌then◌else◌, List, [], ◌∷◌, ◌++◌, length, get_or, set, map, drop, replicate, sum_by, Option, Some, None, arith, refl}
+use Rattle.std.proofs.Common.{sym, ap, ap₂, ◌∙◌, subst, get_or-set_other, get_or-set_same, length-set}
 use Rattle.std.specs.Option.{option_to_list}
 use Rattle.std.proofs.lemmas.List.{get_or-replicate, length-replicate}
 use Rattle.cpg_base.specs.declared.activation.Activation.{Activation}
@@ -51,7 +52,8 @@ module _ (g : Graph) (order : List ℕ) (topological : IsTopological g order) (f
     turns : (c : ℕ) → condition_of g p ≡ Some c → IsOnWay (k + 1) (settled s (step_of g p) true) (set o c true)
     turns c its = record {
       count = length-set o c true ∙ on.count;
-      follows = follows_on g order topological k s are p h few at true (set o c true) moved (λ d l e a. subst (λ x. get_or (set o c true) x false ≡ true) (sym (same_condition g d c l within (e ∙ sym of_it))) (get_or-set_same o c true false (omega (arith, within, on.count))));
+      follows = follows_on g order topological k s are p h few at true (set o c true) moved
+          (λ d l e a. subst (λ x. get_or (set o c true) x false ≡ true) (sym (same_condition g d c l within (e ∙ sym of_it))) (get_or-set_same o c true false (omega (arith, within, on.count))));
       rest = λ d l m. get_or-set_other o c d true false (λ e. let f = ap (λ x. place order (process_of g x)) e in let j = ap (place order) of_it in omega arith) ∙ on.rest d l (omega arith);
     }
       where
@@ -69,7 +71,8 @@ module _ (g : Graph) (order : List ℕ) (topological : IsTopological g order) (f
     -- the value of its condition is free exactly if it is active
     free_here : (c : ℕ) → condition_of g p ≡ Some c → is_value_free g (all_values g) o c ≡ is_active here
     free_here c its =
-        ap (λ b. b && active g o (process_of g c)) (is_in_from (all_values g) (value_variable c) (Contains-map value_variable (numbers_below (condition_count g)) c (Contains-numbers (condition_count g) c (condition_of_below g p c its))))
+        ap (λ b. b && active g o (process_of g c))
+        (is_in_from (all_values g) (value_variable c) (Contains-map value_variable (numbers_below (condition_count g)) c (Contains-numbers (condition_count g) c (condition_of_below g p c its))))
         ∙ ap (active g o) (process_of_condition_of g p c its)
         ∙ ap is_active (sym (activation_here g order topological k s are o on.follows p h at))
 
@@ -104,5 +107,10 @@ module _ (g : Graph) (order : List ℕ) (topological : IsTopological g order) (f
 
   pub tracks_counted : tracks_from (map (step_of g) order) (replicate 128 None) ≡ track_count g
   tracks_counted = counted order 0 (replicate 128 None) (all_false g) refl (none_settled g order topological few)
-      (record { count = length-replicate (condition_count g) false; follows = all_follow g order topological few (replicate 128 None) (all_false g); rest = λ c l m. get_or-replicate (condition_count g) c false false l })
+      (record {
+        count = length-replicate (condition_count g) false;
+        follows = all_follow g order topological few (replicate 128 None) (all_false g);
+        rest =
+            λ c l m. get_or-replicate (condition_count g) c false false l;
+      })
       ∙ sym (tracks_chosen g order topological)

@@ -48,7 +48,8 @@ module _ (g : Graph) (order : List ℕ) (topological : IsTopological g order) wh
       below (Some c) (Some v) f = f c refl
 
   -- a test passes if the edge takes the value
-  pub passed : (values : List Bool) (e : ℕ) → e < edge_count g → (x : Option ℕ) → condition_of g (source g e) ≡ x → (w : Option Bool) → (edge_at g e).when ≡ w → is_passed (test_of x w) values ≡ takes w (value_of g values (source g e))
+  pub passed : (values : List Bool) (e : ℕ) → e < edge_count g → (x : Option ℕ) → condition_of g (source g e) ≡ x → (w : Option Bool) → (edge_at g e).when ≡ w →
+      is_passed (test_of x w) values ≡ takes w (value_of g values (source g e))
   passed values e h None is None when = refl
   passed values e h (Some c) is None when = refl
   passed values e h None is (Some v) when =
@@ -63,7 +64,8 @@ module _ (g : Graph) (order : List ℕ) (topological : IsTopological g order) wh
 
     pub live_by-is : (e : ℕ) → e < edge_count g → live_by guards values e ≡ live g values e
     live_by-is e h =
-        ap (λ x. active_by guards values x.source && is_passed x.test values) (ap (λ xs. get_or xs e (record { source = 0; test = None })) are.edges ∙ get_or-map-below (edge_guard_of g) (edge_count g) e (record { source = 0; test = None }) h)
+        ap (λ x. active_by guards values x.source && is_passed x.test values)
+        (ap (λ xs. get_or xs e (record { source = 0; test = None })) are.edges ∙ get_or-map-below (edge_guard_of g) (edge_count g) e (record { source = 0; test = None }) h)
         ∙ ap₂ ◌&&◌ (active_by-is (source g e) (source_in_order g order topological e h)) (passed values e h (condition_of g (source g e)) refl (edge_at g e).when refl)
 
 pub length-edges : (g : Graph) (order : List ℕ) (guards : Guards) → AreGuardsOf g order guards → length guards.edges ≡ edge_count g

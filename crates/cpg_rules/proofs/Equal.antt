@@ -19,4 +19,5 @@ same_guard-is (Test c off on) (Test d low high) h =
 
 pub same_guard-refl : (t : Guard) → same_guard t t ≡ true
 same_guard-refl (Leaf a) = same_activation_refl a
-same_guard-refl (Test c off on) = and_from (c == c) (same_guard off off && same_guard on on) (eq-eqb c c refl) (and_from (same_guard off off) (same_guard on on) (same_guard-refl off) (same_guard-refl on))
+same_guard-refl (Test c off on) = and_from (c == c) (same_guard off off && same_guard on on) (eq-eqb c c refl)
+    (and_from (same_guard off off) (same_guard on on) (same_guard-refl off) (same_guard-refl on))

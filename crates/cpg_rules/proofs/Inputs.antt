@@ -16,7 +16,8 @@ module _ (g : Graph) (edges : List Edge) (are : edges ≡ g.edges) (p n : ℕ) (
   at : here ≡ edge_at g n
   at = ap (λ es. get_or es n (record { from = 0; to = 0; size = 0; when = None; frozen = false })) are
 
-  pub one_more : (ys : List Input) → here.to ≡ p → ys ≡ xs ++ (record { edge = n; source = here.from; when = here.when }) ∷ [] → ys ≡ map (input_of g) (filter (λ e. target g e == p) (numbers_below (n + 1)))
+  pub one_more : (ys : List Input) → here.to ≡ p → ys ≡ xs ++ (record { edge = n; source = here.from; when = here.when }) ∷ [] →
+      ys ≡ map (input_of g) (filter (λ e. target g e == p) (numbers_below (n + 1)))
   one_more ys h is = collects (input_of g) (λ e. target g e == p) xs ys (record { edge = n; source = here.from; when = here.when }) n so_far
       (eq-eqb (target g n) p (ap (λ (d : Edge). d.to) (sym at) ∙ h))
       (ap (λ (d : Edge). let i : Input = record { edge = n; source = d.from; when = d.when } in i) at) is

@@ -5,12 +5,12 @@ use Rattle.cpg_base.specs.Numbers.{numbers_below}
 use Rattle.cpg_base.specs.Graph.{Graph, process_count, condition_count, edge_count}
 use Rattle.cpg_order.specs.Urgency.{IsTopological}
 use Rattle.cpg_order.specs.Guard.{Guard, Leaf, IsGuardOf}
-use Rattle.cpg_rules.specs.Steps.{Step, step_of}
+use Rattle.cpg_rules.specs.Steps.{ActivationStep, step_of}
 use Rattle.cpg_rules.specs.Composing.{composed_along}
 use Rattle.cpg_rules.specs.Guards.{Guards, edge_guard_of, AreGuardsOf}
 use Rattle.cpg_rules.proofs.Composed.{place_ranks, length_composed, composed_guards}
 
-pub made : (g : Graph) (order : List ℕ) → IsTopological g order → (ranks : List ℕ) → ranks ≡ place_ranks g order → (steps : List Step) → steps ≡ map (step_of g) order
+pub made : (g : Graph) (order : List ℕ) → IsTopological g order → (ranks : List ℕ) → ranks ≡ place_ranks g order → (steps : List ActivationStep) → steps ≡ map (step_of g) order
     → (seeds : List Guard) → seeds ≡ replicate (process_count g) (Leaf Inactive)
     → (guards : Guards) → guards.conditions ≡ condition_count g → guards.trees ≡ composed_along g ranks steps seeds
     → guards.edges ≡ map (edge_guard_of g) (numbers_below (edge_count g))

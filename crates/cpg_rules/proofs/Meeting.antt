@@ -1,5 +1,6 @@
 -- What composed trees come to, in which order they test, and that they are reduced.
-use Rattle.std.proofs.Common.{ℕ, ◌+◌, ◌<◌, ◌≤◌, ◌≡◌, ◌≢◌, Bool, true, false, ◌&&◌, ◌==◌, if◌then◌else◌, List, length, get_or, Option, Some, None, arith, refl, sym, ap, ◌∙◌, subst, eqb-true, ltb-true, ltb-false}
+use Rattle.std.proofs.Common.{ℕ, ◌+◌, ◌<◌, ◌≤◌, ◌≡◌, ◌≢◌, Bool, true, false, ◌&&◌, ◌==◌, if◌then◌else◌, List, length, get_or, Option, Some, None, arith, refl, sym, ap, ◌∙◌, subst, eqb-true, ltb-true}
+use Rattle.std.proofs.Common.{ltb-false}
 use Rattle.std.specs.Bool.{nat_lt}
 use Rattle.std.proofs.lemmas.Bool.{both_ways, eqb-false}
 use Rattle.cpg_base.specs.declared.activation.Activation.{Activation}
@@ -43,7 +44,8 @@ module _ (o : List Bool) where
       no_at true = refl
       no_at false = refl
 
-      go : (w : Bool) → outcome_at (if w then tested t.condition (Leaf Inactive) (Leaf a) else tested t.condition (Leaf a) (Leaf Inactive)) o ≡ (if same_bool w (get_or o t.condition false) then a else Inactive)
+      go : (w : Bool) → outcome_at (if w then tested t.condition (Leaf Inactive) (Leaf a) else tested t.condition (Leaf a) (Leaf Inactive)) o ≡
+          (if same_bool w (get_or o t.condition false) then a else Inactive)
       go true = tested_at t.condition (Leaf Inactive) (Leaf a) ∙ yes_at (get_or o t.condition false)
       go false = tested_at t.condition (Leaf a) (Leaf Inactive) ∙ no_at (get_or o t.condition false)
 
@@ -86,7 +88,8 @@ module _ (o : List Bool) where
       against_at (Leaf b) = tested_at c (off (Leaf b)) (on (Leaf b)) ∙ own (Leaf b) (get_or o c false)
       against_at (Test d s t) = go (c == d) (nat_lt (rank ranks d) (rank ranks c)) refl (against_at s) (against_at t)
         where
-          go : (a b : Bool) → (c == d) ≡ a → outcome_at (against ranks c off on s) o ≡ first_settling join mine (outcome_at s o) → outcome_at (against ranks c off on t) o ≡ first_settling join mine (outcome_at t o)
+          go : (a b : Bool) → (c == d) ≡ a → outcome_at (against ranks c off on s) o ≡ first_settling join mine (outcome_at s o) →
+              outcome_at (against ranks c off on t) o ≡ first_settling join mine (outcome_at t o)
               → outcome_at (if a then tested c (off s) (on t) else (if b then tested d (against ranks c off on s) (against ranks c off on t) else tested c (off (Test d s t)) (on (Test d s t)))) o
               ≡ first_settling join mine (if get_or o d false then outcome_at t o else outcome_at s o)
           go true b e h k = tested_at c (off s) (on t) ∙ at_once d s t (eqb-true c d e) (get_or o c false) refl
@@ -165,8 +168,10 @@ module _ (ranks : List ℕ) where
           (λ l. against_ranked (rank ranks d + 1) s l r.3) (λ l. against_ranked (rank ranks d + 1) t l r.4)
         where
           go : (a b : Bool) → (c == d) ≡ a → nat_lt (rank ranks d) (rank ranks c) ≡ b
-              → (rank ranks d + 1 ≤ rank ranks c → IsRanked ranks (rank ranks d + 1) m (against ranks c off on s)) → (rank ranks d + 1 ≤ rank ranks c → IsRanked ranks (rank ranks d + 1) m (against ranks c off on t))
-              → IsRanked ranks k m (if a then tested c (off s) (on t) else (if b then tested d (against ranks c off on s) (against ranks c off on t) else tested c (off (Test d s t)) (on (Test d s t))))
+              → (rank ranks d + 1 ≤ rank ranks c → IsRanked ranks (rank ranks d + 1) m (against ranks c off on s)) →
+              (rank ranks d + 1 ≤ rank ranks c → IsRanked ranks (rank ranks d + 1) m (against ranks c off on t))
+              → IsRanked ranks k m (if a then tested c (off s) (on t) else
+              (if b then tested d (against ranks c off on s) (against ranks c off on t) else tested c (off (Test d s t)) (on (Test d s t))))
           go true b e f low high =
               let same = eqb-true c d e in
               tested_ranked k m c (off s) (on t) within h below
@@ -232,4 +237,5 @@ met_reduced join ranks (Leaf a) t r q = go (settles join a)
     go : (v : Bool) → IsReduced (if v then Leaf a else t)
     go true = tt
     go false = q
-met_reduced join ranks (Test c off on) t r q = against_reduced ranks c (met join ranks off) (met join ranks on) (λ u h. met_reduced join ranks off u r.1 h) (λ u h. met_reduced join ranks on u r.2 h) t q
+met_reduced join ranks (Test c off on) t r q = against_reduced ranks c (met join ranks off) (met join ranks on) (λ u h. met_reduced join ranks off u r.1 h)
+    (λ u h. met_reduced join ranks on u r.2 h) t q

@@ -1,5 +1,6 @@
 -- A walk along the steps that it rests on finds what a walk along all steps finds.
-use Rattle.std.proofs.Common.{ℕ, zero, suc, ◌+◌, ◌<◌, ◌≤◌, ◌≡◌, Bool, true, false, ◌&&◌, ◌||◌, ◌==◌, if◌then◌else◌, List, [], ◌∷◌, All, length, get_or, set, map, filter, drop, replicate, Option, Some, None, is_some, arith, refl, sym, ap, ap₂, ◌∙◌, subst, inl, inr, eq-eqb, get_or-set_other, get_or-set_same, length-set}
+use Rattle.std.proofs.Common.{ℕ, zero, suc, ◌+◌, ◌<◌, ◌≤◌, ◌≡◌, Bool, true, false, ◌&&◌, ◌||◌, ◌==◌, if◌then◌else◌, List, [], ◌∷◌, All, length, get_or, set, map, filter, drop, replicate, Option, Some}
+use Rattle.std.proofs.Common.{None, is_some, arith, refl, sym, ap, ap₂, ◌∙◌, subst, inl, inr, eq-eqb, get_or-set_other, get_or-set_same, length-set}
 use Rattle.std.specs.Bool.{nat_lt}
 use Rattle.std.specs.Prelude.{count_by}
 use Rattle.std.specs.List.{list_any, list_all}
@@ -16,7 +17,7 @@ use Rattle.cpg_order.specs.Urgency.{IsTopological}
 use Rattle.cpg_rules.specs.declared.steps.Input.{Input}
 use Rattle.cpg_rules.specs.declared.steps.Aim.{Aim}
 use Rattle.cpg_rules.specs.declared.steps.Aim.TheVariants.{Process, Conditions}
-use Rattle.cpg_rules.specs.Steps.{Step, step_of}
+use Rattle.cpg_rules.specs.Steps.{ActivationStep, step_of}
 use Rattle.cpg_rules.specs.Rested.{reads, are_reading, is_rested, rested}
 use Rattle.cpg_rules.specs.Growing.{is_taken, is_live_in, first_live, activation_from, activation_in, standing, settled, choice, if_both, tracks_from}
 use Rattle.cpg_rules.specs.Alternatives.{are_two_live, first_some, if_other, found_from, is_set, scenario_of, has_two_live}
@@ -65,7 +66,7 @@ module _ (s u : List (Option Bool)) where
 
 -- ---- standings that are alike where steps read them
 
-record IsAlike (steps : List Step) (s u : List (Option Bool)) : Type 0 where
+record IsAlike (steps : List ActivationStep) (s u : List (Option Bool)) : Type 0 where
   long : length s ≡ length u
   same : (q : ℕ) → are_reading steps q ≡ true → get_or s q None ≡ get_or u q None
 
@@ -79,7 +80,7 @@ set_alike s u p q x long same = elim (cases_eq q p) [
   | inr n ↦ get_or-set_other s p q x None n ∙ same ∙ sym (get_or-set_other u p q x None n)
 ]
 
-module _ (step : Step) (kept : List Step) (s u : List (Option Bool)) where
+module _ (step : ActivationStep) (kept : List ActivationStep) (s u : List (Option Bool)) where
   -- what a step reads
   inputs_alike : IsAlike (step ∷ kept) s u → AreLiveAlike s u step.inputs
   inputs_alike alike = live_alike s u step.inputs (λ q r. alike.same q (or_left (reads q step) (are_reading kept q) r))
@@ -112,7 +113,7 @@ not_chosen Plain (Some c) n h = cc
 not_chosen (By e) None n h = refl
 not_chosen (By e) (Some c) n h = cc
 
-tracks_alike : (steps : List Step) (s u : List (Option Bool)) → IsAlike (rested Conditions steps) s u → tracks_from steps s ≡ tracks_from (rested Conditions steps) u
+tracks_alike : (steps : List ActivationStep) (s u : List (Option Bool)) → IsAlike (rested Conditions steps) s u → tracks_from steps s ≡ tracks_from (rested Conditions steps) u
 tracks_alike [] s u alike = refl
 tracks_alike (step ∷ steps) s u alike = go (is_rested Conditions step (rested Conditions steps)) refl alike (λ t w a. tracks_alike steps t w a)
   where
@@ -129,16 +130,16 @@ tracks_alike (step ∷ steps) s u alike = go (is_rested Conditions step (rested 
         let zero = not_chosen (activation_in s step) step.condition (tracks_from steps (settled s step true)) none.0 in
         omega (arith, same, zero)
 
-pub tracks_rested : (steps : List Step) (s : List (Option Bool)) → tracks_from (rested Conditions steps) s ≡ tracks_from steps s
+pub tracks_rested : (steps : List ActivationStep) (s : List (Option Bool)) → tracks_from (rested Conditions steps) s ≡ tracks_from steps s
 tracks_rested steps s = sym (tracks_alike steps s s (record { long = refl; same = λ q r. refl }))
 
 -- ---- the steps that are kept are among the steps
 
-all_cons : (P : Step → Type 0) (step : Step) (steps : List Step) → P step → All P steps → All P (step ∷ steps)
+all_cons : (P : ActivationStep → Type 0) (step : ActivationStep) (steps : List ActivationStep) → P step → All P steps → All P (step ∷ steps)
 all_cons P step steps h t zero d l = h
 all_cons P step steps h t (suc k) d l = t k d (omega arith)
 
-pub all_rested : (P : Step → Type 0) (aim : Aim) (steps : List Step) → All P steps → All P (rested aim steps)
+pub all_rested : (P : ActivationStep → Type 0) (aim : Aim) (steps : List ActivationStep) → All P steps → All P (rested aim steps)
 all_rested P aim [] h = h
 all_rested P aim (step ∷ steps) h =
     let parts = all_parts P step (step ∷ steps) steps refl h in
@@ -184,33 +185,38 @@ found_kept None None y None w h k = tt
 found_kept (Some c) None y None w h k = k
 
 module _ (p : ℕ) where
-  two_alike : (step : Step) (kept : List Step) (s u : List (Option Bool)) → IsAlike (step ∷ kept) s u → are_two_live s step.inputs ≡ are_two_live u step.inputs
+  two_alike : (step : ActivationStep) (kept : List ActivationStep) (s u : List (Option Bool)) → IsAlike (step ∷ kept) s u → are_two_live s step.inputs ≡ are_two_live u step.inputs
   two_alike step kept s u alike = ap (nat_lt 1) (count_alike s u step.inputs (inputs_alike step kept s u alike))
 
   -- if one is found
-  some_alike : (steps : List Step) (s u : List (Option Bool)) → IsAlike (rested (Process p) steps) s u → is_some (found_from p steps s) ≡ is_some (found_from p (rested (Process p) steps) u)
+  some_alike : (steps : List ActivationStep) (s u : List (Option Bool)) → IsAlike (rested (Process p) steps) s u → is_some (found_from p steps s) ≡ is_some (found_from p (rested (Process p) steps) u)
   some_alike [] s u alike = refl
   some_alike (step ∷ steps) s u alike = go (step.process == p) (are_reading (rested (Process p) steps) step.process) refl refl alike (λ t w a. some_alike steps t w a)
     where
       go : (a b : Bool) → (step.process == p) ≡ a → are_reading (rested (Process p) steps) step.process ≡ b
           → IsAlike (if a || b then step ∷ rested (Process p) steps else rested (Process p) steps) s u
           → ((t w : List (Option Bool)) → IsAlike (rested (Process p) steps) t w → is_some (found_from p steps t) ≡ is_some (found_from p (rested (Process p) steps) w))
-          → is_some (if a then (if are_two_live s step.inputs then Some s else None) else first_some (found_from p steps (settled s step false)) (if_other (choice (activation_in s step) step.condition) (found_from p steps (settled s step true))))
+          → is_some (if a then (if are_two_live s step.inputs then Some s else None) else first_some (found_from p steps (settled s step false))
+          (if_other (choice (activation_in s step) step.condition) (found_from p steps (settled s step true))))
           ≡ is_some (found_from p (if a || b then step ∷ rested (Process p) steps else rested (Process p) steps) u)
       go true b e f alike later = ap₂ (λ two at. is_some (if two then Some s else None)) (two_alike step (rested (Process p) steps) s u alike) e ∙ is_u (are_two_live u step.inputs)
-          ∙ ap (λ at. is_some (if at then (if are_two_live u step.inputs then Some u else None) else first_some (found_from p (rested (Process p) steps) (settled u step false)) (if_other (choice (activation_in u step) step.condition) (found_from p (rested (Process p) steps) (settled u step true))))) (sym e)
+          ∙ ap (λ at. is_some (if at then (if are_two_live u step.inputs then Some u else None) else first_some (found_from p (rested (Process p) steps) (settled u step false))
+          (if_other (choice (activation_in u step) step.condition) (found_from p (rested (Process p) steps) (settled u step true))))) (sym e)
         where
           is_u : (two : Bool) → is_some (if two then Some s else None) ≡ is_some (if two then Some u else None)
           is_u true = refl
           is_u false = refl
       go false true e f alike later =
-          ap (λ a. is_some (first_some (found_from p steps (settled s step false)) (if_other (choice a step.condition) (found_from p steps (settled s step true))))) (here_alike step (rested (Process p) steps) s u alike)
+          ap (λ a. is_some (first_some (found_from p steps (settled s step false)) (if_other (choice a step.condition) (found_from p steps (settled s step true)))))
+          (here_alike step (rested (Process p) steps) s u alike)
           ∙ some_kept (choice (activation_in u step) step.condition) (found_from p steps (settled s step false)) (found_from p steps (settled s step true))
           (found_from p (rested (Process p) steps) (settled u step false)) (found_from p (rested (Process p) steps) (settled u step true))
           (later (settled s step false) (settled u step false) (next_alike step (rested (Process p) steps) s u alike false))
           (later (settled s step true) (settled u step true) (next_alike step (rested (Process p) steps) s u alike true))
-          ∙ ap (λ at. is_some (if at then (if are_two_live u step.inputs then Some u else None) else first_some (found_from p (rested (Process p) steps) (settled u step false)) (if_other (choice (activation_in u step) step.condition) (found_from p (rested (Process p) steps) (settled u step true))))) (sym e)
-      go false false e f alike later = some_passed (choice (activation_in s step) step.condition) (found_from p steps (settled s step false)) (found_from p steps (settled s step true)) (found_from p (rested (Process p) steps) u)
+          ∙ ap (λ at. is_some (if at then (if are_two_live u step.inputs then Some u else None) else first_some (found_from p (rested (Process p) steps) (settled u step false))
+          (if_other (choice (activation_in u step) step.condition) (found_from p (rested (Process p) steps) (settled u step true))))) (sym e)
+      go false false e f alike later = some_passed (choice (activation_in s step) step.condition) (found_from p steps (settled s step false)) (found_from p steps (settled s step true))
+          (found_from p (rested (Process p) steps) u)
           (later (settled s step false) u (passed_alike step (rested (Process p) steps) s u alike f false))
           (later (settled s step true) u (passed_alike step (rested (Process p) steps) s u alike f true))
 
@@ -244,9 +250,11 @@ module _ (g : Graph) (order : List ℕ) (topological : IsTopological g order) (f
       long = length-set s q (standing (activation_in s (step_of g q)) v) ∙ sets.long;
       sets = λ r. elim (cases_eq r q) [
         | inl e ↦ ap (λ x. is_set (get_or (settled s (step_of g q) v) x None)) e
-            ∙ ap is_set (get_or-set_same s q (standing (activation_in s (step_of g q)) v) None (omega (arith, sets.long)) ∙ ap (λ a. standing a v) same ∙ sym (get_or-set_same u q (standing (activation_in u (step_of g q)) v) None (omega (arith, long))))
+            ∙ ap is_set (get_or-set_same s q (standing (activation_in s (step_of g q)) v) None (omega (arith, sets.long)) ∙ ap (λ a. standing a v) same ∙
+            sym (get_or-set_same u q (standing (activation_in u (step_of g q)) v) None (omega (arith, long))))
             ∙ sym (ap (λ x. is_set (get_or (settled u (step_of g q) v) x None)) e)
-        | inr n ↦ ap is_set (get_or-set_other s q r (standing (activation_in s (step_of g q)) v) None n) ∙ sets.sets r ∙ sym (ap is_set (get_or-set_other u q r (standing (activation_in u (step_of g q)) v) None n))
+        | inr n ↦ ap is_set (get_or-set_other s q r (standing (activation_in s (step_of g q)) v) None n) ∙ sets.sets r ∙
+            sym (ap is_set (get_or-set_other u q r (standing (activation_in u (step_of g q)) v) None n))
       ];
       fresh = λ r l m. get_or-set_other u q r (standing (activation_in u (step_of g q)) v) None (λ e. let f = ap (place order) e in omega (arith, at)) ∙ sets.fresh r l (omega arith);
     }
@@ -262,12 +270,17 @@ module _ (g : Graph) (order : List ℕ) (topological : IsTopological g order) (f
     where
       go : q < process_count g → place order q ≡ k → (a b : Bool) → (q == p) ≡ a → are_reading (rested (Process p) (map (step_of g) qs)) q ≡ b
           → IsAlike (if a || b then (step_of g q) ∷ (rested (Process p) (map (step_of g) qs)) else (rested (Process p) (map (step_of g) qs))) s u
-          → ((t w : List (Option Bool)) → IsAlike (rested (Process p) (map (step_of g) qs)) t w → AreSetAlike (k + 1) t w → AreFoundAlike (found_from p (map (step_of g) qs) t) (found_from p (rested (Process p) (map (step_of g) qs)) w))
-          → AreFoundAlike (if a then (if are_two_live s (step_of g q).inputs then Some s else None) else first_some (found_from p (map (step_of g) qs) (settled s (step_of g q) false)) (if_other (choice (activation_in s (step_of g q)) (step_of g q).condition) (found_from p (map (step_of g) qs) (settled s (step_of g q) true))))
+          → ((t w : List (Option Bool)) → IsAlike (rested (Process p) (map (step_of g) qs)) t w → AreSetAlike (k + 1) t w →
+          AreFoundAlike (found_from p (map (step_of g) qs) t) (found_from p (rested (Process p) (map (step_of g) qs)) w))
+          → AreFoundAlike (if a then (if are_two_live s (step_of g q).inputs then Some s else None) else first_some (found_from p (map (step_of g) qs) (settled s (step_of g q) false))
+          (if_other (choice (activation_in s (step_of g q)) (step_of g q).condition) (found_from p (map (step_of g) qs) (settled s (step_of g q) true))))
           (found_from p (if a || b then (step_of g q) ∷ (rested (Process p) (map (step_of g) qs)) else (rested (Process p) (map (step_of g) qs))) u)
       go h at true b e f alike later =
-          subst (λ a. AreFoundAlike (if are_two_live s (step_of g q).inputs then Some s else None) (if a then (if are_two_live u (step_of g q).inputs then Some u else None) else first_some (found_from p (rested (Process p) (map (step_of g) qs)) (settled u (step_of g q) false)) (if_other (choice (activation_in u (step_of g q)) (step_of g q).condition) (found_from p (rested (Process p) (map (step_of g) qs)) (settled u (step_of g q) true))))) (sym e)
-          (subst (λ two. AreFoundAlike (if two then Some s else None) (if are_two_live u (step_of g q).inputs then Some u else None)) (sym (two_alike p (step_of g q) (rested (Process p) (map (step_of g) qs)) s u alike)) (at_join (are_two_live u (step_of g q).inputs)))
+          subst (λ a. AreFoundAlike (if are_two_live s (step_of g q).inputs then Some s else None)
+          (if a then (if are_two_live u (step_of g q).inputs then Some u else None) else first_some (found_from p (rested (Process p) (map (step_of g) qs)) (settled u (step_of g q) false))
+          (if_other (choice (activation_in u (step_of g q)) (step_of g q).condition) (found_from p (rested (Process p) (map (step_of g) qs)) (settled u (step_of g q) true))))) (sym e)
+          (subst (λ two. AreFoundAlike (if two then Some s else None) (if are_two_live u (step_of g q).inputs then Some u else None))
+          (sym (two_alike p (step_of g q) (rested (Process p) (map (step_of g) qs)) s u alike)) (at_join (are_two_live u (step_of g q).inputs)))
         where
           at_join : (two : Bool) → AreFoundAlike (if two then Some s else None) (if two then Some u else None)
           at_join true = sets.sets
@@ -275,13 +288,24 @@ module _ (g : Graph) (order : List ℕ) (topological : IsTopological g order) (f
       go h at false true e f alike later =
           let here = here_alike (step_of g q) (rested (Process p) (map (step_of g) qs)) s u alike in
           let long : length u ≡ 128 = sym alike.long ∙ sets.long in
-          subst (λ a. AreFoundAlike (first_some (found_from p (map (step_of g) qs) (settled s (step_of g q) false)) (if_other (choice (activation_in s (step_of g q)) (step_of g q).condition) (found_from p (map (step_of g) qs) (settled s (step_of g q) true)))) (if a then (if are_two_live u (step_of g q).inputs then Some u else None) else first_some (found_from p (rested (Process p) (map (step_of g) qs)) (settled u (step_of g q) false)) (if_other (choice (activation_in u (step_of g q)) (step_of g q).condition) (found_from p (rested (Process p) (map (step_of g) qs)) (settled u (step_of g q) true))))) (sym e)
-          (subst (λ a. AreFoundAlike (first_some (found_from p (map (step_of g) qs) (settled s (step_of g q) false)) (if_other (choice a (step_of g q).condition) (found_from p (map (step_of g) qs) (settled s (step_of g q) true)))) (first_some (found_from p (rested (Process p) (map (step_of g) qs)) (settled u (step_of g q) false)) (if_other (choice (activation_in u (step_of g q)) (step_of g q).condition) (found_from p (rested (Process p) (map (step_of g) qs)) (settled u (step_of g q) true))))) (sym here)
-          (found_kept (choice (activation_in u (step_of g q)) (step_of g q).condition) (found_from p (map (step_of g) qs) (settled s (step_of g q) false)) (found_from p (map (step_of g) qs) (settled s (step_of g q) true)) (found_from p (rested (Process p) (map (step_of g) qs)) (settled u (step_of g q) false)) (found_from p (rested (Process p) (map (step_of g) qs)) (settled u (step_of g q) true))
-          (later (settled s (step_of g q) false) (settled u (step_of g q) false) (next_alike (step_of g q) (rested (Process p) (map (step_of g) qs)) s u alike false) (sets_kept k q h at s u sets long false here))
-          (later (settled s (step_of g q) true) (settled u (step_of g q) true) (next_alike (step_of g q) (rested (Process p) (map (step_of g) qs)) s u alike true) (sets_kept k q h at s u sets long true here))))
+          subst (λ a. AreFoundAlike (first_some (found_from p (map (step_of g) qs) (settled s (step_of g q) false))
+          (if_other (choice (activation_in s (step_of g q)) (step_of g q).condition) (found_from p (map (step_of g) qs) (settled s (step_of g q) true))))
+          (if a then (if are_two_live u (step_of g q).inputs then Some u else None) else first_some (found_from p (rested (Process p) (map (step_of g) qs)) (settled u (step_of g q) false))
+          (if_other (choice (activation_in u (step_of g q)) (step_of g q).condition) (found_from p (rested (Process p) (map (step_of g) qs)) (settled u (step_of g q) true))))) (sym e)
+          (subst (λ a. AreFoundAlike (first_some (found_from p (map (step_of g) qs) (settled s (step_of g q) false))
+          (if_other (choice a (step_of g q).condition) (found_from p (map (step_of g) qs) (settled s (step_of g q) true))))
+          (first_some (found_from p (rested (Process p) (map (step_of g) qs)) (settled u (step_of g q) false))
+          (if_other (choice (activation_in u (step_of g q)) (step_of g q).condition) (found_from p (rested (Process p) (map (step_of g) qs)) (settled u (step_of g q) true))))) (sym here)
+          (found_kept (choice (activation_in u (step_of g q)) (step_of g q).condition) (found_from p (map (step_of g) qs) (settled s (step_of g q) false))
+          (found_from p (map (step_of g) qs) (settled s (step_of g q) true)) (found_from p (rested (Process p) (map (step_of g) qs)) (settled u (step_of g q) false))
+          (found_from p (rested (Process p) (map (step_of g) qs)) (settled u (step_of g q) true))
+          (later (settled s (step_of g q) false) (settled u (step_of g q) false) (next_alike (step_of g q) (rested (Process p) (map (step_of g) qs)) s u alike false)
+          (sets_kept k q h at s u sets long false here))
+          (later (settled s (step_of g q) true) (settled u (step_of g q) true) (next_alike (step_of g q) (rested (Process p) (map (step_of g) qs)) s u alike true)
+          (sets_kept k q h at s u sets long true here))))
       go h at false false e f alike later =
-          found_passed (choice (activation_in s (step_of g q)) (step_of g q).condition) (found_from p (map (step_of g) qs) (settled s (step_of g q) false)) (found_from p (map (step_of g) qs) (settled s (step_of g q) true)) (found_from p (rested (Process p) (map (step_of g) qs)) u)
+          found_passed (choice (activation_in s (step_of g q)) (step_of g q).condition) (found_from p (map (step_of g) qs) (settled s (step_of g q) false))
+          (found_from p (map (step_of g) qs) (settled s (step_of g q) true)) (found_from p (rested (Process p) (map (step_of g) qs)) u)
           (later (settled s (step_of g q) false) u (passed_alike (step_of g q) (rested (Process p) (map (step_of g) qs)) s u alike f false) (sets_passed k q h at s u sets))
           (some_alike p (map (step_of g) qs) (settled s (step_of g q) true) u (passed_alike (step_of g q) (rested (Process p) (map (step_of g) qs)) s u alike f true))
 
@@ -317,6 +341,7 @@ module _ (g : Graph) (order : List ℕ) (topological : IsTopological g order) (f
       same : (other : List (Option Bool)) → AreFoundAlike (Some other) (Some found) → scenario_of g other ≡ scenario_of g found
       same other a = ap (λ f. let s : Scenario = record { values = map f (numbers_below (condition_count g)); faults = replicate (process_count g) 0 } in s) (λ i c. a (process_of g c) i)
 
-      go : (x : Option (List (Option Bool))) → found_from p (map (step_of g) order) start ≡ x → AreFoundAlike x (Some found) → IsLeast g order (λ t. has_two_live g t.values p ≡ true) (scenario_of g found)
+      go : (x : Option (List (Option Bool))) → found_from p (map (step_of g) order) start ≡ x → AreFoundAlike x (Some found) →
+          IsLeast g order (λ t. has_two_live g t.values p ≡ true) (scenario_of g found)
       go None f a = absurd a
       go (Some other) f a = subst (IsLeast g order (λ t. has_two_live g t.values p ≡ true)) (same other a) (search_some g order topological few p within other f)

@@ -1,5 +1,6 @@
 -- The search along an order finds the least scenario in which two inputs of a process are live, or there is none.
-use Rattle.std.proofs.Common.{ℕ, ◌+◌, ◌<◌, ◌≤◌, ◌≡◌, ◌≢◌, Bool, true, false, ◌==◌, if◌then◌else◌, List, [], ◌∷◌, ◌++◌, length, get_or, map, filter, drop, take, replicate, sum, Option, Some, None, Contains, arith, refl, sym, ap, ◌∙◌, subst, inl, inr, ◌⊎◌, eqb-true, get_or-set_other, get_or-set_same}
+use Rattle.std.proofs.Common.{ℕ, ◌+◌, ◌<◌, ◌≤◌, ◌≡◌, ◌≢◌, Bool, true, false, ◌==◌, if◌then◌else◌, List, [], ◌∷◌, ◌++◌, length, get_or, map, filter, drop, take, replicate, sum, Option, Some, None}
+use Rattle.std.proofs.Common.{Contains, arith, refl, sym, ap, ◌∙◌, subst, inl, inr, ◌⊎◌, eqb-true, get_or-set_other, get_or-set_same}
 use Rattle.std.specs.Bool.{nat_lt}
 use Rattle.std.proofs.lemmas.Bool.{cases_lt, both_ways, eqb-false}
 use Rattle.std.proofs.lemmas.List.{get_or-replicate, get_or_past, length-replicate, length-map, take-append-drop}
@@ -101,7 +102,8 @@ module _ (g : Graph) (order : List ℕ) (topological : IsTopological g order) (f
   two_live_here : (k : ℕ) (s : List (Option Bool)) → AreSettled g order k s → (o : List Bool) → Follows g order k s o → (p : ℕ) → place order p ≡ k
       → are_two_live s (step_of g p).inputs ≡ has_two_live g o p
   two_live_here k s are o follows p at = ap (nat_lt 1)
-      (sym (length-filter (is_live_in s) (map (input_of g) (inputs g p))) ∙ ap length (filter-map (is_live_in s) (input_of g) (inputs g p)) ∙ length-map (filter (is_live_edge g s) (inputs g p)) (input_of g)
+      (sym (length-filter (is_live_in s) (map (input_of g) (inputs g p))) ∙ ap length (filter-map (is_live_in s) (input_of g) (inputs g p)) ∙
+      length-map (filter (is_live_edge g s) (inputs g p)) (input_of g)
       ∙ ap length (same_filter (is_live_edge g s) (live g o) (inputs g p) (λ e c. live_here g order topological k s are o follows p e at c)))
 
   -- no value of the outcome of standings is more than in an outcome that goes their way
@@ -154,7 +156,8 @@ module _ (g : Graph) (order : List ℕ) (topological : IsTopological g order) (f
             each t f q c its (inr l) =
                 let of_it = process_of_condition_of g q c its in
                 let inside = condition_of_below g q c its in
-                let z : get_or (scenario_of g s).values c false ≡ false = value_in g order s c inside ∙ ap is_set (fresh.unset (process_of g c) (process_of_below g c inside) (subst (λ x. k ≤ place order x) (sym of_it) l)) in
+                let z : get_or (scenario_of g s).values c false ≡ false = value_in g order s c inside ∙
+                ap is_set (fresh.unset (process_of g c) (process_of_below g c inside) (subst (λ x. k ≤ place order x) (sym of_it) l)) in
                 let y = ap number_of_value z in omega arith
 
     module _ (k q : ℕ) (qs : List ℕ) (s : List (Option Bool)) (are : AreSettled g order k s) (h : q < process_count g) (at : place order q ≡ k) (other : q ≢ p)
@@ -206,7 +209,8 @@ module _ (g : Graph) (order : List ℕ) (topological : IsTopological g order) (f
         stands : get_or off q None ≡ Some false
         stands = get_or-set_same s q (standing here false) None (omega (arith, are.long)) ∙ ap (λ b. if b then Some false else None) active_here
 
-        least_off : (found : List (Option Bool)) → IsFirstFrom (k + 1) off found → (t : Scenario) → Follows g order k s t.values → has_two_live g t.values p ≡ true → (v : Bool) → get_or t.values c false ≡ v
+        least_off : (found : List (Option Bool)) → IsFirstFrom (k + 1) off found → (t : Scenario) → Follows g order k s t.values → has_two_live g t.values p ≡ true → (v : Bool) →
+            get_or t.values c false ≡ v
             → is_before g order t (scenario_of g found) ≡ false
         least_off found first t f two false e = first.least t (follows_value g order topological k s are q h few at false c some t.values e f) two
         least_off found first t f two true e =
@@ -266,7 +270,8 @@ module _ (g : Graph) (order : List ℕ) (topological : IsTopological g order) (f
             → (k + 1 ≤ place order p → Answers (k + 1) (settled s (step_of g q) false) (found_from p (map (step_of g) qs) (settled s (step_of g q) false)))
             → (k + 1 ≤ place order p → Answers (k + 1) (settled s (step_of g q) true) (found_from p (map (step_of g) qs) (settled s (step_of g q) true)))
             → Answers k s (if b then (if are_two_live s (step_of g q).inputs then Some s else None)
-            else first_some (found_from p (map (step_of g) qs) (settled s (step_of g q) false)) (if_other (choice (activation_in s (step_of g q)) (condition_of g q)) (found_from p (map (step_of g) qs) (settled s (step_of g q) true))))
+            else first_some (found_from p (map (step_of g) qs) (settled s (step_of g q) false))
+            (if_other (choice (activation_in s (step_of g q)) (condition_of g q)) (found_from p (map (step_of g) qs) (settled s (step_of g q) true))))
         go true is h at low high =
             let same = eqb-true q p is in
             subst (λ x. Answers k s (if are_two_live s (step_of g x).inputs then Some s else None)) (sym same) (at_process k s are fresh (sym (ap (place order) same) ∙ at))
@@ -284,7 +289,8 @@ module _ (g : Graph) (order : List ℕ) (topological : IsTopological g order) (f
     start_fresh = record { unset = λ q l m. get_or-replicate {A = Option Bool} 128 q None None (omega arith) }
 
     pub search_none : found_from p (map (step_of g) order) start ≡ None → (o : List Bool) → has_two_live g o p ≡ false
-    search_none e o = (let a : Answers 0 start None = subst (Answers 0 start) e (searched order 0 start refl (none_settled g order topological few) start_fresh (omega arith)) in a) o (all_follow g order topological few start o)
+    search_none e o = (let a : Answers 0 start None = subst (Answers 0 start) e (searched order 0 start refl (none_settled g order topological few) start_fresh (omega arith)) in a) o
+        (all_follow g order topological few start o)
 
     pub search_some : (found : List (Option Bool)) → found_from p (map (step_of g) order) start ≡ Some found → IsLeast g order (λ t. has_two_live g t.values p ≡ true) (scenario_of g found)
     search_some found e =

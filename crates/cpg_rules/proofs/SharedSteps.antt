@@ -1,17 +1,18 @@
 -- What is composed with shared parts.
-use Rattle.std.proofs.Common.{ℕ, zero, suc, ◌<◌, ◌≡◌, Bool, true, false, not, ◌==◌, if◌then◌else◌, List, [], ◌∷◌, length, set, replicate, Option, Some, None, refl, sym, ap, ap₂, ◌∙◌, subst, length-set}
+use Rattle.std.proofs.Common.{ℕ, zero, suc, ◌<◌, ◌≡◌, Bool, true, false, not, ◌==◌, if◌then◌else◌, List, [], ◌∷◌, length, set, replicate, Option, Some, None, refl, sym, ap, ap₂, ◌∙◌, subst}
+use Rattle.std.proofs.Common.{length-set}
 use Rattle.std.proofs.lemmas.List.Elements.{All-set}
 use Rattle.cpg_base.specs.Graph.{Graph}
 use Rattle.cpg_order.specs.Guard.{Guard}
-use Rattle.cpg_rules.specs.declared.shared.Part.{Part}
+use Rattle.cpg_rules.specs.declared.shared.SharedPart.{SharedPart}
 use Rattle.cpg_rules.specs.declared.steps.Input.{Input}
-use Rattle.cpg_rules.specs.Steps.{Step}
+use Rattle.cpg_rules.specs.Steps.{ActivationStep}
 use Rattle.cpg_rules.specs.Composing.{input_tree, met, with_later, composed, composed_along}
 use Rattle.cpg_rules.specs.Apart.{are_both_live, union_with, union, is_apart, are_apart}
 use Rattle.cpg_rules.specs.Sharing.{Sharing, tree_at, Extends, Makes, MakesUnion, trees_of, AreRoots, AreTreesOf}
 use Rattle.cpg_rules.proofs.Sharing.{extends_both, makes_extends, same_trees, roots_stay, map_set}
 
-pub seeded : (parts : List Part) (count n : ℕ) (roots : List ℕ) (t : Guard) → roots ≡ replicate count n → tree_at parts n ≡ t → trees_of parts roots ≡ replicate count t
+pub seeded : (parts : List SharedPart) (count n : ℕ) (roots : List ℕ) (t : Guard) → roots ≡ replicate count n → tree_at parts n ≡ t → trees_of parts roots ≡ replicate count t
 seeded parts count n roots t e is = ap (trees_of parts) e ∙ go count
   where
     go : (k : ℕ) → trees_of parts (replicate k n) ≡ replicate k t
@@ -56,7 +57,7 @@ module _ (a b : Sharing) (count p n : ℕ) (roots : List ℕ) (t : Guard) (are :
 
 pub step_along : (g : Graph) (a b : Sharing) (count p n : ℕ) (roots : List ℕ) (are : AreRoots a.parts count roots) (join : Bool) (inputs : List Input)
     (made : Makes a b (composed g join a.ranks (trees_of a.parts roots) inputs) n)
-    (steps rest : List Step) (step : Step) → steps ≡ step ∷ rest → p ≡ step.process → join ≡ step.join → inputs ≡ step.inputs
+    (steps rest : List ActivationStep) (step : ActivationStep) → steps ≡ step ∷ rest → p ≡ step.process → join ≡ step.join → inputs ≡ step.inputs
     → composed_along g a.ranks steps (trees_of a.parts roots) ≡ composed_along g b.ranks rest (trees_of b.parts (set roots p n))
 step_along g a b count p n roots are join inputs made steps rest step all process joins ins =
     ap (λ ss. composed_along g a.ranks ss (trees_of a.parts roots)) all
@@ -147,8 +148,10 @@ pub apart_more : (g : Graph) (a b c : Sharing) (count : ℕ) (roots : List ℕ) 
     (n m : ℕ) (y : Option ℕ) → y ≡ Some m → MakesUnion a b (union g a.ranks (trees_of a.parts roots) left) y → Makes b c (input_tree g true (trees_of b.parts roots) input) n
     → not (are_both_live c.ranks (tree_at c.parts n) (tree_at c.parts m)) ≡ are_apart g a.ranks (trees_of a.parts roots) inputs
 apart_more g a b c count roots are input left inputs all n m y e h made =
-    apart_first g a b c roots (input_tree g true (trees_of b.parts roots) input) n m (union g a.ranks (trees_of a.parts roots) left) (subst (MakesUnion a b (union g a.ranks (trees_of a.parts roots) left)) e h) made
-    ∙ ap (λ trees. is_apart a.ranks (input_tree g true trees input) (union g a.ranks (trees_of a.parts roots) left)) (same_trees a b roots (union_extends a b (union g a.ranks (trees_of a.parts roots) left) y h) are.within)
+    apart_first g a b c roots (input_tree g true (trees_of b.parts roots) input) n m (union g a.ranks (trees_of a.parts roots) left)
+    (subst (MakesUnion a b (union g a.ranks (trees_of a.parts roots) left)) e h) made
+    ∙ ap (λ trees. is_apart a.ranks (input_tree g true trees input) (union g a.ranks (trees_of a.parts roots) left))
+    (same_trees a b roots (union_extends a b (union g a.ranks (trees_of a.parts roots) left) y h) are.within)
     ∙ ap (are_apart g a.ranks (trees_of a.parts roots)) (sym all)
 
 -- a union stays

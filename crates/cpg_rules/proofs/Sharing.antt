@@ -2,7 +2,7 @@
 use Rattle.std.proofs.Common.{ℕ, zero, suc, ◌<◌, ◌≡◌, List, [], ◌∷◌, length, set, All, arith, refl, ap, ap₂, ◌∙◌}
 use Rattle.std.proofs.lemmas.List.Elements.{All-head, All-tail}
 use Rattle.cpg_order.specs.Guard.{Guard}
-use Rattle.cpg_rules.specs.declared.shared.Part.{Part}
+use Rattle.cpg_rules.specs.declared.shared.SharedPart.{SharedPart}
 use Rattle.cpg_rules.specs.Sharing.{Sharing, tree_at, Extends, Makes, trees_of, AreRoots}
 
 -- ---- from parts to later parts
@@ -35,7 +35,7 @@ same_trees a b (n ∷ ns) e h = ap₂ (λ t ts. t ∷ ts) (e.same n (All-head (�
 pub roots_stay : (a b : Sharing) (count : ℕ) (roots : List ℕ) → Extends a b → AreRoots a.parts count roots → AreRoots b.parts count roots
 roots_stay a b count roots e are = record { all = are.all; within = λ k d l. omega (arith, are.within k d l, e.longer) }
 
-pub map_set : (parts : List Part) (roots : List ℕ) (p n : ℕ) → trees_of parts (set roots p n) ≡ set (trees_of parts roots) p (tree_at parts n)
+pub map_set : (parts : List SharedPart) (roots : List ℕ) (p n : ℕ) → trees_of parts (set roots p n) ≡ set (trees_of parts roots) p (tree_at parts n)
 map_set parts [] p n = refl
 map_set parts (r ∷ rs) zero n = refl
 map_set parts (r ∷ rs) (suc p) n = ap (λ ts. tree_at parts r ∷ ts) (map_set parts rs p n)

@@ -1,5 +1,6 @@
 -- The standings after a step are right, and what is read off them is the activation.
-use Rattle.std.proofs.Common.{ℕ, ◌+◌, ◌<◌, ◌≤◌, ◌≡◌, ◌≢◌, Bool, true, false, ◌&&◌, if◌then◌else◌, List, [], ◌∷◌, get_or, map, filter, Contains, Option, Some, None, is_some, arith, refl, sym, ap, ◌∙◌, subst, inl, inr, get_or-set_other, get_or-set_same, length-set}
+use Rattle.std.proofs.Common.{ℕ, ◌+◌, ◌<◌, ◌≤◌, ◌≡◌, ◌≢◌, Bool, true, false, ◌&&◌, if◌then◌else◌, List, [], ◌∷◌, get_or, map, filter, Contains, Option, Some, None, is_some, arith, refl, sym, ap, ◌∙◌}
+use Rattle.std.proofs.Common.{subst, inl, inr, get_or-set_other, get_or-set_same, length-set}
 use Rattle.std.proofs.lemmas.Bool.{cases_eq}
 use Rattle.std.proofs.lemmas.List.Folds.{list_all-map}
 use Rattle.cpg_base.specs.declared.activation.Activation.{Activation}
@@ -28,7 +29,8 @@ module _ (g : Graph) (s : List (Option Bool)) where
   first_live-is [] = refl
   first_live-is (e ∷ es) = go (is_live_edge e) (first_live-is es)
     where
-      go : (b : Bool) → first_live s (map (input_of g) es) ≡ by_first (filter is_live_edge es) → (if b then By e else first_live s (map (input_of g) es)) ≡ by_first (if b then e ∷ filter is_live_edge es else filter is_live_edge es)
+      go : (b : Bool) → first_live s (map (input_of g) es) ≡ by_first (filter is_live_edge es) →
+          (if b then By e else first_live s (map (input_of g) es)) ≡ by_first (if b then e ∷ filter is_live_edge es else filter is_live_edge es)
       go true ih = refl
       go false ih = ih
 
@@ -106,7 +108,8 @@ module _ (g : Graph) (order : List ℕ) (topological : IsTopological g order) wh
       some_standing Plain v w e = (refl, cc)
       some_standing (By i) v w e = (refl, cc)
 
-      pub follows_on : (o : List Bool) → Follows g order k s o → ((c : ℕ) → c < condition_count g → process_of g c ≡ p → is_active (activation_in s (step_of g p)) ≡ true → get_or o c false ≡ v) → Follows g order (k + 1) next o
+      pub follows_on : (o : List Bool) → Follows g order k s o → ((c : ℕ) → c < condition_count g → process_of g c ≡ p → is_active (activation_in s (step_of g p)) ≡ true → get_or o c false ≡ v) →
+          Follows g order (k + 1) next o
       follows_on o f own = record {
         takes = λ c l m value is. elim (cases_eq (process_of g c) p) [
           | inl e ↦
@@ -123,7 +126,8 @@ module _ (g : Graph) (order : List ℕ) (topological : IsTopological g order) wh
 
       -- if one way alone is taken, all outcomes take it
       pub follows_one_way : choice (activation_in s (step_of g p)) (condition_of g p) ≡ None → (o : List Bool) → Follows g order k s o → Follows g order (k + 1) next o
-      follows_one_way none o f = follows_on o f (λ c i j active. absurd (no_condition (activation_in s (step_of g p)) (condition_of g p) c none active (subst (λ x. condition_of g x ≡ Some c) j (condition_of_process_of g c i))))
+      follows_one_way none o f = follows_on o f
+          (λ c i j active. absurd (no_condition (activation_in s (step_of g p)) (condition_of g p) c none active (subst (λ x. condition_of g x ≡ Some c) j (condition_of_process_of g c i))))
 
       chosen : (a : Activation) (x : Option ℕ) (c : ℕ) → choice a x ≡ Some c → x ≡ Some c
       chosen Inactive x c e = cc

@@ -5,7 +5,7 @@ use Rattle.cpg_base.specs.Graph.{Graph, process_count, condition_count, process_
 use Rattle.cpg_base.specs.Activity.{live}
 use Rattle.cpg_base.specs.Scenario.{Scenario, IsLeast}
 use Rattle.cpg_rules.specs.declared.steps.Input.{Input}
-use Rattle.cpg_rules.specs.Steps.{Step}
+use Rattle.cpg_rules.specs.Steps.{ActivationStep}
 use Rattle.cpg_rules.specs.Growing.{is_live_in, activation_in, settled, choice}
 
 -- whether an outcome makes two inputs of a process live
@@ -40,7 +40,7 @@ if_other None b = None
 if_other (Some c) b = b
 
 -- the first standings on the way to a process at which two of its inputs are live
-abbrev pub found_from : ℕ → List Step → List (Option Bool) → Option (List (Option Bool))
+abbrev pub found_from : ℕ → List ActivationStep → List (Option Bool) → Option (List (Option Bool))
 found_from p [] standings = None
 found_from p (step ∷ steps) standings =
     if step.process == p

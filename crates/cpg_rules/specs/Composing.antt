@@ -9,7 +9,7 @@ use Rattle.cpg_rules.specs.declared.steps.Input.{Input}
 use Rattle.cpg_rules.specs.declared.edges.ValueTest.{ValueTest}
 use Rattle.cpg_rules.specs.Guards.{test_of}
 use Rattle.cpg_rules.specs.Trees.{tested}
-use Rattle.cpg_rules.specs.Steps.{Step}
+use Rattle.cpg_rules.specs.Steps.{ActivationStep}
 
 -- the rank of a condition: the place of its process
 abbrev pub rank : List ℕ → ℕ → ℕ
@@ -63,6 +63,6 @@ composed g join ranks trees [] = Leaf Plain
 composed g join ranks trees (i ∷ is) = with_later join ranks is (input_tree g join trees i) (composed g join ranks trees is)
 
 -- the trees after the steps
-abbrev pub composed_along : Graph → List ℕ → List Step → List Guard → List Guard
+abbrev pub composed_along : Graph → List ℕ → List ActivationStep → List Guard → List Guard
 composed_along g ranks [] trees = trees
 composed_along g ranks (step ∷ steps) trees = composed_along g ranks steps (slice_set trees step.process (composed g step.join ranks trees step.inputs))

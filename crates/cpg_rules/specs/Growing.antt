@@ -5,7 +5,7 @@ use Rattle.cpg_base.specs.declared.activation.Activation.{Activation}
 use Rattle.cpg_base.specs.declared.activation.Activation.TheVariants.{Inactive, Plain, By}
 use Rattle.cpg_base.specs.Activity.{is_active, takes}
 use Rattle.cpg_rules.specs.declared.steps.Input.{Input}
-use Rattle.cpg_rules.specs.Steps.{Step}
+use Rattle.cpg_rules.specs.Steps.{ActivationStep}
 
 -- On the way each process so far has a standing: None if it is inactive, and else the value of its condition,
 -- false if it has none.
@@ -31,7 +31,7 @@ activation_from true standings (i ∷ is) = first_live standings (i ∷ is)
 activation_from false standings (i ∷ is) = if list_all (is_live_in standings) (i ∷ is) then Plain else Inactive
 
 -- the activation of a step's process
-abbrev pub activation_in : List (Option Bool) → Step → Activation
+abbrev pub activation_in : List (Option Bool) → ActivationStep → Activation
 activation_in standings step = activation_from step.join standings step.inputs
 
 -- the standing of a process, if its condition has the value
@@ -43,7 +43,7 @@ abbrev pub choice : Activation → Option ℕ → Option ℕ
 choice a condition = if is_active a then condition else None
 
 -- the standings with one more
-abbrev pub settled : List (Option Bool) → Step → Bool → List (Option Bool)
+abbrev pub settled : List (Option Bool) → ActivationStep → Bool → List (Option Bool)
 settled standings step value = slice_set standings step.process (standing (activation_in standings step) value)
 
 -- the second number counts if there are two ways
@@ -52,7 +52,7 @@ if_both None n = 0
 if_both (Some c) n = n
 
 -- how many tracks go the way so far
-abbrev pub tracks_from : List Step → List (Option Bool) → ℕ
+abbrev pub tracks_from : List ActivationStep → List (Option Bool) → ℕ
 tracks_from [] standings = 1
 tracks_from (step ∷ steps) standings =
     tracks_from steps (settled standings step false)

@@ -3,26 +3,26 @@ use Rattle.std.specs.Prelude.{ℕ, Bool, ◌||◌, ◌==◌, if◌then◌else◌
 use Rattle.std.specs.List.{list_any}
 use Rattle.cpg_rules.specs.declared.steps.Aim.{Aim}
 use Rattle.cpg_rules.specs.declared.steps.Aim.TheVariants.{Process, Conditions}
-use Rattle.cpg_rules.specs.Steps.{Step}
+use Rattle.cpg_rules.specs.Steps.{ActivationStep}
 
 -- whether a step is what the walk is for
-abbrev pub is_aim : Aim → Step → Bool
+abbrev pub is_aim : Aim → ActivationStep → Bool
 is_aim (Process p) step = step.process == p
 is_aim Conditions step = is_some step.condition
 
 -- whether a step has an input from a process
-abbrev pub reads : ℕ → Step → Bool
+abbrev pub reads : ℕ → ActivationStep → Bool
 reads p step = list_any (λ i. i.source == p) step.inputs
 
 -- whether one of the steps has
-abbrev pub are_reading : List Step → ℕ → Bool
+abbrev pub are_reading : List ActivationStep → ℕ → Bool
 are_reading steps p = list_any (reads p) steps
 
 -- whether the walk rests on a step, if these are the later steps that it rests on
-abbrev pub is_rested : Aim → Step → List Step → Bool
+abbrev pub is_rested : Aim → ActivationStep → List ActivationStep → Bool
 is_rested aim step later = is_aim aim step || are_reading later step.process
 
 -- those of these steps that the walk rests on
-abbrev pub rested : Aim → List Step → List Step
+abbrev pub rested : Aim → List ActivationStep → List ActivationStep
 rested aim [] = []
 rested aim (step ∷ steps) = if is_rested aim step (rested aim steps) then step ∷ rested aim steps else rested aim steps

@@ -4,12 +4,12 @@ use Rattle.cpg_base.specs.declared.activation.Activation.TheVariants.{Inactive}
 use Rattle.cpg_base.specs.Graph.{Graph}
 use Rattle.cpg_order.specs.Urgency.{IsTopological}
 use Rattle.cpg_order.specs.Guard.{Guard, Leaf, Test}
-use Rattle.cpg_rules.specs.declared.shared.Top.{Top}
-use Rattle.cpg_rules.specs.declared.shared.Top.TheVariants.{Leaf as LeafTop, Test as TestTop}
-use Rattle.cpg_rules.specs.declared.shared.Part.{Part}
+use Rattle.cpg_rules.specs.declared.shared.PartTop.{PartTop}
+use Rattle.cpg_rules.specs.declared.shared.PartTop.TheVariants.{Leaf as LeafTop, Test as TestTop}
+use Rattle.cpg_rules.specs.declared.shared.SharedPart.{SharedPart}
 use Rattle.cpg_rules.specs.declared.shared.Ask.{Ask}
 use Rattle.cpg_rules.specs.declared.shared.Ask.TheVariants.{Live, Met, Apart}
-use Rattle.cpg_rules.specs.declared.shared.Known.{Known}
+use Rattle.cpg_rules.specs.declared.shared.KnownPart.{KnownPart}
 use Rattle.cpg_rules.specs.Composing.{live_tree, met}
 use Rattle.cpg_rules.specs.Apart.{are_both_live}
 use Rattle.cpg_rules.specs.Guards.{Guards, AreGuardsOf}
@@ -17,35 +17,35 @@ use Rattle.cpg_rules.specs.Guards.{Guards, AreGuardsOf}
 -- the ranks of the conditions, the parts, and what is known of them
 pub record Sharing : Type 0 where
   pub ranks : List ℕ
-  pub parts : List Part
-  pub known : List (Option Known)
+  pub parts : List SharedPart
+  pub known : List (Option KnownPart)
 
-abbrev pub no_part : Part
+abbrev pub no_part : SharedPart
 no_part = record { top = LeafTop Inactive; tree = Leaf Inactive }
 
 -- the tree of a part
-abbrev pub tree_at : List Part → ℕ → Guard
+abbrev pub tree_at : List SharedPart → ℕ → Guard
 tree_at parts n = (get_or parts n no_part).tree
 
 -- the top is that of the tree
-abbrev pub IsTop : List Part → Top → Guard → Type 0
+abbrev pub IsTop : List SharedPart → PartTop → Guard → Type 0
 IsTop parts (LeafTop a) tree = tree ≡ Leaf a
 IsTop parts (TestTop c off on) tree = (off < length parts) × (on < length parts) × (tree ≡ Test c (tree_at parts off) (tree_at parts on))
 
 -- a part is the answer to what is asked; that two are never active at once has none
-abbrev pub IsAnswer : List ℕ → List Part → Ask → ℕ → Type 0
+abbrev pub IsAnswer : List ℕ → List SharedPart → Ask → ℕ → Type 0
 IsAnswer ranks parts (Live a x source) n = (source < length parts) × (n < length parts) × (tree_at parts n ≡ live_tree a x (tree_at parts source))
 IsAnswer ranks parts (Met join first second) n =
     (first < length parts) × (second < length parts) × (n < length parts) × (tree_at parts n ≡ met join ranks (tree_at parts first) (tree_at parts second))
 IsAnswer ranks parts (Apart first second) n = (first < length parts) × (second < length parts) ×
     (are_both_live ranks (tree_at parts first) (tree_at parts second) ≡ false)
 
-abbrev pub IsKnown : List ℕ → List Part → Option Known → Type 0
+abbrev pub IsKnown : List ℕ → List SharedPart → Option KnownPart → Type 0
 IsKnown ranks parts None = Unit {0}
 IsKnown ranks parts (Some k) = IsAnswer ranks parts k.ask k.answer
 
 -- two parts that are there
-abbrev pub ArePairWithin : List Part → ℕ → ℕ → Type 0
+abbrev pub ArePairWithin : List SharedPart → ℕ → ℕ → Type 0
 ArePairWithin parts first second = (first < length parts) × (second < length parts)
 
 -- the tree that two meet in
@@ -74,11 +74,11 @@ pub record Makes (before after : Sharing) (tree : Guard) (n : ℕ) : Type 0 wher
   pub is : tree_at after.parts n ≡ tree
 
 -- the trees of processes, whose parts these are
-abbrev pub trees_of : List Part → List ℕ → List Guard
+abbrev pub trees_of : List SharedPart → List ℕ → List Guard
 trees_of parts roots = map (tree_at parts) roots
 
 -- the roots of this many processes are numbers of parts
-pub record AreRoots (parts : List Part) (count : ℕ) (roots : List ℕ) : Type 0 where
+pub record AreRoots (parts : List SharedPart) (count : ℕ) (roots : List ℕ) : Type 0 where
   pub all : length roots ≡ count
   pub within : All (λ n. n < length parts) roots
 

@@ -1,12 +1,12 @@
 -- Each arm of a test is smaller than the test.
 use Rattle.std.specs.Prelude.{◌≤◌, max}
 use Rattle.std.proofs.Common.{arith}
-use Rattle.cpg_rules.specs.declared.tree.Node.{Node}
-use Rattle.cpg_rules.specs.declared.tree.Node.TheVariants.{Leaf, Test}
-use Rattle.cpg_rules.specs.declared.tree.GuardTree.TheDeep.{deep-Node}
+use Rattle.cpg_rules.specs.declared.tree.GuardNode.{GuardNode}
+use Rattle.cpg_rules.specs.declared.tree.GuardNode.TheVariants.{Leaf, Test}
+use Rattle.cpg_rules.specs.declared.tree.GuardTree.TheDeep.{deep-GuardNode}
 use Rattle.cpg_rules.specs.Trees.{size_of}
 use Rattle.cpg_rules.specs.TreeView.{tree_of}
 
-pub deep_le-size : (n : Node) → max (deep-Node n) 0 ≤ size_of (tree_of n)
+pub deep_le-size : (n : GuardNode) → max (deep-GuardNode n) 0 ≤ size_of (tree_of n)
 deep_le-size (Leaf a) = omega arith
 deep_le-size (Test c off on) = omega arith

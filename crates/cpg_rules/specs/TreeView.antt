@@ -1,8 +1,8 @@
 -- The tree that a node is.
-use Rattle.cpg_rules.specs.declared.tree.Node.{Node}
-use Rattle.cpg_rules.specs.declared.tree.Node.TheVariants.{Leaf as LeafNode, Test as TestNode}
+use Rattle.cpg_rules.specs.declared.tree.GuardNode.{GuardNode}
+use Rattle.cpg_rules.specs.declared.tree.GuardNode.TheVariants.{Leaf as LeafNode, Test as TestNode}
 use Rattle.cpg_order.specs.Guard.{Guard, Leaf, Test}
 
-abbrev pub tree_of : Node → Guard
+abbrev pub tree_of : GuardNode → Guard
 tree_of (LeafNode a) = Leaf a
 tree_of (TestNode c off on) = Test c off on

@@ -14,7 +14,7 @@ ghost use Rattle.cpg_rules.specs.Faults.{IsOrdered, HasFewTracks, HasFewInputs, 
 
 use crate::given::{GivenFault, given_order};
 use crate::joins::least_alternatives;
-use crate::shared::Parts;
+use crate::shared::SharedParts;
 use crate::slots::{above_slot, without_slot};
 use crate::trees::{SharedGuards, shared_guards};
 use crate::{GuardFault, GuardTrees};
@@ -114,7 +114,7 @@ fn joined(
     alloc: Global,
     problem: &Problem,
     order: &Order,
-    parts: &mut Parts,
+    parts: &mut SharedParts,
     roots: &[usize],
 ) -> Result<(), RuleFault>
     requires tracks { HasFewTracks problem.now order.now }
@@ -166,14 +166,14 @@ fn given(alloc: Global, problem: &Problem) -> Result<Option<Order>, RuleFault>
 
 /// The orders and the guards of a graph that keeps all rules.
 #[derive(Drop)]
-struct Judged {
+struct JudgedGraph {
     order: Order,
     given: Option<Order>,
     guards: GuardTrees,
 }
 
 /// Judges a graph by all rules.
-fn judge(alloc: Global, problem: &Problem) -> Result<Judged, RuleFault>
+fn judge(alloc: Global, problem: &Problem) -> Result<JudgedGraph, RuleFault>
     ensures admitted { IfOk result (λ judged. IsAdmitted problem.now judged.order judged.guards) }
     ensures given { IfOk result (λ judged. judged.given ≡ problem.now.order) }
     ensures fault { IfErr result (ShowsFault problem.now) }
@@ -184,7 +184,7 @@ fn judge(alloc: Global, problem: &Problem) -> Result<Judged, RuleFault>
     joined(alloc, problem, &order, &mut shared.parts, roots)?;
     slotted(problem)?;
     let given = given(alloc, problem)?;
-    Ok(Judged {
+    Ok(JudgedGraph {
         order,
         given,
         guards: shared.guards,
@@ -202,7 +202,7 @@ pub fn admit(alloc: Global, problem: Problem) -> Result<Admitted, Refused>
 {
     match judge(alloc, &problem) {
         Ok(
-            Judged {
+            JudgedGraph {
                 order,
                 given,
                 guards,

@@ -6,7 +6,7 @@ ghost use Rattle.cpg_rules.specs.Apart.{union, are_apart};
 ghost use Rattle.cpg_rules.specs.Sharing.{trees_of, AreRoots, AreTreesOf, Extends, MakesUnion};
 
 use crate::composing::input_part;
-use crate::shared::Parts;
+use crate::shared::SharedParts;
 use crate::steps::{Input, inputs_of};
 use cpg_base::{Activation, OutOfMemory, Problem};
 use std::alloc::Global;
@@ -15,7 +15,7 @@ use std::alloc::Global;
 fn union(
     alloc: Global,
     problem: &Problem,
-    parts: &mut Parts,
+    parts: &mut SharedParts,
     roots: &[usize],
     inputs: &[Input],
 ) -> Result<Option<usize>, OutOfMemory>
@@ -45,7 +45,7 @@ fn union(
 fn are_apart(
     alloc: Global,
     problem: &Problem,
-    parts: &mut Parts,
+    parts: &mut SharedParts,
     roots: &[usize],
     inputs: &[Input],
 ) -> Result<bool, OutOfMemory>
@@ -68,7 +68,7 @@ fn are_apart(
 pub fn is_single_join(
     alloc: Global,
     problem: &Problem,
-    parts: &mut Parts,
+    parts: &mut SharedParts,
     roots: &[usize],
     process: u32,
 ) -> Result<bool, OutOfMemory>

@@ -11,8 +11,8 @@ ghost use Rattle.cpg_rules.specs.Sharing.{trees_of, AreRoots, Extends, Makes};
 
 use crate::GuardTree;
 use crate::edges::test_of;
-use crate::shared::Parts;
-use crate::steps::{Input, Step};
+use crate::shared::SharedParts;
+use crate::steps::{ActivationStep, Input};
 use cpg_base::{Activation, Order, OutOfMemory, Problem};
 use std::alloc::Global;
 
@@ -67,7 +67,7 @@ pub fn input_part(
     alloc: Global,
     problem: &Problem,
     join: bool,
-    parts: &mut Parts,
+    parts: &mut SharedParts,
     roots: &[usize],
     input: Input,
 ) -> Result<usize, OutOfMemory>
@@ -86,7 +86,7 @@ fn composed(
     alloc: Global,
     problem: &Problem,
     join: bool,
-    parts: &mut Parts,
+    parts: &mut SharedParts,
     roots: &[usize],
     inputs: &[Input],
 ) -> Result<usize, OutOfMemory>
@@ -108,7 +108,11 @@ fn composed(
 }
 
 /// For each of `count` processes the part that says that it is inactive.
-pub fn seeds(alloc: Global, parts: &mut Parts, count: usize) -> Result<Vec<usize>, OutOfMemory>
+pub fn seeds(
+    alloc: Global,
+    parts: &mut SharedParts,
+    count: usize,
+) -> Result<Vec<usize>, OutOfMemory>
     ensures more { IfOk result (λ roots. Extends parts.old parts.new) }
     ensures roots { IfOk result (λ roots. AreRoots parts.new.parts count roots.items) }
     ensures trees { IfOk result (λ roots. trees_of parts.new.parts roots.items ≡ replicate count (Leaf Inactive)) }
@@ -122,8 +126,8 @@ pub fn seeds(alloc: Global, parts: &mut Parts, count: usize) -> Result<Vec<usize
 pub fn composed_along(
     alloc: Global,
     problem: &Problem,
-    parts: &mut Parts,
-    steps: &[Step],
+    parts: &mut SharedParts,
+    steps: &[ActivationStep],
     roots: Vec<usize>,
 ) -> Result<Vec<usize>, OutOfMemory>
     requires roots { AreRoots parts.old.parts (process_count problem.now) roots.items }
@@ -152,7 +156,7 @@ pub fn composed_along(
 /// The trees of parts.
 pub fn trees_of(
     alloc: Global,
-    parts: &Parts,
+    parts: &SharedParts,
     roots: &[usize],
 ) -> Result<Vec<GuardTree>, OutOfMemory>
     requires { All (λ n. n < length parts.now.parts) roots.now }

@@ -3,7 +3,7 @@ ghost use Rattle.std.specs.Prelude.{◌≡◌, ◌<◌, All, length, min};
 ghost use Rattle.cpg_rules.specs.Growing.{activation_in, standing, settled, choice, tracks_from};
 ghost use Rattle.cpg_rules.specs.Steps.{IsStepBelow};
 
-use crate::steps::{Standings, Step};
+use crate::steps::{ActivationStep, Standings};
 use cpg_base::Activation;
 
 /// The standing of a process that is active in this way, whose condition has the value.
@@ -29,7 +29,12 @@ pub fn choice(activation: Activation, condition: Option<u32>) -> Option<u32>
 }
 
 /// The standings after a step, if the condition of its process has the value.
-pub fn settled(standings: Standings, step: &Step, activation: Activation, value: bool) -> Standings
+pub fn settled(
+    standings: Standings,
+    step: &ActivationStep,
+    activation: Activation,
+    value: bool,
+) -> Standings
     requires process { step.now.process < 128 }
     requires activation { activation ≡ activation_in standings step.now }
     ensures { result ≡ settled standings step.now value }
@@ -40,7 +45,7 @@ pub fn settled(standings: Standings, step: &Step, activation: Activation, value:
 }
 
 /// How many tracks go this way, if there are fewer than most, and else most.
-pub fn tracks(steps: &[Step], standings: Standings, most: u32) -> u32
+pub fn tracks(steps: &[ActivationStep], standings: Standings, most: u32) -> u32
     requires { All (IsStepBelow 128) steps.now }
     ensures { result ≡ min most (tracks_from steps.now standings) }
 {

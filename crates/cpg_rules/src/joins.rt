@@ -10,8 +10,8 @@ ghost use Rattle.cpg_rules.specs.Alternatives.{AreAlternatives, IsSingleJoin, ha
 
 use crate::apart::is_single_join;
 use crate::growing::{choice, settled};
-use crate::shared::Parts;
-use crate::steps::{Aim, Standings, Step, rested, steps_of};
+use crate::shared::SharedParts;
+use crate::steps::{ActivationStep, Aim, Standings, rested, steps_of};
 use cpg_base::{Order, OutOfMemory, Problem, Scenario};
 use std::alloc::Global;
 
@@ -25,7 +25,7 @@ pub struct Alternatives {
 }
 
 /// The first standings on the way to a process at which two of its inputs are live.
-fn found_from(process: u32, steps: &[Step], standings: Standings) -> Option<Standings>
+fn found_from(process: u32, steps: &[ActivationStep], standings: Standings) -> Option<Standings>
     requires { All (IsStepBelow 128) steps.now }
     ensures { result ≡ found_from process steps.now standings }
 {
@@ -79,7 +79,7 @@ fn least_of(
     alloc: Global,
     problem: &Problem,
     order: &Order,
-    steps: &[Step],
+    steps: &[ActivationStep],
     process: u32,
 ) -> Result<Option<Scenario>, OutOfMemory>
     requires topological { IsTopological problem.now order.now }
@@ -108,9 +108,9 @@ fn least_by(
     alloc: Global,
     problem: &Problem,
     order: &Order,
-    parts: &mut Parts,
+    parts: &mut SharedParts,
     roots: &[usize],
-    steps: &[Step],
+    steps: &[ActivationStep],
     process: u32,
 ) -> Result<Option<Scenario>, OutOfMemory>
     requires topological { IsTopological problem.now order.now }
@@ -135,7 +135,7 @@ pub fn least_alternatives(
     alloc: Global,
     problem: &Problem,
     order: &Order,
-    parts: &mut Parts,
+    parts: &mut SharedParts,
     roots: &[usize],
 ) -> Result<Option<Alternatives>, OutOfMemory>
     requires topological { IsTopological problem.now order.now }

@@ -17,7 +17,7 @@ use std::marker::Model;
 
 /// The top of a part: an activation, or a test's condition with the numbers of the parts for its values.
 #[derive(Clone, Copy, Debug, PartialEq, Eq)]
-pub enum Top {
+pub enum PartTop {
     Leaf(Activation),
     Test {
         condition: u32,
@@ -28,8 +28,8 @@ pub enum Top {
 
 /// A tree with its top.
 #[derive(Drop)]
-pub struct Part {
-    top: Top,
+pub struct SharedPart {
+    top: PartTop,
     tree: GuardTree,
 }
 
@@ -57,7 +57,7 @@ pub enum Ask {
 
 /// What is asked, and the number of the part that is the answer, if one is.
 #[derive(Clone, Copy, Debug, PartialEq, Eq)]
-pub struct Known {
+pub struct KnownPart {
     ask: Ask,
     answer: usize,
 }
@@ -65,14 +65,14 @@ pub struct Known {
 /// All parts, with the ranks of the conditions. What is known has places by what is asked; something else may take the
 /// place, and then it is found again.
 #[derive(Drop)]
-pub struct Parts {
+pub struct SharedParts {
     ranks: Vec<u32>,
-    parts: Vec<Part>,
-    known: Vec<Option<Known>>,
+    parts: Vec<SharedPart>,
+    known: Vec<Option<KnownPart>>,
     places: Vec<usize>,
 }
 
-impl Model for Parts {
+impl Model for SharedParts {
     ghost use Rattle.std.specs.Coded.{codes};
     ghost use Rattle.cpg_rules.specs.TreeCode.{tree_code};
     ghost use Rattle.cpg_rules.specs.Sharing.{Sharing, IsSharing};
@@ -100,17 +100,17 @@ fn are_same_tests(a: Option<ValueTest>, b: Option<ValueTest>) -> bool
 }
 
 /// Whether two tops are equal.
-fn are_same_tops(a: Top, b: Top) -> bool
+fn are_same_tops(a: PartTop, b: PartTop) -> bool
     ensures { result ≡ true → a ≡ b }
 {
     match a {
-        Top::Leaf(a) => match b {
-            Top::Leaf(b) => are_same(a, b),
-            Top::Test { .. } => false,
+        PartTop::Leaf(a) => match b {
+            PartTop::Leaf(b) => are_same(a, b),
+            PartTop::Test { .. } => false,
         },
-        Top::Test { condition, no, yes } => match b {
-            Top::Leaf(_) => false,
-            Top::Test {
+        PartTop::Test { condition, no, yes } => match b {
+            PartTop::Leaf(_) => false,
+            PartTop::Test {
                 condition: tested,
                 no: low,
                 yes: high,
@@ -159,7 +159,7 @@ fn are_same_asks(a: Ask, b: Ask) -> bool
 }
 
 /// A place for three numbers, of so many: each is spread over all bits (by 2^64 over the golden ratio), and the high bits count.
-fn place_of(first: usize, second: usize, third: usize, count: usize) -> usize {
+fn hashed_place(first: usize, second: usize, third: usize, count: usize) -> usize {
     let mixed = first
         .wrapping_mul(0x9E37_79B9_7F4A_7C15)
         .wrapping_add(second)
@@ -178,15 +178,15 @@ fn number_of(activation: Activation) -> usize {
     }
 }
 
-impl Parts {
+impl SharedParts {
     /// No parts yet.
-    pub fn new(alloc: Global, ranks: Vec<u32>) -> Result<Parts, OutOfMemory>
+    pub fn new(alloc: Global, ranks: Vec<u32>) -> Result<SharedParts, OutOfMemory>
         ensures ranks { IfOk result (λ parts. parts.ranks ≡ ranks.items) }
     {
         let count = 64usize << ranks.len().min(6);
         let known = vec![in alloc; None; count]?;
         let places = vec![in alloc; 0usize; count]?;
-        Ok(Parts {
+        Ok(SharedParts {
             ranks,
             parts: Vec::new(alloc),
             known,
@@ -195,7 +195,7 @@ impl Parts {
     }
 
     /// The top of a part.
-    fn top(&self, part: usize) -> Top
+    fn top(&self, part: usize) -> PartTop
         requires { part < length self.now.parts }
         ensures { IsTop self.now.parts result (tree_at self.now.parts part) }
     {
@@ -220,13 +220,13 @@ impl Parts {
             return true;
         }
         match self.top(first) {
-            Top::Leaf(a) => match self.top(second) {
-                Top::Leaf(b) => are_same(a, b),
-                Top::Test { .. } => false,
+            PartTop::Leaf(a) => match self.top(second) {
+                PartTop::Leaf(b) => are_same(a, b),
+                PartTop::Test { .. } => false,
             },
-            Top::Test { condition, no, yes } => match self.top(second) {
-                Top::Leaf(_) => false,
-                Top::Test {
+            PartTop::Test { condition, no, yes } => match self.top(second) {
+                PartTop::Leaf(_) => false,
+                PartTop::Test {
                     condition: tested,
                     no: low,
                     yes: high,
@@ -236,7 +236,7 @@ impl Parts {
     }
 
     /// The part at a place, if its top is this one.
-    fn found(&self, place: usize, top: Top) -> Option<usize>
+    fn found(&self, place: usize, top: PartTop) -> Option<usize>
         ensures within { IfSome result (λ n. n < length self.now.parts) }
         ensures top { IfSome result (λ n. IsTop self.now.parts top (tree_at self.now.parts n)) }
     {
@@ -252,12 +252,12 @@ impl Parts {
     }
 
     /// Adds a part, whose number has the place.
-    fn push(&mut self, place: usize, top: Top, tree: GuardTree) -> Result<usize, OutOfMemory>
+    fn push(&mut self, place: usize, top: PartTop, tree: GuardTree) -> Result<usize, OutOfMemory>
         requires { IsTop self.old.parts top tree }
         ensures { IfOk result (Makes self.old self.new tree) }
     {
         let number = self.parts.len();
-        self.parts.push(Part { top, tree })?;
+        self.parts.push(SharedPart { top, tree })?;
         if place < self.places.len() {
             self.places[place] = number;
         }
@@ -265,7 +265,7 @@ impl Parts {
     }
 
     /// What is known at a place.
-    fn known_at(&self, place: usize) -> Option<Known>
+    fn known_at(&self, place: usize) -> Option<KnownPart>
         ensures { IsKnown self.now.ranks self.now.parts result }
     {
         match self.known.get(place) {
@@ -293,7 +293,7 @@ impl Parts {
         ensures ranks { self.new.ranks ≡ self.old.ranks }
     {
         if place < self.known.len() {
-            self.known[place] = Some(Known { ask, answer });
+            self.known[place] = Some(KnownPart { ask, answer });
         }
     }
 
@@ -301,8 +301,8 @@ impl Parts {
     pub fn leaf(&mut self, alloc: Global, activation: Activation) -> Result<usize, OutOfMemory>
         ensures { IfOk result (Makes self.old self.new (Leaf activation)) }
     {
-        let top = Top::Leaf(activation);
-        let place = place_of(number_of(activation), 0, 0, self.places.len());
+        let top = PartTop::Leaf(activation);
+        let place = hashed_place(number_of(activation), 0, 0, self.places.len());
         if let Some(found) = self.found(place, top) {
             return Ok(found);
         }
@@ -323,8 +323,8 @@ impl Parts {
         requires yes { yes < length self.old.parts }
         ensures { IfOk result (Makes self.old self.new (Test condition (tree_at self.old.parts no) (tree_at self.old.parts yes))) }
     {
-        let top = Top::Test { condition, no, yes };
-        let place = place_of(condition as usize, no, yes, self.places.len());
+        let top = PartTop::Test { condition, no, yes };
+        let place = hashed_place(condition as usize, no, yes, self.places.len());
         if let Some(found) = self.found(place, top) {
             return Ok(found);
         }
@@ -389,7 +389,7 @@ impl Parts {
         ensures { IfOk result (Makes self.old self.new (live_tree activation test (tree_at self.old.parts source))) }
     {
         match self.top(source) {
-            Top::Leaf(found) => {
+            PartTop::Leaf(found) => {
                 if found.is_active() {
                     let made = self.passing(alloc, activation, test)?;
                     return Ok(made);
@@ -397,13 +397,13 @@ impl Parts {
                 let leaf = self.leaf(alloc, Activation::Inactive)?;
                 Ok(leaf)
             }
-            Top::Test { condition, no, yes } => {
+            PartTop::Test { condition, no, yes } => {
                 let ask = Ask::Live {
                     activation,
                     test,
                     source,
                 };
-                let place = place_of(source, number_of(activation), 3, self.known.len());
+                let place = hashed_place(source, number_of(activation), 3, self.known.len());
                 if let Some(answer) = self.answer(place, ask) {
                     return Ok(answer);
                 }
@@ -449,16 +449,16 @@ impl Parts {
         ensures { IfOk result (Makes self.old self.new (met_of join self.old first second)) }
     {
         match self.top(first) {
-            Top::Leaf(found) => {
+            PartTop::Leaf(found) => {
                 if settles(join, found) {
                     Ok(first)
                 } else {
                     Ok(second)
                 }
             }
-            Top::Test { condition, no, yes } => match self.top(second) {
-                Top::Leaf(_) => self.both(alloc, join, condition, (no, second), (yes, second)),
-                Top::Test {
+            PartTop::Test { condition, no, yes } => match self.top(second) {
+                PartTop::Leaf(_) => self.both(alloc, join, condition, (no, second), (yes, second)),
+                PartTop::Test {
                     condition: other,
                     no: low,
                     yes: high,
@@ -492,7 +492,7 @@ impl Parts {
             first,
             second,
         };
-        let place = place_of(first, second, usize::from(join), self.known.len());
+        let place = hashed_place(first, second, usize::from(join), self.known.len());
         if let Some(answer) = self.answer(place, ask) {
             return Ok(answer);
         }
@@ -507,8 +507,8 @@ impl Parts {
         ensures { result ≡ is_live_somewhere (tree_at self.now.parts part) }
     {
         match self.top(part) {
-            Top::Leaf(found) => found.is_active(),
-            Top::Test {
+            PartTop::Leaf(found) => found.is_active(),
+            PartTop::Test {
                 condition: _,
                 no,
                 yes,
@@ -540,20 +540,20 @@ impl Parts {
         ensures live { result ≡ are_live_of self.old first second }
     {
         match self.top(first) {
-            Top::Leaf(found) => {
+            PartTop::Leaf(found) => {
                 if found.is_active() {
                     return self.is_live_somewhere(second);
                 }
                 false
             }
-            Top::Test { condition, no, yes } => match self.top(second) {
-                Top::Leaf(found) => {
+            PartTop::Test { condition, no, yes } => match self.top(second) {
+                PartTop::Leaf(found) => {
                     if found.is_active() {
                         return self.is_either_live((no, second), (yes, second));
                     }
                     false
                 }
-                Top::Test {
+                PartTop::Test {
                     condition: other,
                     no: low,
                     yes: high,
@@ -579,7 +579,7 @@ impl Parts {
         ensures live { result ≡ are_live_of self.old first second }
     {
         let ask = Ask::Apart { first, second };
-        let place = place_of(first, second, 2, self.known.len());
+        let place = hashed_place(first, second, 2, self.known.len());
         if self.answer(place, ask).is_some() {
             return false;
         }

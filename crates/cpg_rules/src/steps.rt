@@ -5,7 +5,7 @@ ghost use Rattle.cpg_base.specs.Graph.{process_count, edge_count, inputs};
 ghost use Rattle.cpg_order.specs.Urgency.{IsTopological};
 ghost use Rattle.cpg_rules.specs.Growing.{is_live_in, first_live, activation_in};
 ghost use Rattle.cpg_rules.specs.Alternatives.{are_two_live};
-ghost use Rattle.cpg_rules.specs.Steps.{Step, step_of, input_of};
+ghost use Rattle.cpg_rules.specs.Steps.{ActivationStep, step_of, input_of};
 ghost use Rattle.cpg_rules.specs.Rested.{reads, is_aim, are_reading, is_rested, rested};
 
 use cpg_base::{Activation, Order, OutOfMemory, Problem};
@@ -26,17 +26,17 @@ pub struct Input {
 
 /// A process and what its activation rests on.
 #[derive(Drop)]
-pub struct Step {
+pub struct ActivationStep {
     process: u32,
     join: bool,
     inputs: Vec<Input>,
     condition: Option<u32>,
 }
 
-impl Model for Step {
-    ghost use Rattle.cpg_rules.specs.Steps.{Step};
+impl Model for ActivationStep {
+    ghost use Rattle.cpg_rules.specs.Steps.{ActivationStep};
 
-    ghost Value = { Step };
+    ghost Value = { ActivationStep };
 
     ghost view = { λ s. record { process = s.process; join = s.join; inputs = s.inputs.items; condition = s.condition } };
 }
@@ -83,7 +83,7 @@ fn are_live(inputs: &[Input], standings: &[Option<bool>]) -> bool
     true
 }
 
-impl Step {
+impl ActivationStep {
     /// The number of the process.
     pub fn process(&self) -> u32
         ensures { result ≡ self.now.process }
@@ -120,10 +120,10 @@ impl Step {
     }
 
     /// A copy of the step.
-    fn copy(&self) -> Result<Step, OutOfMemory>
+    fn copy(&self) -> Result<ActivationStep, OutOfMemory>
         ensures { IfOk result (λ step. step ≡ self.now) }
     {
-        Ok(Step {
+        Ok(ActivationStep {
             process: self.process,
             join: self.join,
             inputs: self.inputs.clone()?,
@@ -193,11 +193,11 @@ pub fn inputs_of(alloc: Global, problem: &Problem, process: u32) -> Result<Vec<I
 }
 
 /// The step of a process.
-fn step_of(alloc: Global, problem: &Problem, process: u32) -> Result<Step, OutOfMemory>
+fn step_of(alloc: Global, problem: &Problem, process: u32) -> Result<ActivationStep, OutOfMemory>
     requires { process < process_count problem.now }
     ensures { IfOk result (λ step. step ≡ step_of problem.now process) }
 {
-    Ok(Step {
+    Ok(ActivationStep {
         process,
         join: problem.processes()[process as usize].join,
         inputs: inputs_of(alloc, problem, process)?,
@@ -206,7 +206,11 @@ fn step_of(alloc: Global, problem: &Problem, process: u32) -> Result<Step, OutOf
 }
 
 /// The steps of all processes, in the order.
-pub fn steps_of(alloc: Global, problem: &Problem, order: &Order) -> Result<Vec<Step>, OutOfMemory>
+pub fn steps_of(
+    alloc: Global,
+    problem: &Problem,
+    order: &Order,
+) -> Result<Vec<ActivationStep>, OutOfMemory>
     requires { length order.now ≡ process_count problem.now }
     ensures { IfOk result (λ steps. steps.items ≡ map (step_of problem.now) order.now) }
 {
@@ -228,7 +232,7 @@ pub enum Aim {
 }
 
 /// Whether a step is what the walk is for.
-fn is_aim(aim: Aim, step: &Step) -> bool
+fn is_aim(aim: Aim, step: &ActivationStep) -> bool
     ensures { result ≡ is_aim aim step.now }
 {
     match aim {
@@ -238,14 +242,14 @@ fn is_aim(aim: Aim, step: &Step) -> bool
 }
 
 /// Whether some step has an input from a process.
-fn are_reading(steps: &[Step], process: u32) -> bool
+fn are_reading(steps: &[ActivationStep], process: u32) -> bool
     ensures { result ≡ are_reading steps.now process }
 {
     steps.iter().any(|step| step.reads(process))
 }
 
 /// Whether a walk rests on a step, if these are the later steps that it rests on.
-fn is_rested(aim: Aim, step: &Step, later: &[Step]) -> bool
+fn is_rested(aim: Aim, step: &ActivationStep, later: &[ActivationStep]) -> bool
     ensures { result ≡ is_rested aim step.now later.now }
 {
     if is_aim(aim, step) {
@@ -255,7 +259,11 @@ fn is_rested(aim: Aim, step: &Step, later: &[Step]) -> bool
 }
 
 /// Those of these steps that a walk rests on.
-pub fn rested(alloc: Global, aim: Aim, steps: &[Step]) -> Result<Vec<Step>, OutOfMemory>
+pub fn rested(
+    alloc: Global,
+    aim: Aim,
+    steps: &[ActivationStep],
+) -> Result<Vec<ActivationStep>, OutOfMemory>
     ensures { IfOk result (λ kept. kept.items ≡ rested aim steps.now) }
 {
     let Some((step, left)) = steps.split_first() else {

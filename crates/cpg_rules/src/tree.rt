@@ -15,13 +15,13 @@ use std::rc::Rc;
 #[cycle(guard)]
 #[derive(Drop)]
 pub struct GuardTree {
-    node: Rc<Node>,
+    node: Rc<GuardNode>,
 }
 
 // A node is shared by all trees that have it, so that a copy of a tree takes no time.
 #[cycle(guard)]
 #[derive(Drop)]
-enum Node {
+enum GuardNode {
     Leaf(Activation),
     Test {
         condition: u32,
@@ -84,7 +84,7 @@ impl GuardTree {
     pub(crate) fn leaf(alloc: Global, activation: Activation) -> Result<GuardTree, OutOfMemory>
         ensures { IfOk result (λ tree. tree ≡ Leaf activation) }
     {
-        let node = Rc::new(alloc, Node::Leaf(activation))?;
+        let node = Rc::new(alloc, GuardNode::Leaf(activation))?;
         Ok(GuardTree { node })
     }
 
@@ -105,7 +105,7 @@ impl GuardTree {
     ) -> Result<GuardTree, OutOfMemory>
         ensures { IfOk result (λ tree. tree ≡ Test condition no yes) }
     {
-        let node = Rc::new(alloc, Node::Test { condition, no, yes })?;
+        let node = Rc::new(alloc, GuardNode::Test { condition, no, yes })?;
         Ok(GuardTree { node })
     }
 
@@ -115,8 +115,8 @@ impl GuardTree {
         ensures { result ≡ outcome_at self.now scenario.now.values }
     {
         match self.node.as_ref() {
-            Node::Leaf(activation) => *activation,
-            Node::Test { condition, no, yes } => {
+            GuardNode::Leaf(activation) => *activation,
+            GuardNode::Test { condition, no, yes } => {
                 if scenario.value(*condition) {
                     yes.at(scenario)
                 } else {
@@ -131,8 +131,8 @@ impl GuardTree {
         ensures { ShowsTop result self.now }
     {
         match self.node.as_ref() {
-            Node::Leaf(activation) => GuardTop::Leaf(*activation),
-            Node::Test { condition, no, yes } => GuardTop::Test {
+            GuardNode::Leaf(activation) => GuardTop::Leaf(*activation),
+            GuardNode::Test { condition, no, yes } => GuardTop::Test {
                 condition: *condition,
                 no,
                 yes,
@@ -150,8 +150,8 @@ impl GuardTree {
         ensures { OnOk result (tests.new.items ≡ tests.old.items ++ way self.now scenario.now.values) }
     {
         match self.node.as_ref() {
-            Node::Leaf(_) => Ok(()),
-            Node::Test { condition, no, yes } => {
+            GuardNode::Leaf(_) => Ok(()),
+            GuardNode::Test { condition, no, yes } => {
                 tests.push(*condition)?;
                 if scenario.value(*condition) {
                     yes.push_way(scenario, tests)

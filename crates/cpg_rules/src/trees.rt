@@ -13,7 +13,7 @@ use crate::GuardTree;
 use crate::composing::{composed_along, ranks_of, seeds, trees_of};
 use crate::edges::{EdgeGuard, edge_guards};
 use crate::growing::tracks;
-use crate::shared::Parts;
+use crate::shared::SharedParts;
 use crate::steps::{Aim, rested, steps_of};
 use cpg_base::{Order, OutOfMemory, Problem, Scenario};
 use std::alloc::{AllocError, AllocFailed, Global};
@@ -69,7 +69,7 @@ impl From<OutOfMemory> for GuardFault {
 #[derive(Drop)]
 pub struct SharedGuards {
     pub guards: GuardTrees,
-    pub parts: Parts,
+    pub parts: SharedParts,
     /// The parts of the processes, by number.
     pub roots: Vec<usize>,
 }
@@ -94,7 +94,7 @@ pub fn shared_guards(
         return Err(GuardFault::TooManyTracks);
     }
     let ranks = ranks_of(alloc, problem, order)?;
-    let mut parts = Parts::new(alloc, ranks)?;
+    let mut parts = SharedParts::new(alloc, ranks)?;
     let seeds = seeds(alloc, &mut parts, count)?;
     let roots = composed_along(alloc, problem, &mut parts, steps.as_slice(), seeds)?;
     let trees = trees_of(alloc, &parts, roots.as_slice())?;

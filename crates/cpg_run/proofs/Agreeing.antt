@@ -56,7 +56,8 @@ module _ (g : Graph) (order : List ℕ) (topological : IsTopological g order) wh
     ready_same node v r = record {
       ends = λ q h l on acts. subst (λ n. n ≤ v) (end_same q h l) (r.ends q h l on acts);
       heard = λ q c h l on k d. subst (λ n. n ≤ v) (heard_same node q c l k d) (r.heard q c h l on k d);
-      least = λ b x y. r.least b (λ q h l on acts. subst (λ n. n ≤ b) (sym (end_same q h l)) (x q h l on acts)) (λ q c h l on k d. subst (λ n. n ≤ b) (sym (heard_same node q c l k d)) (y q c h l on k d));
+      least = λ b x y. r.least b (λ q h l on acts. subst (λ n. n ≤ b) (sym (end_same q h l)) (x q h l on acts))
+          (λ q c h l on k d. subst (λ n. n ≤ b) (sym (heard_same node q c l k d)) (y q c h l on k d));
     }
 
     pub free_same : (node v : ℕ) → IsFree g order s t i node v → IsFree g order s u i node v

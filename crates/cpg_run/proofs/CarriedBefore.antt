@@ -1,7 +1,8 @@
 -- What is carried beside a time is found in the rows of earlier processes alone.
 use Rattle.std.proofs.Common.{ℕ, ◌<◌, ◌≤◌, ◌≡◌, ◌&&◌, not, ◌==◌, if◌then◌else◌, List, [], ◌∷◌, ◌++◌, filter, flat_map, Contains, arith, sym, ap, ap₂, ◌∙◌, inl, inr}
 use Rattle.cpg_base.specs.Numbers.{numbers_below}
-use Rattle.cpg_base.specs.Graph.{Graph, process_at, node_of, source, inputs, is_message, edge_count, condition_count, item_count, message_item, broadcast_item, item_at, is_frozen, producer, producer_of_item, process_of}
+use Rattle.cpg_base.specs.Graph.{Graph, process_at, node_of, source, inputs, is_message, edge_count, condition_count, item_count, message_item, broadcast_item, item_at, is_frozen, producer}
+use Rattle.cpg_base.specs.Graph.{producer_of_item, process_of}
 use Rattle.cpg_base.specs.declared.item.Item.{Item}
 use Rattle.cpg_base.specs.Activity.{active, item_active}
 use Rattle.cpg_base.proofs.Lists.{Contains-filter_parts, numbers-Contains, same_flat_map}

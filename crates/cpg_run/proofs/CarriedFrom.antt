@@ -1,10 +1,12 @@
 -- Where a literal that is carried beside a time comes from; so all that is carried in a scenario holds in it, and is on variables of the graph.
-use Rattle.std.proofs.Common.{ℕ, ◌<◌, ◌≤◌, ◌≡◌, ◌==◌, ◌&&◌, Bool, true, false, not, if◌then◌else◌, List, [], ◌∷◌, ◌++◌, map, filter, flat_map, Contains, is_some, option_to_list, arith, refl, sym, ap, ◌∙◌, subst, inl, inr, All}
+use Rattle.std.proofs.Common.{ℕ, ◌<◌, ◌≤◌, ◌≡◌, ◌==◌, ◌&&◌, Bool, true, false, not, if◌then◌else◌, List, [], ◌∷◌, ◌++◌, map, filter, flat_map, Contains, is_some, option_to_list, arith, refl, sym, ap}
+use Rattle.std.proofs.Common.{◌∙◌, subst, inl, inr, All}
 use Rattle.std.proofs.lemmas.Bool.{cases_Bool, cond-true, cond-false, and_parts, not-true}
 use Rattle.std.proofs.lemmas.List.Elements.{All-contains, Contains-append_cases}
 use Rattle.std.proofs.lemmas.List.Quantifiers.{position-Some}
 use Rattle.cpg_base.specs.Numbers.{numbers_below}
-use Rattle.cpg_base.specs.Graph.{Graph, process_count, condition_count, item_count, item_at, edge_at, process_at, node_of, source, inputs, is_message, is_frozen, message_item, broadcast_item, producer, producer_of_item, process_of, condition_of, disjunctions, value_variable, IsVariable}
+use Rattle.cpg_base.specs.Graph.{Graph, process_count, condition_count, item_count, item_at, edge_at, process_at, node_of, source, inputs, is_message, is_frozen, message_item, broadcast_item}
+use Rattle.cpg_base.specs.Graph.{producer, producer_of_item, process_of, condition_of, disjunctions, value_variable, IsVariable}
 use Rattle.cpg_base.specs.declared.item.Item.{Item}
 use Rattle.cpg_base.specs.declared.item.Item.TheVariants.{Start, Message, Broadcast}
 use Rattle.cpg_base.specs.Activity.{active, item_active}
@@ -24,7 +26,8 @@ use Rattle.cpg_cube.specs.Fit.{IsCube}
 use Rattle.cpg_cube.specs.Column.{Column}
 use Rattle.cpg_run.specs.Supported.{up_to}
 use Rattle.cpg_run.proofs.Awaited.{up_to_before, up_to_itself, up_to_parts}
-use Rattle.cpg_run.specs.Carried.{row_at, told_by, number_known, decided, heard, received, executed, passed, carried_at_start, carried_at_end, sent_by_value, queued, carried_at_send, carried_by_item, carried}
+use Rattle.cpg_run.specs.Carried.{row_at, told_by, number_known, decided, heard, received, executed, passed, carried_at_start, carried_at_end, sent_by_value, queued, carried_at_send, carried_by_item}
+use Rattle.cpg_run.specs.Carried.{carried}
 use Rattle.cpg_run.specs.RowLaws.{IsEarlier}
 use Rattle.cpg_run.proofs.CarriedBefore.{hears_earlier, receives_earlier}
 use Rattle.cpg_run.proofs.CubesOf.{number_holds}
@@ -212,16 +215,18 @@ module _ (g : Graph) (order : List ℕ) (rows : List (List Column)) (s : Scenari
         ]
 
     pub from_send_of : (x : ℕ) (m : Literal) → item_active g s.values (item_at g x) ≡ true → Contains (carried_at_send g order rows s x) m → FromSend x m
-    from_send_of x m on j = elim (Contains-append_cases (if is_frozen g x then decided g s (producer g x) else flat_map (queued g order rows s) (queued_before g order x) ++ carried_at_end g order rows s (producer g x)) (sent_by_value g s x) m j) [
-      | inr a ↦ of_value (in_sent x m a)
-      | inl a ↦ elim (cases_Bool (is_frozen g x)) [
-        | inl f ↦ of_producer f (in_decided (producer g x) m (subst (λ ls. Contains ls m) (cond-true _ _ _ f) a))
-        | inr f ↦ elim (Contains-append_cases (flat_map (queued g order rows s) (queued_before g order x)) (carried_at_end g order rows s (producer g x)) m (subst (λ ls. Contains ls m) (cond-false _ _ _ f) a)) [
-          | inl b ↦ let r = Contains-flat_map_parts (queued g order rows s) (queued_before g order x) m b in of_queue f r.0 r.1 (in_queued r.0 m r.2)
-          | inr b ↦ of_end f (from_end_of (producer g x) m (producer_active g s.values (item_at g x) on) b)
+    from_send_of x m on j = elim (Contains-append_cases
+        (if is_frozen g x then decided g s (producer g x) else flat_map (queued g order rows s) (queued_before g order x) ++ carried_at_end g order rows s (producer g x)) (sent_by_value g s x) m j) [
+          | inr a ↦ of_value (in_sent x m a)
+          | inl a ↦ elim (cases_Bool (is_frozen g x)) [
+            | inl f ↦ of_producer f (in_decided (producer g x) m (subst (λ ls. Contains ls m) (cond-true _ _ _ f) a))
+            | inr f ↦ elim (Contains-append_cases (flat_map (queued g order rows s) (queued_before g order x)) (carried_at_end g order rows s (producer g x)) m
+                (subst (λ ls. Contains ls m) (cond-false _ _ _ f) a)) [
+                  | inl b ↦ let r = Contains-flat_map_parts (queued g order rows s) (queued_before g order x) m b in of_queue f r.0 r.1 (in_queued r.0 m r.2)
+                  | inr b ↦ of_end f (from_end_of (producer g x) m (producer_active g s.values (item_at g x) on) b)
+                ]
+          ]
         ]
-      ]
-    ]
 
     -- ---- so it is a number of the scenario, or of an earlier row
 
@@ -288,4 +293,5 @@ module _ (g : Graph) (order : List ℕ) (rows : List (List Column)) (s : Scenari
       where
         known_is : IsOf (place order (producer g x)) m → IsVariable g m.variable
         known_is (of_number v known is) = subst (IsVariable g) (sym (ap (λ (l : Literal). l.variable) is)) known
-        known_is (of_row y at row) = All-contains (λ (l : Literal). IsVariable g l.variable) row.column.cube m (All-contains (λ (c : Column). IsCube g c.cube) (row_at rows y) row.column (cubes y at) row.stands).known row.literal
+        known_is (of_row y at row) = All-contains (λ (l : Literal). IsVariable g l.variable) row.column.cube m
+            (All-contains (λ (c : Column). IsCube g c.cube) (row_at rows y) row.column (cubes y at) row.stands).known row.literal

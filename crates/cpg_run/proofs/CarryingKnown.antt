@@ -2,7 +2,8 @@
 use Rattle.std.proofs.Common.{ℕ, ◌<◌, ◌≤◌, ◌≡◌, ◌==◌, true, false, List, length, filter, Contains, All, Option, arith, refl, sym, ap, ◌∙◌, subst, inl, inr, lt-ltb}
 use Rattle.std.proofs.lemmas.Bool.{and_parts, and_from, not_from_false, eqb-false}
 use Rattle.std.proofs.lemmas.List.Elements.{All-contains, Contains-append_left}
-use Rattle.cpg_base.specs.Graph.{Graph, process_count, condition_count, item_count, item_at, node_of, is_sent, is_sent_item, is_heard_by, message_item, broadcast_item, producer, process_of, value_variable}
+use Rattle.cpg_base.specs.Graph.{Graph, process_count, condition_count, item_count, item_at, node_of, is_sent, is_sent_item, is_heard_by, message_item, broadcast_item, producer, process_of}
+use Rattle.cpg_base.specs.Graph.{value_variable}
 use Rattle.cpg_base.specs.declared.item.Item.TheVariants.{Message, Broadcast}
 use Rattle.cpg_base.specs.Activity.{active, live, item_active}
 use Rattle.cpg_base.specs.Numbers.{numbers_below}
@@ -28,7 +29,8 @@ use Rattle.cpg_run.proofs.KnownRanges.{supported_from_ranges}
 use Rattle.cpg_run.proofs.Supports.{known_value, known_input, known_count, known_own_value, known_frame, known_end, known_by_end, told_cube, told_count, a_match, start_grows}
 use Rattle.cpg_run.specs.Carried.{row_at, number_known, carried, carried_by_item}
 use Rattle.cpg_run.specs.Carrying.{AreTablesCarrying}
-use Rattle.cpg_run.proofs.CarriedFrom.{FromRow, FromValue, FromProcess, by_value, by_broadcast, by_message, by_count, FromStart, own, more, FromEnd, from_start, its_count, FromSent, FromQueued, left_value, left_sent, left_end, FromSend, of_producer, of_queue, of_end, of_value, sent_variable, from_start_of, from_send_of}
+use Rattle.cpg_run.proofs.CarriedFrom.{FromRow, FromValue, FromProcess, by_value, by_broadcast, by_message, by_count, FromStart, own, more, FromEnd, from_start, its_count, FromSent, FromQueued}
+use Rattle.cpg_run.proofs.CarriedFrom.{left_value, left_sent, left_end, FromSend, of_producer, of_queue, of_end, of_value, sent_variable, from_start_of, from_send_of}
 use Rattle.cpg_run.proofs.CarryingTimed.{carrying_times, carrying_active}
 use Rattle.cpg_run.proofs.SameSends.{producer_active}
 
@@ -45,7 +47,8 @@ module _ (g : Graph) (urgency order : List ℕ) (frozen : List (Option ℕ)) (ro
 
     -- the value of what decides a process up to another on its node
     value_known : (p q : ℕ) (m : Literal) → p < process_count g → Contains (up_to g order p) q → FromValue g order rows s q m → Contains (known_at_start g order tables s p) m
-    value_known p q m l j f = subst (Contains (known_at_start g order tables s p)) (sym f.is) (known_value g order frozen tables given s law urgency z.timed.admitted.urgent p q f.condition l j f.decides)
+    value_known p q m l j f = subst (Contains (known_at_start g order tables s p)) (sym f.is)
+        (known_value g order frozen tables given s law urgency z.timed.admitted.urgent p q f.condition l j f.decides)
 
     process_known : (p q : ℕ) (m : Literal) → p < process_count g → Contains (up_to g order p) q → FromProcess g order rows s p q m → Contains (known_at_start g order tables s p) m
     process_known p q m l j (by_value f) = value_known p q m l j f
@@ -54,7 +57,12 @@ module _ (g : Graph) (urgency order : List ℕ) (frozen : List (Option ℕ)) (ro
         let up = up_to_parts g order z.timed.admitted.topological p q l j in
         let n = numbers-Contains (condition_count g) c (Contains-filter_parts (decides g s.values q) (numbers_below (condition_count g)) c f.decides).0 in
         let far : (node_of g (process_of g c) == node_of g p) ≡ false = subst (λ k. (node_of g (process_of g c) == k) ≡ false) up.node f.other in
-        let two : 1 < length g.nodes = omega (arith, eqb-false (node_of g (process_of g c)) (node_of g p) far, z.timed.admitted.formed.nodes p l, z.timed.admitted.formed.nodes (process_of g c) (process_of_below g c n)) in
+        let two : 1 < length g.nodes = omega (
+          arith,
+          eqb-false (node_of g (process_of g c)) (node_of g p) far,
+          z.timed.admitted.formed.nodes p l,
+          z.timed.admitted.formed.nodes (process_of g c) (process_of_below g c n),
+        ) in
         let heard = ap (is_heard_by g (node_of g p)) (item_at-broadcast g c) ∙ and_from _ _ (lt-ltb 1 (length g.nodes) two) (not_from_false _ far) in
         known_frame g order tables s p (broadcast_item g c) m (await_broadcast g order s p (broadcast_item g c) q c j f.decides refl heard)
         (told_cube g order tables s (broadcast_item g c) f.row.column m (row_column (broadcast_item g c) m f.row) f.row.literal)
@@ -84,21 +92,25 @@ module _ (g : Graph) (urgency order : List ℕ) (frozen : List (Option ℕ)) (ro
     end_grows : (p q : ℕ) (m : Literal) → Contains (up_to g order p) q → Contains (known_at_end g order tables s q) m → Contains (known_at_end g order tables s p) m
     unfolding given
     end_grows p q m j k = elim (up_to_cases g order z.timed.admitted.topological p q j) [
-      | inl before ↦ Contains-append_left (known_at_start g order tables s p) _ m (start_grows g order frozen tables given s law p q m (earlier_parts g order z.timed.admitted.topological p q before) k)
+      | inl before ↦ Contains-append_left (known_at_start g order tables s p) _ m
+          (start_grows g order frozen tables given s law p q m (earlier_parts g order z.timed.admitted.topological p q before) k)
       | inr is ↦ subst (λ p. Contains (known_at_end g order tables s p) m) (sym is) k
     ]
 
-    queued_known : (p y : ℕ) (m : Literal) → p < process_count g → producer g y < process_count g → Contains (up_to g order p) (producer g y) → FromQueued g order rows s y m → Contains (known_at_end g order tables s p) m
+    queued_known : (p y : ℕ) (m : Literal) → p < process_count g → producer g y < process_count g → Contains (up_to g order p) (producer g y) → FromQueued g order rows s y m →
+        Contains (known_at_end g order tables s p) m
     queued_known p y m l n j (left_value f) = Contains-append_left (known_at_start g order tables s p) _ m (value_known p (producer g y) m l j f)
     queued_known p y m l n j (left_sent on f) = end_grows p (producer g y) m j (sent_known y m on f)
     queued_known p y m l n j (left_end on free f) = end_grows p (producer g y) m j (end_known (producer g y) m n (producer_active g s.values (item_at g y) on) f)
 
-    send_known : (x : ℕ) (m : Literal) → x < item_count g → is_sent g x ≡ true → item_active g s.values (item_at g x) ≡ true → FromSend g order rows s x m → Contains (known_at_end g order tables s (producer g x)) m
+    send_known : (x : ℕ) (m : Literal) → x < item_count g → is_sent g x ≡ true → item_active g s.values (item_at g x) ≡ true → FromSend g order rows s x m →
+        Contains (known_at_end g order tables s (producer g x)) m
     send_known x m l e on (of_producer f v) = Contains-append_left (known_at_start g order tables s (producer g x)) _ m
         (value_known (producer g x) (producer g x) m (producer_within g z.timed.admitted.formed x l) (up_to_itself g order z.timed.admitted.topological (producer g x)) v)
     send_known x m l e on (of_queue free y j f) =
         let b = queued_parts g order z.timed.admitted.topological x y l e j in
-        queued_known (producer g x) y m (producer_within g z.timed.admitted.formed x l) (producer_within g z.timed.admitted.formed y b.within) (producer_up_to g order z.timed.admitted.topological x y l b.within b.home b.less) f
+        queued_known (producer g x) y m (producer_within g z.timed.admitted.formed x l) (producer_within g z.timed.admitted.formed y b.within)
+        (producer_up_to g order z.timed.admitted.topological x y l b.within b.home b.less) f
     send_known x m l e on (of_end free f) = end_known (producer g x) m (producer_within g z.timed.admitted.formed x l) (producer_active g s.values (item_at g x) on) f
     send_known x m l e on (of_value f) = sent_known x m (producer_active g s.values (item_at g x) on) f
 
@@ -106,13 +118,16 @@ module _ (g : Graph) (urgency order : List ℕ) (frozen : List (Option ℕ)) (ro
     pub carried_is_known : (x : ℕ) (m : Literal) → x < item_count g → item_active g s.values (item_at g x) ≡ true → Contains (carried g order rows s x) m → Contains (known g order tables s x) m
     carried_is_known x m l on j = elim (item_cases g x l) [
       | inl c ↦ subst (λ i. Contains (known_by_item g order tables s i) m) (sym c.1)
-          (start_known x m c.0 (from_start_of g order rows s z.timed.admitted.topological x m (sym (ap (item_active g s.values) c.1) ∙ on) (subst (λ i. Contains (carried_by_item g order rows s x i) m) c.1 j)))
+          (start_known x m c.0 (from_start_of g order rows s z.timed.admitted.topological x m (sym (ap (item_active g s.values) c.1) ∙ on)
+          (subst (λ i. Contains (carried_by_item g order rows s x i) m) c.1 j)))
       | inr (inl c) ↦
           let e : is_sent g x ≡ true = ap (is_sent_item g) c.3 ∙ (and_parts (is_sent_item g (Message c.0)) (live g s.values c.0) (sym (ap (item_active g s.values) c.3) ∙ on)).0 in
-          known_by_end g order frozen tables given s law x m e (send_known x m l e on (from_send_of g order rows s z.timed.admitted.topological x m on (subst (λ i. Contains (carried_by_item g order rows s x i) m) c.3 j)))
+          known_by_end g order frozen tables given s law x m e
+          (send_known x m l e on (from_send_of g order rows s z.timed.admitted.topological x m on (subst (λ i. Contains (carried_by_item g order rows s x i) m) c.3 j)))
       | inr (inr c) ↦
           let e : is_sent g x ≡ true = ap (is_sent_item g) c.3 ∙ (and_parts (is_sent_item g (Broadcast c.0)) (active g s.values (process_of g c.0)) (sym (ap (item_active g s.values) c.3) ∙ on)).0 in
-          known_by_end g order frozen tables given s law x m e (send_known x m l e on (from_send_of g order rows s z.timed.admitted.topological x m on (subst (λ i. Contains (carried_by_item g order rows s x i) m) c.3 j)))
+          known_by_end g order frozen tables given s law x m e
+          (send_known x m l e on (from_send_of g order rows s z.timed.admitted.topological x m on (subst (λ i. Contains (carried_by_item g order rows s x i) m) c.3 j)))
     ]
 
   pub supported : Supported g order tables

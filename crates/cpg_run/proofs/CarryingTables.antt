@@ -19,7 +19,8 @@ use Rattle.cpg_run.specs.Carrying.{AreTablesCarrying, CarryingTablesAreLawful}
 use Rattle.cpg_run.proofs.CarryingKnown.{run_times, given, supported}
 use Rattle.cpg_run.proofs.CarryingReach.{rows_in_reach}
 
-module _ (g : Graph) (urgency order : List ℕ) (frozen : List (Option ℕ)) (rows : List (List Column)) (tables : List NodeTable) (z : AreTablesCarrying g urgency order frozen rows tables) (r : Reach) (is : IsReach g order r) where
+module _ (g : Graph) (urgency order : List ℕ) (frozen : List (Option ℕ)) (rows : List (List Column)) (tables : List NodeTable) (z : AreTablesCarrying g urgency order frozen rows tables) (r : Reach)
+    (is : IsReach g order r) where
   row_formed : (x : ℕ) → x < item_count g → IsFormed g urgency (reach_of r x) (row_at rows x)
   row_formed x l = record {
     in_reach = every (λ (c : Column). All (λ (m : Literal). Contains (reach_of r x) m.variable) c.cube) (row_at rows x)

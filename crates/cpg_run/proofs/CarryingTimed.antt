@@ -32,7 +32,8 @@ module _ (g : Graph) (urgency order : List ℕ) (frozen : List (Option ℕ)) (ti
     | inr past ↦ ap (λ cs. times_in cs s) (row_past x past) ∙ sym (ap option_to_list (time_past s t run x past))
   ]
 
-  pub carrying_active : (x : ℕ) (c : Column) → Contains (row_at rows x) c → (s : Scenario) → IsScenario g s → matches c.cube s ≡ true → (x < item_count g) × (item_active g s.values (item_at g x) ≡ true)
+  pub carrying_active : (x : ℕ) (c : Column) → Contains (row_at rows x) c → (s : Scenario) → IsScenario g s → matches c.cube s ≡ true → (x < item_count g) ×
+      (item_active g s.values (item_at g x) ≡ true)
   carrying_active x c j s law h =
       let r = a_run g order frozen s timed.admitted.topological in
       let there = Contains-map (λ (c : Column). c.time) (filter (λ (c : Column). matches c.cube s) (row_at rows x)) c (Contains-filter (λ (c : Column). matches c.cube s) (row_at rows x) c h j) in

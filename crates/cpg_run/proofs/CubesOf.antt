@@ -1,12 +1,14 @@
 -- Cubes of literals: which scenarios they match, that there is one, and that two of the same literals have the same ranges.
-use Rattle.std.proofs.Common.{ℕ, suc, ltb, ◌<◌, ◌≤◌, ◌≡◌, ◌≢◌, ◌==◌, Bool, true, false, List, [], ◌∷◌, ◌++◌, map, filter, flat_map, Contains, arith, refl, sym, ap, ◌∙◌, subst, inl, inr, eq-eqb, eqb-true, ne_eqb}
+use Rattle.std.proofs.Common.{ℕ, suc, ltb, ◌<◌, ◌≤◌, ◌≡◌, ◌≢◌, ◌==◌, Bool, true, false, List, [], ◌∷◌, ◌++◌, map, filter, flat_map, Contains, arith, refl, sym, ap, ◌∙◌, subst, inl, inr, eq-eqb}
+use Rattle.std.proofs.Common.{eqb-true, ne_eqb}
 use Rattle.std.specs.List.{list_any}
 use Rattle.std.proofs.lemmas.Bool.{cases_Bool, cond-false, both_ways}
 use Rattle.std.proofs.lemmas.List.Elements.{Contains-append_cases, Contains-append_left, Contains-append_right}
 use Rattle.std.proofs.lemmas.List.Kept.{AllPairs-from_increasing, IsStrictlyIncreasing-filter}
 use Rattle.cpg_base.specs.Numbers.{numbers_below, greatest}
 use Rattle.cpg_base.specs.Graph.{Graph, process_count, condition_count, value_variable}
-use Rattle.cpg_base.proofs.Lists.{Contains-first, Contains-rest, Contains-map, Contains-map_parts, Contains-filter, Contains-filter_parts, Contains-numbers, Contains-flat_map, Contains-flat_map_parts, numbers_rise, all_from, from_all, same_map, list_any_true, list_any_parts, greatest_above}
+use Rattle.cpg_base.proofs.Lists.{Contains-first, Contains-rest, Contains-map, Contains-map_parts, Contains-filter, Contains-filter_parts, Contains-numbers, Contains-flat_map, Contains-flat_map_parts}
+use Rattle.cpg_base.proofs.Lists.{numbers_rise, all_from, from_all, same_map, list_any_true, list_any_parts, greatest_above}
 use Rattle.cpg_base.proofs.Pairs.{AllPairs-map}
 use Rattle.cpg_base.specs.Scenario.{Scenario, IsScenario, number_of}
 use Rattle.cpg_base.proofs.NumbersOf.{variable_or_not, unknown-zero}
@@ -115,7 +117,8 @@ module _ (k : ℕ) (literals : List Literal) where
   rising : IsRising cube_of
   unfolding cube_of kept spoken_below
   rising = AllPairs-map (λ v w. v < w) (λ (l m : Literal). l.variable < m.variable) kept spoken_below (λ v w h. h)
-      (AllPairs-from_increasing spoken_below (IsStrictlyIncreasing-filter is_spoken (numbers_below (suc (greatest (map (λ (m : Literal). m.variable) literals)))) (numbers_rise (suc (greatest (map (λ (m : Literal). m.variable) literals))))))
+      (AllPairs-from_increasing spoken_below (IsStrictlyIncreasing-filter is_spoken (numbers_below (suc (greatest (map (λ (m : Literal). m.variable) literals))))
+      (numbers_rise (suc (greatest (map (λ (m : Literal). m.variable) literals))))))
 
   -- a literal of the cube is what is kept of a variable of the literals
   from_cube : (l : Literal) → Contains cube_of l → (is_spoken l.variable ≡ true) × (kept l.variable ≡ l)

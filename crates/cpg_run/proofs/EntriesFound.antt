@@ -78,7 +78,8 @@ module _ (g : Graph) (order : List ℕ) (frozen : List (Option ℕ)) (rows : Lis
       all = λ u d j entry lowest. elim (Contains-append_cases done (s ∷ []) u j) [
         | inl i ↦
             let r = Contains-map_parts (λ (c : Column). lows g c.cube) entries u (so_far.all u d i entry lowest) in
-            subst (Contains (map (λ (c : Column). lows g c.cube) (entries ++ e ∷ []))) r.2 (Contains-map (λ (c : Column). lows g c.cube) (entries ++ e ∷ []) r.0 (Contains-append_left entries (e ∷ []) r.0 r.1))
+            subst (Contains (map (λ (c : Column). lows g c.cube) (entries ++ e ∷ []))) r.2
+            (Contains-map (λ (c : Column). lows g c.cube) (entries ++ e ∷ []) r.0 (Contains-append_left entries (e ∷ []) r.0 r.1))
         | inr i ↦
             subst (Contains (map (λ (c : Column). lows g c.cube) (entries ++ e ∷ []))) (least ∙ only_one s u i)
             (Contains-map (λ (c : Column). lows g c.cube) (entries ++ e ∷ []) e (Contains-append_right entries (e ∷ []) e (Contains-first e [])))

@@ -1,5 +1,6 @@
 -- Entries have the times of the runs, and no two match one scenario, so they can be merged.
-use Rattle.std.proofs.Common.{ℕ, ◌<◌, ◌≤◌, ◌≡◌, ◌≢◌, Bool, true, List, [], ◌∷◌, length, map, filter, get_or, Contains, All, AllPairs, Option, Some, None, option_to_list, arith, refl, sym, ap, ◌∙◌, subst, inl, inr}
+use Rattle.std.proofs.Common.{ℕ, ◌<◌, ◌≤◌, ◌≡◌, ◌≢◌, Bool, true, List, [], ◌∷◌, length, map, filter, get_or, Contains, All, AllPairs, Option, Some, None, option_to_list, arith, refl, sym, ap, ◌∙◌}
+use Rattle.std.proofs.Common.{subst, inl, inr}
 use Rattle.std.proofs.lemmas.Bool.{cases_Bool, cond-false, both_ways, false_from_ne_true}
 use Rattle.std.proofs.lemmas.List.{length-map}
 use Rattle.std.proofs.lemmas.List.Elements.{Contains-get_or}
@@ -33,7 +34,8 @@ every P xs h k d l = h (get_or xs k d) (Contains-get_or xs k d l)
 
 -- at most one element passes of a list of which no two pass
 module _ {X : Type 0} (R : X → X → Type 0) (p : X → Bool) where
-  two_at_most : (xs ys : List X) → ((y : X) → Contains ys y → Contains xs y × (p y ≡ true)) → AllPairs R ys → ((x y : X) → Contains xs x → Contains xs y → p x ≡ true → p y ≡ true → R x y → ⊥) → length ys ≤ 1
+  two_at_most : (xs ys : List X) → ((y : X) → Contains ys y → Contains xs y × (p y ≡ true)) → AllPairs R ys → ((x y : X) → Contains xs x → Contains xs y → p x ≡ true → p y ≡ true → R x y → ⊥) →
+      length ys ≤ 1
   two_at_most xs [] from pairs never = omega arith
   two_at_most xs (y ∷ []) from pairs never = omega arith
   two_at_most xs (y ∷ z ∷ ys) from pairs never =
@@ -51,7 +53,8 @@ the_one (y ∷ z ∷ xs) x l j = absurd (omega arith)
 
 -- ---- the cube of what is carried in a scenario
 
-module _ (g : Graph) (urgency order : List ℕ) (frozen : List (Option ℕ)) (rows : List (List Column)) (x : ℕ) (timed : IsTimed g urgency order frozen) (l : x < item_count g) (earlier : AreRowsFor g order frozen x rows) where
+module _ (g : Graph) (urgency order : List ℕ) (frozen : List (Option ℕ)) (rows : List (List Column)) (x : ℕ) (timed : IsTimed g urgency order frozen) (l : x < item_count g)
+    (earlier : AreRowsFor g order frozen x rows) where
   few : process_count g ≤ 128
   few = timed.admitted.formed.few_processes
 

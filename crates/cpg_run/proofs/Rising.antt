@@ -1,5 +1,6 @@
 -- With each moment the times of a run rise by an execution and two rounds at most, above a base that the frozen times keep to.
-use Rattle.std.proofs.Common.{◌≡◌, ◌∙◌, ℕ, zero, suc, ◌+◌, ◌-◌, ◌*◌, ◌<◌, ◌≤◌, ◌==◌, List, [], ◌∷◌, ◌++◌, length, get_or, flat_map, Contains, Option, Some, None, option_to_list, option_map, unwrap_or, arith, refl, sym, ap, inl, inr, subst}
+use Rattle.std.proofs.Common.{◌≡◌, ◌∙◌, ℕ, zero, suc, ◌+◌, ◌-◌, ◌*◌, ◌<◌, ◌≤◌, ◌==◌, List, [], ◌∷◌, ◌++◌, length, get_or, flat_map, Contains, Option, Some, None, option_to_list, option_map, unwrap_or}
+use Rattle.std.proofs.Common.{arith, refl, sym, ap, inl, inr, subst}
 use Rattle.std.proofs.lemmas.Bool.{cases_Bool, cases_lt, cond-true, cond-false}
 use Rattle.std.proofs.lemmas.Grind.{div_ceil_times}
 use Rattle.std.proofs.lemmas.List.Sums.{get_or-le-sum_by, sum_by-take-le}
@@ -70,7 +71,8 @@ module _ (base : ℕ) (g : Graph) (order : List ℕ) (frozen : List (Option ℕ)
           let h = (inputs_parts g p e c).0 in
           let up = input_goes_up g order topological p e c in
           elim (cases_Bool (is_message g e)) [
-            | inl is ↦ subst (λ n. n ≤ bound base m + 16000000000) (sym (cond-true _ _ _ is)) (frame_le m (message_item g e) a (omega arith) (omega (arith, message_sooner g order topological p e h up)))
+            | inl is ↦ subst (λ n. n ≤ bound base m + 16000000000) (sym (cond-true _ _ _ is))
+                (frame_le m (message_item g e) a (omega arith) (omega (arith, message_sooner g order topological p e h up)))
             | inr is ↦ subst (λ n. n ≤ bound base m + 16000000000) (sym (cond-false _ _ _ is))
                 (omega (arith, a.ends (source g e) (source_in_order g order topological e h) (omega (arith, end_sooner g order topological p (source g e) up))))
           ]
@@ -99,7 +101,8 @@ module _ (base : ℕ) (g : Graph) (order : List ℕ) (frozen : List (Option ℕ)
           let release : (process_at g p).release ≤ 1000000000 = (within.processes p _ l).release in
           start_bounds_le g order s t p (bound base m + 16000000000) (omega arith) (λ e c k. input_le e c) (λ q c k. ended_le q c) heard_le
 
-    send_le : (m x : ℕ) → SmallBefore m → moment g order x ≤ m → x < item_count g → phase (item_at g x) ≡ rank_of_item (item_at g x) + 2 → greatest (send_bounds g order s t x) ≤ bound base m + 32000000000
+    send_le : (m x : ℕ) → SmallBefore m → moment g order x ≤ m → x < item_count g → phase (item_at g x) ≡ rank_of_item (item_at g x) + 2 →
+        greatest (send_bounds g order s t x) ≤ bound base m + 32000000000
     send_le m x a before l sends = send_bounds_le g order s t x (bound base m + 32000000000)
         (omega (arith, next_slot-le g (home g x) (end_in t (producer g x)), round-le g within, a.ends (producer g x) (producer_in_range g order topological x l) (omega arith)))
         (λ y c active.

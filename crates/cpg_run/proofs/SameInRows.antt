@@ -1,5 +1,6 @@
 -- Two scenarios, the second of which has literals that were told in the first: what a row of an earlier process tells there.
-use Rattle.std.proofs.Common.{ℕ, ◌<◌, ◌≡◌, true, false, List, [], ◌∷◌, length, map, filter, flat_map, get_or, Contains, Option, Some, None, option_to_list, append-nil, arith, refl, sym, ap, ◌∙◌, subst, inl, inr}
+use Rattle.std.proofs.Common.{ℕ, ◌<◌, ◌≡◌, true, false, List, [], ◌∷◌, length, map, filter, flat_map, get_or, Contains, Option, Some, None, option_to_list, append-nil, arith, refl, sym, ap, ◌∙◌}
+use Rattle.std.proofs.Common.{subst, inl, inr}
 use Rattle.std.proofs.lemmas.Bool.{cond-false}
 use Rattle.cpg_base.specs.Graph.{Graph, item_count, item_at}
 use Rattle.cpg_base.specs.Activity.{item_active}
@@ -73,7 +74,8 @@ module _ (g : Graph) (order : List ℕ) (frozen : List (Option ℕ)) (rows : Lis
         let c : Column = m.column in
         let matched : matches c.cube u ≡ true = subst (λ ls. matches ls u ≡ true) m.tells h in
         let there : Contains (filter (λ (c : Column). matches c.cube u) (row_at rows y)) c = Contains-filter (λ (c : Column). matches c.cube u) (row_at rows y) c matched m.stands in
-        let found : get_or w.times y None ≡ Some c.time = in_option (get_or w.times y None) c.time (subst (λ ns. Contains ns c.time) (times u w lu other) (Contains-map (λ (c : Column). c.time) _ c there)) in
+        let found : get_or w.times y None ≡ Some c.time = in_option (get_or w.times y None) c.time
+        (subst (λ ns. Contains ns c.time) (times u w lu other) (Contains-map (λ (c : Column). c.time) _ c there)) in
         let acts = (time_parts g order frozen u w other y c.time found).1 in
         let n = the_match u lu w other acts in
         let same : n.column ≡ c = only_one n.column c (subst (λ cs. Contains cs c) n.only there) in

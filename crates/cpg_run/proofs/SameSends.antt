@@ -1,8 +1,10 @@
 -- Two scenarios, the second of which has what is carried beside an item in the first: the item is the same in it.
-use Rattle.std.proofs.Common.{ℕ, zero, suc, ◌+◌, ◌<◌, ◌≤◌, ◌≡◌, ◌&&◌, Bool, true, false, not, if◌then◌else◌, List, [], ◌∷◌, ◌++◌, map, filter, flat_map, get_or, Contains, Option, Some, None, is_some, option_to_list, unwrap_or, arith, refl, sym, ap, ap₂, ◌∙◌, subst, inl, inr}
+use Rattle.std.proofs.Common.{ℕ, zero, suc, ◌+◌, ◌<◌, ◌≤◌, ◌≡◌, ◌&&◌, Bool, true, false, not, if◌then◌else◌, List, [], ◌∷◌, ◌++◌, map, filter, flat_map, get_or, Contains, Option, Some, None, is_some}
+use Rattle.std.proofs.Common.{option_to_list, unwrap_or, arith, refl, sym, ap, ap₂, ◌∙◌, subst, inl, inr}
 use Rattle.std.proofs.lemmas.Bool.{cases_Bool, cond-true, cond-false, and_parts, and_from, not_from_false, not-true}
 use Rattle.cpg_base.specs.Numbers.{greatest}
-use Rattle.cpg_base.specs.Graph.{Graph, process_count, edge_count, condition_count, item_count, item_at, edge_at, source, is_sent, is_sent_item, is_frozen, home, producer, producer_of_item, process_of, condition_of, value_variable}
+use Rattle.cpg_base.specs.Graph.{Graph, process_count, edge_count, condition_count, item_count, item_at, edge_at, source, is_sent, is_sent_item, is_frozen, home, producer, producer_of_item}
+use Rattle.cpg_base.specs.Graph.{process_of, condition_of, value_variable}
 use Rattle.cpg_base.specs.declared.item.Item.{Item}
 use Rattle.cpg_base.specs.declared.item.Item.TheVariants.{Start, Message, Broadcast}
 use Rattle.cpg_base.specs.Activity.{active, live, takes, value_of, item_active}
@@ -40,16 +42,19 @@ producer_active g values (Broadcast c) a = (and_parts (is_sent_item g (Broadcast
 pub value_in_source : (g : Graph) (e c : ℕ) (wanted : Bool) → c < condition_count g → process_of g c ≡ source g e → (edge_at g e).when ≡ Some wanted → Contains (source_value g e) (value_variable c)
 value_in_source g e c wanted h at is =
     subst (λ o. Contains (if is_some o then map value_variable (option_to_list (condition_of g (source g e))) else []) (value_variable c)) (sym is)
-    (subst (λ o. Contains (map value_variable (option_to_list o)) (value_variable c)) (sym (subst (λ q. condition_of g q ≡ Some c) at (condition_of_process_of g c h))) (Contains-first (value_variable c) []))
+    (subst (λ o. Contains (map value_variable (option_to_list o)) (value_variable c)) (sym (subst (λ q. condition_of g q ≡ Some c) at (condition_of_process_of g c h)))
+    (Contains-first (value_variable c) []))
 
-module _ (g : Graph) (urgency order : List ℕ) (frozen : List (Option ℕ)) (rows : List (List Column)) (bound : ℕ) (s u : Scenario) (t w : Times) (z : Two g urgency order frozen rows bound s u t w) where
+module _ (g : Graph) (urgency order : List ℕ) (frozen : List (Option ℕ)) (rows : List (List Column)) (bound : ℕ) (s u : Scenario) (t w : Times)
+    (z : Two g urgency order frozen rows bound s u t w) where
   -- ---- whether an item is sent
 
   takes_is_same : (e : ℕ) → e < edge_count g → matches (map (number_known s) (source_value g e)) u ≡ true → (o : Option Bool) → (edge_at g e).when ≡ o →
       takes o (value_of g s.values (source g e)) ≡ takes o (value_of g u.values (source g e))
   takes_is_same e l h None is = refl
   takes_is_same e l h (Some wanted) is = takes_same g order z.timed.admitted.topological s.values u.values e l
-      (λ c n at. one_value _ _ (sym (number_of-value s c) ∙ sym (same_numbers u s (source_value g e) h (value_variable c) (value_in_source g e c wanted n at is)) ∙ number_of-value u c)) (Some wanted) is
+      (λ c n at. one_value _ _ (sym (number_of-value s c) ∙ sym (same_numbers u s (source_value g e) h (value_variable c) (value_in_source g e c wanted n at is)) ∙ number_of-value u c))
+      (Some wanted) is
 
   -- an item whose producer is as active, and whose value is the same if it is
   item_is_same : (x : ℕ) → x < item_count g → active g s.values (producer g x) ≡ active g u.values (producer g x) → (active g s.values (producer g x) ≡ true → matches (sent_by_value g s x) u ≡ true) →
@@ -59,13 +64,15 @@ module _ (g : Graph) (urgency order : List ℕ) (frozen : List (Option ℕ)) (ro
     | inr (inl c) ↦ at c.3 (ap (λ b. is_sent_item g (Message c.0) && b) (edge c.0 c.1
         (ap (λ i. active g s.values (producer_of_item g i)) (sym c.3) ∙ same ∙ ap (λ i. active g u.values (producer_of_item g i)) c.3)
         (λ on. subst (λ i. matches (map (number_known s) (sent_value g i)) u ≡ true) c.3 (h (ap (λ i. active g s.values (producer_of_item g i)) c.3 ∙ on)))))
-    | inr (inr c) ↦ at c.3 (ap (λ b. is_sent_item g (Broadcast c.0) && b) (ap (λ i. active g s.values (producer_of_item g i)) (sym c.3) ∙ same ∙ ap (λ i. active g u.values (producer_of_item g i)) c.3))
+    | inr (inr c) ↦ at c.3 (ap (λ b. is_sent_item g (Broadcast c.0) && b)
+        (ap (λ i. active g s.values (producer_of_item g i)) (sym c.3) ∙ same ∙ ap (λ i. active g u.values (producer_of_item g i)) c.3))
   ]
     where
       at : {i : Item} → item_at g x ≡ i → item_active g s.values i ≡ item_active g u.values i → item_active g s.values (item_at g x) ≡ item_active g u.values (item_at g x)
       at {i} e same = ap (item_active g s.values) e ∙ same ∙ sym (ap (item_active g u.values) e)
 
-      edge : (e : ℕ) → e < edge_count g → active g s.values (source g e) ≡ active g u.values (source g e) → (active g s.values (source g e) ≡ true → matches (map (number_known s) (source_value g e)) u ≡ true) → live g s.values e ≡ live g u.values e
+      edge : (e : ℕ) → e < edge_count g → active g s.values (source g e) ≡ active g u.values (source g e) →
+          (active g s.values (source g e) ≡ true → matches (map (number_known s) (source_value g e)) u ≡ true) → live g s.values e ≡ live g u.values e
       edge e m same h = elim (cases_Bool (active g s.values (source g e))) [
         | inl on ↦ ap₂ ◌&&◌ same (takes_is_same e m (h on) (edge_at g e).when refl)
         | inr off ↦ ap (λ b. b && takes (edge_at g e).when (value_of g s.values (source g e))) off ∙ sym (ap (λ b. b && takes (edge_at g e).when (value_of g u.values (source g e))) (sym same ∙ off))
@@ -83,12 +90,14 @@ module _ (g : Graph) (urgency order : List ℕ) (frozen : List (Option ℕ)) (ro
 
   leaves_parts : (y : ℕ) → matches (queued g order rows s y) u ≡ true → Leaves y
   leaves_parts y h =
-      let front = holds_left u (decided g s (producer g y) ++ (if active g s.values (producer g y) then sent_by_value g s y else [])) (if item_active g s.values (item_at g y) && not (is_frozen g y) then carried_at_end g order rows s (producer g y) else []) h in
+      let front = holds_left u (decided g s (producer g y) ++ (if active g s.values (producer g y) then sent_by_value g s y else []))
+      (if item_active g s.values (item_at g y) && not (is_frozen g y) then carried_at_end g order rows s (producer g y) else []) h in
       record {
         decided = holds_left u (decided g s (producer g y)) (if active g s.values (producer g y) then sent_by_value g s y else []) front;
         value = λ on. subst (λ ls. matches ls u ≡ true) (cond-true _ _ _ on) (holds_right u (decided g s (producer g y)) (if active g s.values (producer g y) then sent_by_value g s y else []) front);
         sent = λ on free. subst (λ ls. matches ls u ≡ true) (cond-true _ _ _ (and_from _ _ on (not_from_false _ free)))
-            (holds_right u (decided g s (producer g y) ++ (if active g s.values (producer g y) then sent_by_value g s y else [])) (if item_active g s.values (item_at g y) && not (is_frozen g y) then carried_at_end g order rows s (producer g y) else []) h);
+            (holds_right u (decided g s (producer g y) ++ (if active g s.values (producer g y) then sent_by_value g s y else []))
+            (if item_active g s.values (item_at g y) && not (is_frozen g y) then carried_at_end g order rows s (producer g y) else []) h);
       }
 
   leaves_active : (y : ℕ) → y < item_count g → Leaves y → item_active g s.values (item_at g y) ≡ item_active g u.values (item_at g y)
@@ -99,10 +108,12 @@ module _ (g : Graph) (urgency order : List ℕ) (frozen : List (Option ℕ)) (ro
   end_count : (p : ℕ) → matches (carried_at_end g order rows s p) u ≡ true → holds u (number_known s p) ≡ true
   end_count p h = from_all (holds u) (number_known s p ∷ []) (number_known s p) (holds_right u (carried_at_start g order rows s p) (number_known s p ∷ []) h) (Contains-first (number_known s p) [])
 
-  end_start : (p : ℕ) → p < process_count g → place order p ≤ bound → active g s.values p ≡ true → matches (carried_at_end g order rows s p) u ≡ true → SameStart g urgency order frozen rows bound s u t w z p
+  end_start : (p : ℕ) → p < process_count g → place order p ≤ bound → active g s.values p ≡ true → matches (carried_at_end g order rows s p) u ≡ true →
+      SameStart g urgency order frozen rows bound s u t w z p
   end_start p l at on h = start_alike g urgency order frozen rows bound s u t w z p l at on (holds_left u (carried_at_start g order rows s p) (number_known s p ∷ []) h)
 
-  end_told : (p : ℕ) → p < process_count g → place order p ≤ bound → active g s.values p ≡ true → matches (carried_at_end g order rows s p) u ≡ true → carried_at_end g order rows u p ≡ carried_at_end g order rows s p
+  end_told : (p : ℕ) → p < process_count g → place order p ≤ bound → active g s.values p ≡ true → matches (carried_at_end g order rows s p) u ≡ true →
+      carried_at_end g order rows u p ≡ carried_at_end g order rows s p
   end_told p l at on h = end_told_same g urgency order frozen rows bound s u t w z p (end_start p l at on h) (end_count p h)
 
   leaves_same : (y : ℕ) → y < item_count g → place order (producer g y) ≤ bound → Leaves y → queued g order rows u y ≡ queued g order rows s y
@@ -132,20 +143,26 @@ module _ (g : Graph) (urgency order : List ℕ) (frozen : List (Option ℕ)) (ro
 
   -- the sends at moments before n
   Sooner : ℕ → Type 0
-  Sooner n = (y : ℕ) → moment g order y < n → y < item_count g → is_sent g y ≡ true → place order (producer g y) ≤ bound → item_active g s.values (item_at g y) ≡ true → matches (carried_at_send g order rows s y) u ≡ true → SameSend y
+  Sooner n = (y : ℕ) → moment g order y < n → y < item_count g → is_sent g y ≡ true → place order (producer g y) ≤ bound → item_active g s.values (item_at g y) ≡ true →
+      matches (carried_at_send g order rows s y) u ≡ true → SameSend y
 
   -- the parts of what is carried beside it
-  front_of : (x : ℕ) → matches (carried_at_send g order rows s x) u ≡ true → matches (if is_frozen g x then decided g s (producer g x) else flat_map (queued g order rows s) (queued_before g order x) ++ carried_at_end g order rows s (producer g x)) u ≡ true
-  front_of x h = holds_left u (if is_frozen g x then decided g s (producer g x) else flat_map (queued g order rows s) (queued_before g order x) ++ carried_at_end g order rows s (producer g x)) (sent_by_value g s x) h
+  front_of : (x : ℕ) → matches (carried_at_send g order rows s x) u ≡ true →
+      matches (if is_frozen g x then decided g s (producer g x) else flat_map (queued g order rows s) (queued_before g order x) ++ carried_at_end g order rows s (producer g x)) u ≡ true
+  front_of x h = holds_left u (if is_frozen g x then decided g s (producer g x) else flat_map (queued g order rows s) (queued_before g order x) ++ carried_at_end g order rows s (producer g x))
+      (sent_by_value g s x) h
 
   value_of_send : (x : ℕ) → matches (carried_at_send g order rows s x) u ≡ true → matches (sent_by_value g s x) u ≡ true
-  value_of_send x h = holds_right u (if is_frozen g x then decided g s (producer g x) else flat_map (queued g order rows s) (queued_before g order x) ++ carried_at_end g order rows s (producer g x)) (sent_by_value g s x) h
+  value_of_send x h = holds_right u (if is_frozen g x then decided g s (producer g x) else flat_map (queued g order rows s) (queued_before g order x) ++ carried_at_end g order rows s (producer g x))
+      (sent_by_value g s x) h
 
-  free_front : (x : ℕ) → is_frozen g x ≡ false → matches (carried_at_send g order rows s x) u ≡ true → matches (flat_map (queued g order rows s) (queued_before g order x) ++ carried_at_end g order rows s (producer g x)) u ≡ true
+  free_front : (x : ℕ) → is_frozen g x ≡ false → matches (carried_at_send g order rows s x) u ≡ true →
+      matches (flat_map (queued g order rows s) (queued_before g order x) ++ carried_at_end g order rows s (producer g x)) u ≡ true
   free_front x free h = subst (λ ls. matches ls u ≡ true) (cond-false _ _ _ free) (front_of x h)
 
   queued_holds : (x : ℕ) → is_frozen g x ≡ false → matches (carried_at_send g order rows s x) u ≡ true → (y : ℕ) → Contains (queued_before g order x) y → matches (queued g order rows s y) u ≡ true
-  queued_holds x free h y j = holds_each u (queued g order rows s) (queued_before g order x) y (holds_left u (flat_map (queued g order rows s) (queued_before g order x)) (carried_at_end g order rows s (producer g x)) (free_front x free h)) j
+  queued_holds x free h y j = holds_each u (queued g order rows s) (queued_before g order x) y
+      (holds_left u (flat_map (queued g order rows s) (queued_before g order x)) (carried_at_end g order rows s (producer g x)) (free_front x free h)) j
 
   end_holds : (x : ℕ) → is_frozen g x ≡ false → matches (carried_at_send g order rows s x) u ≡ true → matches (carried_at_end g order rows s (producer g x)) u ≡ true
   end_holds x free h = holds_right u (flat_map (queued g order rows s) (queued_before g order x)) (carried_at_end g order rows s (producer g x)) (free_front x free h)
@@ -170,7 +187,8 @@ module _ (g : Graph) (urgency order : List ℕ) (frozen : List (Option ℕ)) (ro
     carried_before y j acts =
         let mine = leaves y j in
         let value = mine.value (producer_active g s.values (item_at g y) acts) in
-        holds_both u (if is_frozen g y then decided g s (producer g y) else flat_map (queued g order rows s) (queued_before g order y) ++ carried_at_end g order rows s (producer g y)) (sent_by_value g s y)
+        holds_both u (if is_frozen g y then decided g s (producer g y) else flat_map (queued g order rows s) (queued_before g order y) ++ carried_at_end g order rows s (producer g y))
+        (sent_by_value g s y)
         (elim (cases_Bool (is_frozen g y)) [
           | inl f ↦ subst (λ ls. matches ls u ≡ true) (sym (cond-true _ _ _ f)) mine.decided
           | inr f ↦ subst (λ ls. matches ls u ≡ true) (sym (cond-false _ _ _ f))
@@ -226,7 +244,8 @@ module _ (g : Graph) (urgency order : List ℕ) (frozen : List (Option ℕ)) (ro
     | inr free ↦ free_send y l e at free on h (λ v c. sends_below n v (omega (arith, b, c)))
   ]
 
-  send_alike : (x : ℕ) → x < item_count g → is_sent g x ≡ true → place order (producer g x) ≤ bound → item_active g s.values (item_at g x) ≡ true → matches (carried_at_send g order rows s x) u ≡ true → SameSend x
+  send_alike : (x : ℕ) → x < item_count g → is_sent g x ≡ true → place order (producer g x) ≤ bound → item_active g s.values (item_at g x) ≡ true →
+      matches (carried_at_send g order rows s x) u ≡ true → SameSend x
   unfolding Sooner
   send_alike x l e at on h = sends_below (suc (moment g order x)) x (omega arith) l e at on h
 
@@ -237,7 +256,8 @@ module _ (g : Graph) (urgency order : List ℕ) (frozen : List (Option ℕ)) (ro
     pub time : get_or t.times x None ≡ get_or w.times x None
     pub told : carried g order rows u x ≡ carried g order rows s x
 
-  from_send : (x : ℕ) (i : Item) → item_at g x ≡ i → carried_by_item g order rows u x i ≡ carried_at_send g order rows u x → carried_by_item g order rows s x i ≡ carried_at_send g order rows s x → SameSend x → SameItem x
+  from_send : (x : ℕ) (i : Item) → item_at g x ≡ i → carried_by_item g order rows u x i ≡ carried_at_send g order rows u x → carried_by_item g order rows s x i ≡ carried_at_send g order rows s x →
+      SameSend x → SameItem x
   from_send x i item a b same = record {
     acts = same.acts;
     time = same.time;
@@ -256,9 +276,11 @@ module _ (g : Graph) (urgency order : List ℕ) (frozen : List (Option ℕ)) (ro
           told = ap (carried_by_item g order rows u x) c.1 ∙ same.told ∙ sym (ap (carried_by_item g order rows s x) c.1);
         }
     | inr (inl c) ↦ from_send x (Message c.0) c.3 refl refl
-        (send_alike x l (ap (is_sent_item g) c.3 ∙ (and_parts (is_sent_item g (Message c.0)) (live g s.values c.0) (sym (ap (item_active g s.values) c.3) ∙ on)).0) at on (subst (λ i. matches (carried_by_item g order rows s x i) u ≡ true) c.3 h))
+        (send_alike x l (ap (is_sent_item g) c.3 ∙ (and_parts (is_sent_item g (Message c.0)) (live g s.values c.0) (sym (ap (item_active g s.values) c.3) ∙ on)).0) at on
+        (subst (λ i. matches (carried_by_item g order rows s x i) u ≡ true) c.3 h))
     | inr (inr c) ↦ from_send x (Broadcast c.0) c.3 refl refl
-        (send_alike x l (ap (is_sent_item g) c.3 ∙ (and_parts (is_sent_item g (Broadcast c.0)) (active g s.values (process_of g c.0)) (sym (ap (item_active g s.values) c.3) ∙ on)).0) at on (subst (λ i. matches (carried_by_item g order rows s x i) u ≡ true) c.3 h))
+        (send_alike x l (ap (is_sent_item g) c.3 ∙ (and_parts (is_sent_item g (Broadcast c.0)) (active g s.values (process_of g c.0)) (sym (ap (item_active g s.values) c.3) ∙ on)).0) at on
+        (subst (λ i. matches (carried_by_item g order rows s x i) u ≡ true) c.3 h))
   ]
 
 pub carried_decides : CarriedDecides

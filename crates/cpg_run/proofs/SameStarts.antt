@@ -1,12 +1,15 @@
 -- Two scenarios, the second of which has what is carried beside a start in the first: it has the start too, at the same time.
-use Rattle.std.proofs.Common.{ℕ, zero, suc, ◌+◌, ◌<◌, ◌≤◌, ◌≡◌, ◌==◌, Bool, true, false, if◌then◌else◌, List, [], ◌∷◌, ◌++◌, length, map, filter, flat_map, get_or, Contains, Option, Some, None, option_to_list, unwrap_or, arith, sym, ap, ap₂, ◌∙◌, subst, inl, inr, eqb-true, lt-ltb, ◌&&◌}
+use Rattle.std.proofs.Common.{ℕ, zero, suc, ◌+◌, ◌<◌, ◌≤◌, ◌≡◌, ◌==◌, Bool, true, false, if◌then◌else◌, List, [], ◌∷◌, ◌++◌, length, map, filter, flat_map, get_or, Contains, Option, Some, None}
+use Rattle.std.proofs.Common.{option_to_list, unwrap_or, arith, sym, ap, ap₂, ◌∙◌, subst, inl, inr, eqb-true, lt-ltb, ◌&&◌}
 use Rattle.std.proofs.lemmas.Bool.{cases_Bool, cond-true, cond-false, and_parts, and_from, eqb-false, not-false}
 use Rattle.cpg_base.specs.Numbers.{numbers_below, greatest}
-use Rattle.cpg_base.specs.Graph.{Graph, process_count, edge_count, condition_count, item_count, item_at, process_at, node_of, source, target, inputs, is_message, is_frozen, is_frozen_item, message_item, broadcast_item, process_of, home, value_variable}
+use Rattle.cpg_base.specs.Graph.{Graph, process_count, edge_count, condition_count, item_count, item_at, process_at, node_of, source, target, inputs, is_message, is_frozen, is_frozen_item}
+use Rattle.cpg_base.specs.Graph.{message_item, broadcast_item, process_of, home, value_variable}
 use Rattle.cpg_base.specs.Activity.{is_active, activation, active, live, item_active}
 use Rattle.cpg_base.specs.Duration.{duration}
 use Rattle.cpg_base.specs.Bus.{slot_length}
-use Rattle.cpg_base.proofs.Lists.{Contains-first, Contains-map, Contains-filter, Contains-filter_parts, Contains-flat_map_parts, Contains-numbers, numbers-Contains, from_all, same_map, same_filter, same_flat_map, same_truth}
+use Rattle.cpg_base.proofs.Lists.{Contains-first, Contains-map, Contains-filter, Contains-filter_parts, Contains-flat_map_parts, Contains-numbers, numbers-Contains, from_all, same_map, same_filter}
+use Rattle.cpg_base.proofs.Lists.{same_flat_map, same_truth}
 use Rattle.cpg_base.proofs.Inputs.{inputs_parts}
 use Rattle.cpg_base.proofs.Items.{item_at-start, item_at-message, item_at-broadcast, process_of_below}
 use Rattle.cpg_base.specs.Order.{place, before_on_node}
@@ -48,12 +51,14 @@ pub record Two (g : Graph) (urgency order : List ℕ) (frozen : List (Option ℕ
   pub run : IsRun g order frozen s t
   pub other : IsRun g order frozen u w
 
-module _ (g : Graph) (urgency order : List ℕ) (frozen : List (Option ℕ)) (rows : List (List Column)) (bound : ℕ) (s u : Scenario) (t w : Times) (z : Two g urgency order frozen rows bound s u t w) where
+module _ (g : Graph) (urgency order : List ℕ) (frozen : List (Option ℕ)) (rows : List (List Column)) (bound : ℕ) (s u : Scenario) (t w : Times)
+    (z : Two g urgency order frozen rows bound s u t w) where
   k : Admitted g urgency order
   k = z.timed.admitted
 
   -- a frozen item that is active in both has its frozen time
-  pub frozen_time_same : (x : ℕ) → x < item_count g → is_frozen g x ≡ true → item_active g s.values (item_at g x) ≡ true → item_active g u.values (item_at g x) ≡ true → get_or t.times x None ≡ get_or w.times x None
+  pub frozen_time_same : (x : ℕ) → x < item_count g → is_frozen g x ≡ true → item_active g s.values (item_at g x) ≡ true → item_active g u.values (item_at g x) ≡ true →
+      get_or t.times x None ≡ get_or w.times x None
   frozen_time_same x l f on also =
       has_time g order frozen s t z.run x l on ∙ sym (has_frozen_time g order frozen z.timed.frozen_times s z.first t z.run x l f on)
       ∙ has_frozen_time g order frozen z.timed.frozen_times u z.second w z.other x l f also ∙ sym (has_time g order frozen u w z.other x l also)
@@ -61,7 +66,8 @@ module _ (g : Graph) (urgency order : List ℕ) (frozen : List (Option ℕ)) (ro
   -- another has the same time if its bounds are the same
   pub free_time_same : (x : ℕ) → x < item_count g → item_active g s.values (item_at g x) ≡ true → item_active g u.values (item_at g x) ≡ true →
       unfrozen_time g order s t x ≡ unfrozen_time g order u w x → get_or t.times x None ≡ get_or w.times x None
-  free_time_same x l on also e = time_active g order frozen s t z.run x l on ∙ ap (λ n. Some (greatest (n ∷ option_to_list (get_or frozen x None)))) e ∙ sym (time_active g order frozen u w z.other x l also)
+  free_time_same x l on also e = time_active g order frozen s t z.run x l on ∙ ap (λ n. Some (greatest (n ∷ option_to_list (get_or frozen x None)))) e ∙
+      sym (time_active g order frozen u w z.other x l also)
 
   -- an item of an earlier process, and what its row tells
   Told : ℕ → Type 0
@@ -75,10 +81,12 @@ module _ (g : Graph) (urgency order : List ℕ) (frozen : List (Option ℕ)) (ro
 
   module _ (p : ℕ) (d : matches (decided g s p) u ≡ true) where
     value_same : (c : ℕ) → Contains (deciding g s.values p) c → number_of u (value_variable c) ≡ number_of s (value_variable c)
-    value_same c j = same_number u s (value_variable c) (from_all (holds u) (decided g s p) (number_known s (value_variable c)) d (Contains-map (λ (c : ℕ). number_known s (value_variable c)) (deciding g s.values p) c j))
+    value_same c j = same_number u s (value_variable c)
+        (from_all (holds u) (decided g s p) (number_known s (value_variable c)) d (Contains-map (λ (c : ℕ). number_known s (value_variable c)) (deciding g s.values p) c j))
 
     agrees : (c : ℕ) → c < condition_count g → decides g s.values p c ≡ true → get_or s.values c false ≡ get_or u.values c false
-    agrees c l e = one_value _ _ (sym (number_of-value s c) ∙ sym (value_same c (Contains-filter (decides g s.values p) (numbers_below (condition_count g)) c e (Contains-numbers (condition_count g) c l))) ∙ number_of-value u c)
+    agrees c l e = one_value _ _ (sym (number_of-value s c) ∙
+        sym (value_same c (Contains-filter (decides g s.values p) (numbers_below (condition_count g)) c e (Contains-numbers (condition_count g) c l))) ∙ number_of-value u c)
 
     activation_is_same : activation g s.values p ≡ activation g u.values p
     unfolding k
@@ -110,7 +118,12 @@ module _ (g : Graph) (urgency order : List ℕ) (frozen : List (Option ℕ)) (ro
           unfolding k
           hears c j far =
               let a = decides_is_active c j in
-              let two : 1 < length g.nodes = omega (arith, eqb-false (node_of g (process_of g c)) (node_of g p) far, k.formed.nodes p within, k.formed.nodes (process_of g c) (process_of_below g c a.0)) in
+              let two : 1 < length g.nodes = omega (
+                arith,
+                eqb-false (node_of g (process_of g c)) (node_of g p) far,
+                k.formed.nodes p within,
+                k.formed.nodes (process_of g c) (process_of_below g c a.0),
+              ) in
               let tells : matches (told_by rows s (broadcast_item g c)) u ≡ true = subst (λ b. matches (if b then [] else told_by rows s (broadcast_item g c)) u ≡ true) far
               (holds_each u (λ c. if node_of g (process_of g c) == node_of g p then [] else told_by rows s (broadcast_item g c)) (deciding g s.values p) c h j) in
               told (broadcast_item g c) (ap (item_active g s.values) (item_at-broadcast g c) ∙ and_from _ _ (lt-ltb 1 (length g.nodes) two) a.1) tells
@@ -119,7 +132,8 @@ module _ (g : Graph) (urgency order : List ℕ) (frozen : List (Option ℕ)) (ro
           unfolding k
           hears_at c j = let r = hears_earlier g order k.topological s p c j in (r.0, omega (arith, r.1, at))
 
-          pub hears_time : (c : ℕ) → Contains (deciding g s.values p) c → (node_of g (process_of g c) == node_of g p) ≡ false → get_or t.times (broadcast_item g c) None ≡ get_or w.times (broadcast_item g c) None
+          pub hears_time : (c : ℕ) → Contains (deciding g s.values p) c → (node_of g (process_of g c) == node_of g p) ≡ false →
+              get_or t.times (broadcast_item g c) None ≡ get_or w.times (broadcast_item g c) None
           unfolding Told
           hears_time c j far = (hears c j far (hears_at c j)).time
 
@@ -227,10 +241,12 @@ module _ (g : Graph) (urgency order : List ℕ) (frozen : List (Option ℕ)) (ro
       }
 
   executed_count : (q : ℕ) → matches (executed g rows s q) u ≡ true → holds u (number_known s q) ≡ true
-  executed_count q h = from_all (holds u) (number_known s q ∷ []) (number_known s q) (holds_right u (if (process_at g q).frozen then [] else received g rows s q) (number_known s q ∷ []) h) (Contains-first (number_known s q) [])
+  executed_count q h = from_all (holds u) (number_known s q ∷ []) (number_known s q) (holds_right u (if (process_at g q).frozen then [] else received g rows s q) (number_known s q ∷ []) h)
+      (Contains-first (number_known s q) [])
 
   executed_received : (q : ℕ) → (process_at g q).frozen ≡ false → matches (executed g rows s q) u ≡ true → matches (received g rows s q) u ≡ true
-  executed_received q free h = subst (λ b. matches (if b then [] else received g rows s q) u ≡ true) free (holds_left u (if (process_at g q).frozen then [] else received g rows s q) (number_known s q ∷ []) h)
+  executed_received q free h = subst (λ b. matches (if b then [] else received g rows s q) u ≡ true) free
+      (holds_left u (if (process_at g q).frozen then [] else received g rows s q) (number_known s q ∷ []) h)
 
   executed_is_same : (q : ℕ) → q < process_count g → place order q ≤ bound → Passes q → active g s.values q ≡ true → executed g rows u q ≡ executed g rows s q
   executed_is_same q l at h on =
@@ -266,7 +282,8 @@ module _ (g : Graph) (urgency order : List ℕ) (frozen : List (Option ℕ)) (ro
       matches (flat_map (passed g rows s) (before_on_node g order p) ++ decided g s p ++ heard g rows s p ++ received g rows s p) u ≡ true
   free_parts p free h = subst (λ ls. matches ls u ≡ true) (cond-false _ _ _ free) h
 
-  free_from : (p : ℕ) → (process_at g p).frozen ≡ false → matches (flat_map (passed g rows s) (before_on_node g order p)) u ≡ true → matches (decided g s p) u ≡ true → matches (heard g rows s p) u ≡ true →
+  free_from : (p : ℕ) → (process_at g p).frozen ≡ false → matches (flat_map (passed g rows s) (before_on_node g order p)) u ≡ true → matches (decided g s p) u ≡ true →
+      matches (heard g rows s p) u ≡ true →
       matches (received g rows s p) u ≡ true → matches (carried_at_start g order rows s p) u ≡ true
   free_from p free a b c d = subst (λ ls. matches ls u ≡ true) (sym (cond-false _ _ _ free))
       (holds_both u (flat_map (passed g rows s) (before_on_node g order p) ++ decided g s p ++ heard g rows s p) (received g rows s p)
@@ -284,12 +301,14 @@ module _ (g : Graph) (urgency order : List ℕ) (frozen : List (Option ℕ)) (ro
       let three = holds_left u (flat_map (passed g rows s) (before_on_node g order p) ++ decided g s p ++ heard g rows s p) (received g rows s p) (free_parts p free h) in
       record {
         before = λ q j. passes_parts q (passes_at p free h q j);
-        decided = holds_right u (flat_map (passed g rows s) (before_on_node g order p)) (decided g s p) (holds_left u (flat_map (passed g rows s) (before_on_node g order p) ++ decided g s p) (heard g rows s p) three);
+        decided = holds_right u (flat_map (passed g rows s) (before_on_node g order p)) (decided g s p)
+            (holds_left u (flat_map (passed g rows s) (before_on_node g order p) ++ decided g s p) (heard g rows s p) three);
         heard = holds_right u (flat_map (passed g rows s) (before_on_node g order p) ++ decided g s p) (heard g rows s p) three;
         received = holds_right u (flat_map (passed g rows s) (before_on_node g order p) ++ decided g s p ++ heard g rows s p) (received g rows s p) (free_parts p free h);
       }
 
-  module _ (p : ℕ) (within : p < process_count g) (at : place order p ≤ bound) (free : (process_at g p).frozen ≡ false) (on : active g s.values p ≡ true) (h : matches (carried_at_start g order rows s p) u ≡ true) (earlier : Before (place order p)) where
+  module _ (p : ℕ) (within : p < process_count g) (at : place order p ≤ bound) (free : (process_at g p).frozen ≡ false) (on : active g s.values p ≡ true)
+      (h : matches (carried_at_start g order rows s p) u ≡ true) (earlier : Before (place order p)) where
     parts : Starts p
     parts = starts_parts p free h
 
@@ -304,7 +323,8 @@ module _ (g : Graph) (urgency order : List ℕ) (frozen : List (Option ℕ)) (ro
         elim (cases_Bool (process_at g q).frozen) [
           | inl f ↦ subst (λ ls. matches ls u ≡ true) (sym (cond-true _ _ _ f)) mine.decided
           | inr f ↦ free_from q f
-              (holds_all u (passed g rows s) (before_on_node g order q) (λ r i. passes_at p free h r (up_to_earlier g order z.timed.admitted.topological p q r e (up_to_before g order z.timed.admitted.topological q r i))))
+              (holds_all u (passed g rows s) (before_on_node g order q)
+              (λ r i. passes_at p free h r (up_to_earlier g order z.timed.admitted.topological p q r e (up_to_before g order z.timed.admitted.topological q r i))))
               mine.decided mine.heard (executed_received q f (mine.executed acts))
         ]
 
@@ -342,7 +362,8 @@ module _ (g : Graph) (urgency order : List ℕ) (frozen : List (Option ℕ)) (ro
         let sooner = decides_earlier g order z.timed.admitted.topological s.values q c a.0 (Contains-filter_parts (decides g s.values q) (numbers_below (condition_count g)) c r.2).1 in
         elim (cases_Bool (node_of g (process_of g c) == node_of g p)) [
           | inl near ↦ cond-true _ _ _ near
-              ∙ end_before (process_of g c) (earlier_from g order z.timed.admitted.topological p (process_of g c) (record { within = process_of_below g c a.0; node = eqb-true _ _ near; earlier = omega (arith, sooner, up.place) })) a.1
+              ∙ end_before (process_of g c) (earlier_from g order z.timed.admitted.topological p (process_of g c)
+              (record { within = process_of_below g c a.0; node = eqb-true _ _ near; earlier = omega (arith, sooner, up.place) })) a.1
               ∙ sym (cond-true _ _ _ near)
           | inr far ↦ cond-false _ _ _ far
               ∙ ap (λ o. unwrap_or o 0 + slot_length g (home g (broadcast_item g c)))
@@ -358,11 +379,13 @@ module _ (g : Graph) (urgency order : List ℕ) (frozen : List (Option ℕ)) (ro
     input_at e j v =
         let r = inputs_parts g p e j in
         elim (cases_Bool (is_message g e)) [
-          | inl m ↦ cond-true _ _ _ m ∙ ap (λ o. unwrap_or o 0 + slot_length g (home g (message_item g e))) (receives_time p parts.decided within at on parts.received e j m v) ∙ sym (cond-true _ _ _ m)
+          | inl m ↦ cond-true _ _ _ m ∙ ap (λ o. unwrap_or o 0 + slot_length g (home g (message_item g e))) (receives_time p parts.decided within at on parts.received e j m v) ∙
+              sym (cond-true _ _ _ m)
           | inr m ↦
               let near : node_of g (source g e) ≡ node_of g (target g e) = eqb-true _ _ (not-false _ m) in
               cond-false _ _ _ m
-              ∙ end_before (source g e) (earlier_from g order z.timed.admitted.topological p (source g e) (record { within = z.timed.admitted.formed.sources e r.0; node = near ∙ ap (node_of g) r.1; earlier = input_goes_up g order z.timed.admitted.topological p e j })) (and_parts _ _ v).0
+              ∙ end_before (source g e) (earlier_from g order z.timed.admitted.topological p (source g e)
+              (record { within = z.timed.admitted.formed.sources e r.0; node = near ∙ ap (node_of g) r.1; earlier = input_goes_up g order z.timed.admitted.topological p e j })) (and_parts _ _ v).0
               ∙ sym (cond-false _ _ _ m)
         ]
 
@@ -384,7 +407,8 @@ module _ (g : Graph) (urgency order : List ℕ) (frozen : List (Option ℕ)) (ro
               (ap (λ i. greatest (bounds_of_item g order s t p i)) item ∙ ap greatest bounds_same ∙ sym (ap (λ i. greatest (bounds_of_item g order u w p i)) item));
           told = cond-false _ _ _ free
               ∙ ap₂ ◌++◌ (ap₂ ◌++◌ (ap₂ ◌++◌
-              (same_flat_map (passed g rows u) (passed g rows s) (before_on_node g order p) (λ q j. let e = earlier_at q j in passed_is_same q e.within (omega (arith, e.earlier, at)) (parts.before q j)))
+              (same_flat_map (passed g rows u) (passed g rows s) (before_on_node g order p)
+              (λ q j. let e = earlier_at q j in passed_is_same q e.within (omega (arith, e.earlier, at)) (parts.before q j)))
               (decided_is_same p parts.decided))
               (heard_is_same p parts.decided within at parts.heard))
               (received_is_same p parts.decided within at on parts.received)

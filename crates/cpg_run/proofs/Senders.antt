@@ -1,5 +1,6 @@
 -- The nodes that send have slots; and which of what an active process sends is active.
-use Rattle.std.proofs.Common.{◌≡◌, ◌≢◌, ◌∙◌, ℕ, ◌+◌, ◌-◌, ◌<◌, ◌≤◌, max, Bool, true, false, ◌&&◌, List, [], ◌∷◌, length, map, filter, Contains, if◌then◌else◌, arith, refl, sym, ap, ap₂, inl, inr, subst, lt-ltb}
+use Rattle.std.proofs.Common.{◌≡◌, ◌≢◌, ◌∙◌, ℕ, ◌+◌, ◌-◌, ◌<◌, ◌≤◌, max, Bool, true, false, ◌&&◌, List, [], ◌∷◌, length, map, filter, Contains, if◌then◌else◌, arith, refl, sym, ap, ap₂, inl, inr}
+use Rattle.std.proofs.Common.{subst, lt-ltb}
 use Rattle.std.proofs.lemmas.Bool.{cases_order}
 use Rattle.cpg_base.specs.Numbers.{greatest}
 use Rattle.cpg_base.specs.Graph.{Graph, process_count, edge_count, condition_count, item_at, source, node_of, process_of, is_message, message_item, broadcast_item, is_sent_item, producer_of_item}

@@ -1,5 +1,6 @@
 -- What a process sends next follows from what its node has sent before.
-use Rattle.std.proofs.Common.{◌≡◌, ◌∙◌, ℕ, suc, ◌+◌, ◌<◌, ◌≤◌, max, true, false, ◌&&◌, ◌==◌, ltb, List, [], ◌∷◌, ◌++◌, length, get_or, set, take, drop, Contains, Option, Some, None, option_to_list, arith, refl, sym, ap, ap₂, inl, inr, ◌⊎◌, ⊎_elim, subst, eq-eqb, eqb-true, lt-ltb, ltb-true, true≢false, get_or-set_same, get_or-set_other}
+use Rattle.std.proofs.Common.{◌≡◌, ◌∙◌, ℕ, suc, ◌+◌, ◌<◌, ◌≤◌, max, true, false, ◌&&◌, ◌==◌, ltb, List, [], ◌∷◌, ◌++◌, length, get_or, set, take, drop, Contains, Option, Some, None, option_to_list}
+use Rattle.std.proofs.Common.{arith, refl, sym, ap, ap₂, inl, inr, ◌⊎◌, ⊎_elim, subst, eq-eqb, eqb-true, lt-ltb, ltb-true, true≢false, get_or-set_same, get_or-set_other}
 use Rattle.std.proofs.Math.Seq.{take-suc}
 use Rattle.std.proofs.lemmas.Bool.{and_parts, and_from, or_cases, or_left, or_right, cond-false, cases_eq}
 use Rattle.std.proofs.lemmas.List.{take-append-drop}
@@ -133,7 +134,8 @@ module _ (g : Graph) (order : List ℕ) (topological : IsTopological g order) (s
       }
 
     -- an item that is not active leaves the slots as free as before
-    pub free_same : (t : Times) (free : ℕ) → item_active g s.values (item_at g here) ≡ false → IsMost (IsSentBy g order s p k) (free_after g t) free → IsMost (IsSentBy g order s p (k + 1)) (free_after g t) free
+    pub free_same : (t : Times) (free : ℕ) → item_active g s.values (item_at g here) ≡ false → IsMost (IsSentBy g order s p k) (free_after g t) free →
+        IsMost (IsSentBy g order s p (k + 1)) (free_after g t) free
     free_same t free idle m = most_same (free_after g t) (IsSentBy g order s p k) (IsSentBy g order s p (k + 1)) free
         (λ y h. (h.0, elim h.1 [ inl less ↦ inl less | inr c ↦ inr (in_next (queue_of g p) k y inside (inl c)) ]))
         (λ y h. (
@@ -160,7 +162,8 @@ module _ (g : Graph) (order : List ℕ) (topological : IsTopological g order) (s
         can.slots_free;
   }
 
-  module _ (frozen : List (Option ℕ)) (t : Times) (run : IsRun g order frozen s t) (old known : Times) (k free : ℕ) (inside : k < length (queue_of g p)) (has : HasSent g order s t p k old known free) where
+  module _ (frozen : List (Option ℕ)) (t : Times) (run : IsRun g order frozen s t) (old known : Times) (k free : ℕ) (inside : k < length (queue_of g p))
+      (has : HasSent g order s t p k old known free) where
     abbrev item : ℕ
     item = get_or (queue_of g p) k 0
 
@@ -199,4 +202,5 @@ module _ (g : Graph) (order : List ℕ) (topological : IsTopological g order) (s
 -- the time of a send, as code says it
 pub found_is : (g : Graph) (frozen : List (Option ℕ)) (time free node sender end last item x : ℕ) → time ≡ max (max (next_slot g node end) free) (frozen_in frozen item)
     → node ≡ sender → end ≡ last → item ≡ x → time ≡ max (max (next_slot g sender last) free) (frozen_in frozen x)
-found_is g frozen time free node sender end last item x is n e i = is ∙ ap₂ (λ a b. max (max (next_slot g a b) free) (frozen_in frozen item)) n e ∙ ap (λ y. max (max (next_slot g sender last) free) (frozen_in frozen y)) i
+found_is g frozen time free node sender end last item x is n e i = is ∙ ap₂ (λ a b. max (max (next_slot g a b) free) (frozen_in frozen item)) n e ∙
+    ap (λ y. max (max (next_slot g sender last) free) (frozen_in frozen y)) i

@@ -52,7 +52,8 @@ module _ (g : Graph) (order : List ℕ) (topological : IsTopological g order) wh
       }
 
   -- a frozen time stays one when what is set is not before it
-  pub frozen_time_kept : (frozen others : List (Option ℕ)) (x : ℕ) → x < item_count g → SameBefore frozen others x → get_or frozen x None ≡ get_or others x None → IsFrozenTime g order frozen x → IsFrozenTime g order others x
+  pub frozen_time_kept : (frozen others : List (Option ℕ)) (x : ℕ) → x < item_count g → SameBefore frozen others x → get_or frozen x None ≡ get_or others x None → IsFrozenTime g order frozen x →
+      IsFrozenTime g order others x
   frozen_time_kept frozen others x h same here f = record {
     reached = λ time e. would_have_same frozen others x time h same (f.reached time (here ∙ e));
     greatest = λ time other e w. f.greatest time other (here ∙ e) (would_have_same others frozen x other h (λ y i l. sym (same y i l)) w);
@@ -60,7 +61,8 @@ module _ (g : Graph) (order : List ℕ) (topological : IsTopological g order) wh
   }
 
   -- what an item would have is its frozen time once it is set
-  pub frozen_time_set : (frozen others : List (Option ℕ)) (x : ℕ) → x < item_count g → SameBefore frozen others x → IsUnfrozenTime g order frozen x (get_or others x None) → IsFrozenTime g order others x
+  pub frozen_time_set : (frozen others : List (Option ℕ)) (x : ℕ) → x < item_count g → SameBefore frozen others x → IsUnfrozenTime g order frozen x (get_or others x None) →
+      IsFrozenTime g order others x
   frozen_time_set frozen others x h same f = record {
     reached = λ time e. would_have_same frozen others x time h same (f.reached time e);
     greatest = λ time other e w. f.greatest time other e (would_have_same others frozen x other h (λ y i l. sym (same y i l)) w);

@@ -1,5 +1,6 @@
 -- What is known before a place, and the process there with what it sends, give what is known before the next place.
-use Rattle.std.proofs.Common.{◌≡◌, ◌≢◌, ◌∙◌, ℕ, ◌+◌, ◌<◌, ◌≤◌, max, Bool, true, false, ◌&&◌, List, length, get_or, set, take, Contains, Option, Some, None, option_map, arith, refl, sym, ap, inl, inr, ◌⊎◌, subst, true≢false, get_or-set_same, get_or-set_other}
+use Rattle.std.proofs.Common.{◌≡◌, ◌≢◌, ◌∙◌, ℕ, ◌+◌, ◌<◌, ◌≤◌, max, Bool, true, false, ◌&&◌, List, length, get_or, set, take, Contains, Option, Some, None, option_map, arith, refl, sym, ap, inl, inr}
+use Rattle.std.proofs.Common.{◌⊎◌, subst, true≢false, get_or-set_same, get_or-set_other}
 use Rattle.std.proofs.lemmas.Bool.{cases_lt, cases_eq, cases_Bool, cond-false}
 use Rattle.std.proofs.lemmas.List.{take_all}
 use Rattle.cpg_base.specs.Graph.{Graph, process_count, condition_count, item_count, item_at, edge_at, producer, producer_of_item, node_of, source, process_of, is_sent, is_sent_item}
@@ -85,11 +86,13 @@ module _ (g : Graph) (order : List ℕ) (topological : IsTopological g order) (f
         least b (omega arith) (λ acts. x p l (omega arith) refl acts);
   }
 
-  pub ready_idle : (r h v : ℕ) → active g s.values p ≡ false → v ≡ max r h → IsReady g order s t i (node_of g p) r → IsMost (λ c. (c < condition_count g) × (decides g s.values p c ≡ true)) (heard_there g t (node_of g p)) h
+  pub ready_idle : (r h v : ℕ) → active g s.values p ≡ false → v ≡ max r h → IsReady g order s t i (node_of g p) r →
+      IsMost (λ c. (c < condition_count g) × (decides g s.values p c ≡ true)) (heard_there g t (node_of g p)) h
       → IsReady g order s t (i + 1) (node_of g p) v
   ready_idle r h v idle is ready heard = ready_here r h v ready heard (omega arith) (λ acts. absurd (true≢false (sym acts ∙ idle))) (λ b m acts. omega arith)
 
-  pub ready_active : (r h v : ℕ) → active g s.values p ≡ true → v ≡ end_in t p → max r h ≤ v → IsReady g order s t i (node_of g p) r → IsMost (λ c. (c < condition_count g) × (decides g s.values p c ≡ true)) (heard_there g t (node_of g p)) h
+  pub ready_active : (r h v : ℕ) → active g s.values p ≡ true → v ≡ end_in t p → max r h ≤ v → IsReady g order s t i (node_of g p) r →
+      IsMost (λ c. (c < condition_count g) × (decides g s.values p c ≡ true)) (heard_there g t (node_of g p)) h
       → IsReady g order s t (i + 1) (node_of g p) v
   ready_active r h v acts is above ready heard = ready_here r h v ready heard above (λ _. omega arith) (λ b m ended. let e = ended acts in omega arith)
 

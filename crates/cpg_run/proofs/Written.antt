@@ -1,5 +1,6 @@
 -- Rows that carry no more than they may can be written as tables, and these are lawful.
-use Rattle.std.proofs.Common.{◌≡◌, ◌≢◌, ℕ, zero, suc, ◌+◌, ◌*◌, ◌^◌, ◌<◌, ◌≤◌, Bool, true, false, ◌&&◌, nat_lt, List, [], ◌∷◌, ◌++◌, Option, Some, None, length, get_or, filter, sum_by, unwrap_or, All, Contains, refl, sym, ap, ◌∙◌, subst, arith, inl, inr, append-nil, eq-eqb, ne_eqb, lt-ltb, le-ltb, cond, ◌⊎◌, flat_map}
+use Rattle.std.proofs.Common.{◌≡◌, ◌≢◌, ℕ, zero, suc, ◌+◌, ◌*◌, ◌^◌, ◌<◌, ◌≤◌, Bool, true, false, ◌&&◌, nat_lt, List, [], ◌∷◌, ◌++◌, Option, Some, None, length, get_or, filter, sum_by, unwrap_or, All}
+use Rattle.std.proofs.Common.{Contains, refl, sym, ap, ◌∙◌, subst, arith, inl, inr, append-nil, eq-eqb, ne_eqb, lt-ltb, le-ltb, cond, ◌⊎◌, flat_map}
 use Rattle.std.proofs.lemmas.Bool.{cases_lt, cond-true, cond-false, and_from, or_left, or_right, both_ways}
 use Rattle.std.proofs.lemmas.List.{length-map, get_or-map, get_or_past}
 use Rattle.std.proofs.lemmas.List.Elements.{All-contains, All-from_get_or, Contains-get_or}
@@ -67,7 +68,8 @@ columns_at rows x = elim (cases_lt x (length rows)) [
   | inr past ↦ get_or_past (columns_of_rows rows) x [] (omega (arith, past, length-map rows (λ (row : Row). row.columns))) ∙ sym (ap (λ (row : Row). row.columns) (get_or_past rows x no_row past))
 ]
 
-module _ (g : Graph) (within : IsWithinLimits g) (urgency order : List ℕ) (admitted : Admitted g urgency order) (frozen : List (Option ℕ)) (rows : List Row) (is : AreRowsFound g urgency order frozen rows) where
+module _ (g : Graph) (within : IsWithinLimits g) (urgency order : List ℕ) (admitted : Admitted g urgency order) (frozen : List (Option ℕ)) (rows : List Row)
+    (is : AreRowsFound g urgency order frozen rows) where
   abbrev columns : List (List Column)
   columns = columns_of_rows rows
 
@@ -96,7 +98,8 @@ module _ (g : Graph) (within : IsWithinLimits g) (urgency order : List ℕ) (adm
 
   one_has : (x : ℕ) → columns_of (one_table rows) x ≡ (row_for rows x).columns
   one_has x = ap (λ rs. columns_in rs x) all_rows ∙ elim (cases_lt x (item_count g)) [
-    | inl l ↦ let first : ℕ = 0 in ap (columns_in rows) (let e : x ≡ first + x = omega arith in e) ∙ columns_there rows first x (omega (arith, l, long)) (λ i m. item_is i (omega (arith, m, long)) ∙ omega arith)
+    | inl l ↦ let first : ℕ = 0 in ap (columns_in rows) (let e : x ≡ first + x = omega arith in e) ∙
+        columns_there rows first x (omega (arith, l, long)) (λ i m. item_is i (omega (arith, m, long)) ∙ omega arith)
     | inr past ↦ columns_nowhere rows x (λ i m e. let own = item_is i (omega (arith, m, long)) in absurd (omega (arith, m, long, own, e, past)))
         ∙ sym (ap (λ (row : Row). row.columns) (get_or_past rows x no_row (omega (arith, past, long))))
   ]
@@ -108,7 +111,8 @@ module _ (g : Graph) (within : IsWithinLimits g) (urgency order : List ℕ) (adm
   column_time : (x : ℕ) → x < item_count g → (c : Column) → Contains (row_at columns x) c → (s : Scenario) → IsScenario g s → matches c.cube s ≡ true → c.time < 2 ^ 59
   column_time x l c k s lawful m =
       let r = a_run g order frozen s admitted.topological in
-      let there = Contains-map (λ (d : Column). d.time) (filter (λ (d : Column). matches d.cube s) (row_at columns x)) c (Contains-filter (λ (d : Column). matches d.cube s) (row_at columns x) c m k) in
+      let there = Contains-map (λ (d : Column). d.time) (filter (λ (d : Column). matches d.cube s) (row_at columns x)) c
+      (Contains-filter (λ (d : Column). matches d.cube s) (row_at columns x) c m k) in
       let is_time : get_or r.0.times x None ≡ Some c.time = in_option (get_or r.0.times x None) c.time (subst (λ ts. Contains ts c.time) ((is.found.each x l).times s r.0 lawful r.1) there) in
       let small : AreSmall r.0 = run_small g order frozen s r.0 within admitted.topological lawful is.early r.1 in
       subst (λ o. unwrap_or o 0 < 2 ^ 59) is_time (small.times x)
@@ -181,7 +185,8 @@ module _ (g : Graph) (within : IsWithinLimits g) (urgency order : List ℕ) (adm
     loads_few : (n : ℕ) → n ≤ item_count g → sum_by (load g reach) (numbers_below n) ≤ most_loads
     loads_few zero l = omega arith
     loads_few (suc n) l =
-        let more : sum_by (load g reach) (numbers_below (n + 1)) ≡ sum_by (load g reach) (numbers_below n) + load g reach n = ap (sum_by (load g reach)) (below_push n) ∙ sum_by_push (load g reach) (numbers_below n) n in
+        let more : sum_by (load g reach) (numbers_below (n + 1)) ≡ sum_by (load g reach) (numbers_below n) + load g reach n = ap (sum_by (load g reach)) (below_push n) ∙
+        sum_by_push (load g reach) (numbers_below n) n in
         let before = loads_few n (omega arith) in
         subst (λ m. sum_by (load g reach) (numbers_below m) ≤ most_loads) (let e : n + 1 ≡ suc n = omega arith in e)
         (elim (cases_lt 0 (rows_of_item g (item_at g n))) [

@@ -1,6 +1,6 @@
 //! What a builder of tables answers.
 
-use crate::Frozen;
+use crate::FrozenTimes;
 use cpg_base::{OutOfMemory, Scenario};
 use cpg_table::Tables;
 use std::alloc::{AllocError, AllocFailed};
@@ -11,7 +11,7 @@ pub struct Built {
     /// The tables of all nodes.
     pub tables: Tables,
     /// The times of frozen items.
-    pub frozen: Frozen,
+    pub frozen: FrozenTimes,
     /// The greatest finish of all scenarios, in time units.
     pub worst: u64,
     /// The least scenario that has it.

@@ -8,11 +8,11 @@ use std::marker::Model;
 
 /// The times of frozen items, in time units, seen as a list with a time or `None` for each item number.
 #[derive(Drop)]
-pub struct Frozen {
+pub struct FrozenTimes {
     times: Vec<Option<u64>>,
 }
 
-impl Model for Frozen {
+impl Model for FrozenTimes {
     ghost use Rattle.std.specs.Prelude.{List, Option, ℕ};
 
     ghost Value = { List (Option ℕ) };
@@ -20,15 +20,15 @@ impl Model for Frozen {
     ghost view = { λ f. f.times.items };
 }
 
-impl Frozen {
+impl FrozenTimes {
     /// No time for any item.
-    pub fn none(alloc: Global, problem: &Problem) -> Result<Frozen, OutOfMemory>
+    pub fn none(alloc: Global, problem: &Problem) -> Result<FrozenTimes, OutOfMemory>
         ensures { IfOk result (λ frozen. frozen ≡ nothing_frozen problem.now) }
     {
         let items = problem.processes().len()
             + problem.edges().len()
             + problem.conditions() as usize;
-        Ok(Frozen {
+        Ok(FrozenTimes {
             times: vec![in alloc; None; items]?,
         })
     }
@@ -50,10 +50,10 @@ impl Frozen {
     }
 
     /// Equal frozen times.
-    pub fn copy(&self) -> Result<Frozen, OutOfMemory>
+    pub fn copy(&self) -> Result<FrozenTimes, OutOfMemory>
         ensures { IfOk result (λ frozen. frozen ≡ self.now) }
     {
-        Ok(Frozen {
+        Ok(FrozenTimes {
             times: self.times.clone()?,
         })
     }

@@ -7,7 +7,7 @@ ghost use Rattle.cpg_run.specs.Run.{IsRun};
 ghost use Rattle.cpg_run.specs.Known.{AreEarly};
 ghost use Rattle.cpg_run.specs.Setting.{IsRunOf, IsSetting};
 
-use crate::{Frozen, Progress, RunTimes, Setting};
+use crate::{FrozenTimes, RunProgress, RunTimes, Setting};
 use cpg_base::{Order, OutOfMemory, Scenario};
 use cpg_bus::Plan;
 use cpg_rules::Admitted;
@@ -17,7 +17,7 @@ use std::alloc::Global;
 pub fn run_by(
     alloc: Global,
     setting: &Setting<'_>,
-    frozen: &Frozen,
+    frozen: &FrozenTimes,
     scenario: &Scenario,
 ) -> Result<RunTimes, OutOfMemory>
     requires setting { IsSetting setting.now }
@@ -26,7 +26,7 @@ pub fn run_by(
     requires scenario { IsScenario setting.now.problem.now scenario.now }
     ensures { IfOk result (IsRunOf setting.now frozen.now scenario.now) }
 {
-    let mut progress = Progress::none(alloc, setting.problem)?;
+    let mut progress = RunProgress::none(alloc, setting.problem)?;
     for place in 0..setting.problem.processes().len() as u32 {
         progress.step(alloc, setting, frozen, scenario, place)?;
     }
@@ -39,7 +39,7 @@ pub fn run(
     alloc: Global,
     admitted: &Admitted,
     order: &Order,
-    frozen: &Frozen,
+    frozen: &FrozenTimes,
     scenario: &Scenario,
 ) -> Result<RunTimes, OutOfMemory>
     requires topological { IsTopological admitted.now.graph order.now }

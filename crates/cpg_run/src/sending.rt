@@ -13,7 +13,7 @@ ghost use Rattle.cpg_run.specs.Setting.{CanSendIn, HasSentIn, IsSetting};
 use crate::activity::is_item_active;
 use crate::known::Known;
 use crate::waiting::frozen_time;
-use crate::{Frozen, Setting};
+use crate::{FrozenTimes, Setting};
 use cpg_base::{Problem, Scenario};
 use cpg_bus::Plan;
 
@@ -21,7 +21,7 @@ use cpg_bus::Plan;
 fn send_time(
     problem: &Problem,
     plan: &Plan,
-    frozen: &Frozen,
+    frozen: &FrozenTimes,
     node: u32,
     item: u32,
     end: u64,
@@ -42,7 +42,7 @@ fn send_time(
 /// when on they are free then.
 pub(crate) fn send(
     setting: &Setting<'_>,
-    frozen: &Frozen,
+    frozen: &FrozenTimes,
     scenario: &Scenario,
     known: &mut Known,
     process: u32,

@@ -13,7 +13,7 @@ use crate::activity::is_active;
 use crate::known::Known;
 use crate::sending::send;
 use crate::waiting::{decided_there, start};
-use crate::{Frozen, RunTimes, Setting};
+use crate::{FrozenTimes, RunTimes, Setting};
 use cpg_base::{OutOfMemory, Problem, Scenario};
 use std::alloc::Global;
 use std::marker::Model;
@@ -29,7 +29,7 @@ struct Nodes {
 fn step(
     alloc: Global,
     setting: &Setting<'_>,
-    frozen: &Frozen,
+    frozen: &FrozenTimes,
     scenario: &Scenario,
     known: &mut Known,
     nodes: &mut Nodes,
@@ -74,12 +74,12 @@ fn step(
 
 /// What is known of a run before a place of the order.
 #[derive(Drop)]
-pub struct Progress {
+pub struct RunProgress {
     known: Known,
     nodes: Nodes,
 }
 
-impl Model for Progress {
+impl Model for RunProgress {
     ghost use Rattle.cpg_run.specs.Progress.{ProgressState};
 
     ghost Value = { ProgressState };
@@ -87,13 +87,13 @@ impl Model for Progress {
     ghost view = { λ p. record { known = p.known; ready = p.nodes.ready.items; free = p.nodes.free.items } };
 }
 
-impl Progress {
+impl RunProgress {
     /// Nothing is known before the first place.
-    pub fn none(alloc: Global, problem: &Problem) -> Result<Progress, OutOfMemory>
+    pub fn none(alloc: Global, problem: &Problem) -> Result<RunProgress, OutOfMemory>
         ensures { IfOk result (λ progress. (order : List ℕ) (frozen : List (Option ℕ)) (s : Scenario) → IsAlong problem.now order frozen s 0 progress) }
     {
         let nodes = problem.nodes().len();
-        Ok(Progress {
+        Ok(RunProgress {
             known: Known::none(alloc, problem)?,
             nodes: Nodes {
                 ready: vec![in alloc; 0u64; nodes]?,
@@ -103,10 +103,10 @@ impl Progress {
     }
 
     /// Equal progress.
-    pub fn copy(&self) -> Result<Progress, OutOfMemory>
+    pub fn copy(&self) -> Result<RunProgress, OutOfMemory>
         ensures { IfOk result (λ progress. progress ≡ self.now) }
     {
-        Ok(Progress {
+        Ok(RunProgress {
             known: self.known.copy()?,
             nodes: Nodes {
                 ready: self.nodes.ready.clone()?,
@@ -127,7 +127,7 @@ impl Progress {
         &mut self,
         alloc: Global,
         setting: &Setting<'_>,
-        frozen: &Frozen,
+        frozen: &FrozenTimes,
         scenario: &Scenario,
         place: u32,
     ) -> Result<(), OutOfMemory>

@@ -16,7 +16,7 @@ ghost use Rattle.cpg_bus.specs.Plan.{plan_of};
 
 use crate::activity::{deciding, is_live};
 use crate::known::Known;
-use crate::{Frozen, Setting};
+use crate::{FrozenTimes, Setting};
 use cpg_base::{OutOfMemory, Problem, Scenario};
 use cpg_bus::Plan;
 use cpg_rules::GuardTrees;
@@ -198,7 +198,7 @@ pub(crate) fn decided_there(
 }
 
 /// The frozen time of an item, or 0 if none is set.
-pub(crate) fn frozen_time(frozen: &Frozen, item: u32) -> u64
+pub(crate) fn frozen_time(frozen: &FrozenTimes, item: u32) -> u64
     requires { item < length frozen.now }
     ensures { result ≡ frozen_in frozen.now item }
 {
@@ -208,7 +208,7 @@ pub(crate) fn frozen_time(frozen: &Frozen, item: u32) -> u64
 /// The start of an active process whose node is ready for it at a time.
 pub(crate) fn start(
     setting: &Setting<'_>,
-    frozen: &Frozen,
+    frozen: &FrozenTimes,
     known: &Known,
     scenario: &Scenario,
     process: u32,

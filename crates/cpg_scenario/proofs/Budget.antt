@@ -29,13 +29,15 @@ given_within longest (Some (negsuc n)) l t = absurd (true≢false (sym t))
 
 module _ (g : Graph) (ms : Members) where
   -- a count is below 0, or above what is left after those before it
-  pub budget_broken : (n left : ℕ) (given : ℤ) → n < process_count g → given ≡ count_given g ms n → left + sum_by (count_of g ms) (numbers_below n) ≡ g.faults → (is_natural given ≡ false) ⊎ (left < natural given) → keeps_budget g ms ≡ false
+  pub budget_broken : (n left : ℕ) (given : ℤ) → n < process_count g → given ≡ count_given g ms n → left + sum_by (count_of g ms) (numbers_below n) ≡ g.faults → (is_natural given ≡ false) ⊎
+      (left < natural given) → keeps_budget g ms ≡ false
   budget_broken n left given l e total cause = ⊎_elim
       (λ (k : is_natural given ≡ false). and_left _ _ (one_fails (λ p. is_natural (count_given g ms p)) (process_count g) n l (ap is_natural (sym e) ∙ k)))
       (λ (k : left < natural given). and_right _ _ (over_budget (count_of g ms) (process_count g) n g.faults left l total (let same = ap natural e in omega arith)))
       cause
 
-  pub budget_kept : (left : ℕ) → ((p : ℕ) → p < process_count g → is_natural (count_given g ms p) ≡ true) → left + sum_by (count_of g ms) (numbers_below (process_count g)) ≡ g.faults → keeps_budget g ms ≡ true
+  pub budget_kept : (left : ℕ) → ((p : ℕ) → p < process_count g → is_natural (count_given g ms p) ≡ true) → left + sum_by (count_of g ms) (numbers_below (process_count g)) ≡ g.faults →
+      keeps_budget g ms ≡ true
   budget_kept left h total = and_from _ _
       (all_pass (λ p. is_natural (count_given g ms p)) (process_count g) h)
       (le-leb (sum_by (count_of g ms) (numbers_below (process_count g))) g.faults (omega arith))
@@ -44,7 +46,9 @@ module _ (g : Graph) (ms : Members) where
   is_scenario kept = record {
     values = length-map _ _ ∙ length-range_with_len 0 (condition_count g);
     faults = length-map _ _ ∙ length-range_with_len 0 (process_count g);
-    budget = let within : sum_by (count_of g ms) (numbers_below (process_count g)) ≤ g.faults = leb-true _ _ (and_parts (list_all (λ p. is_natural (count_given g ms p)) (numbers_below (process_count g))) (nat_le (sum_by (count_of g ms) (numbers_below (process_count g))) g.faults) kept).1 in let total = sum-map (count_of g ms) (numbers_below (process_count g)) in omega arith;
+    budget = let within : sum_by (count_of g ms) (numbers_below (process_count g)) ≤ g.faults =
+        leb-true _ _ (and_parts (list_all (λ p. is_natural (count_given g ms p)) (numbers_below (process_count g)))
+        (nat_le (sum_by (count_of g ms) (numbers_below (process_count g))) g.faults) kept).1 in let total = sum-map (count_of g ms) (numbers_below (process_count g)) in omega arith;
   }
 
   pub full_are : full_lengths g (scenario_of g ms) ≡ map (λ p. duration g p (count_of g ms p)) (numbers_below (process_count g))
@@ -54,15 +58,20 @@ module _ (g : Graph) (ms : Members) where
   takes_time : IsWithinLimits g → (p f : ℕ) → p < process_count g → 1 ≤ duration g p f
   takes_time within p f l = let at : IsProcessWithin _ (process_at g p) = within.processes p _ l in omega (arith, at.works)
 
-  within_length : keeps_lengths g ms ≡ true → IsWithinLimits g → (q : ℕ) → q < process_count g → (1 ≤ get_or (lengths_of g ms) q 0) × (get_or (lengths_of g ms) q 0 ≤ duration g q (fault_of (scenario_of g ms) q))
+  within_length : keeps_lengths g ms ≡ true → IsWithinLimits g → (q : ℕ) → q < process_count g → (1 ≤ get_or (lengths_of g ms) q 0) ×
+      (get_or (lengths_of g ms) q 0 ≤ duration g q (fault_of (scenario_of g ms) q))
   within_length kept within q l =
       let is = get_or-map-below (λ p. length_or (duration g p (count_of g ms p)) (length_given g ms p)) (process_count g) q 0 l in
       let few = ap (duration g q) (get_or-map-below (count_of g ms) (process_count g) q 0 l) in
       let w = given_within (duration g q (count_of g ms q)) (length_given g ms q) (takes_time within q (count_of g ms q) l)
-      (from_all (λ p. is_length_if (duration g p (count_of g ms p)) (length_given g ms p)) (numbers_below (process_count g)) q kept (Contains-numbers (process_count g) q l)) in
-      (subst (λ n. 1 ≤ n) (sym is) w.0, subst (λ n. n ≤ duration g q (fault_of (scenario_of g ms) q)) (sym is) (subst (λ n. length_or (duration g q (count_of g ms q)) (length_given g ms q) ≤ n) (sym few) w.1))
+      (from_all (λ p. is_length_if (duration g p (count_of g ms p)) (length_given g ms p)) (numbers_below (process_count g)) q kept (Contains-numbers (process_count g) q l)) in (
+        subst (λ n. 1 ≤ n) (sym is) w.0,
+        subst (λ n. n ≤ duration g q (fault_of (scenario_of g ms) q)) (sym is)
+            (subst (λ n. length_or (duration g q (count_of g ms q)) (length_given g ms q) ≤ n) (sym few) w.1),
+      )
 
-  pub is_played : IsWithinLimits g → keeps_budget g ms ≡ true → keeps_lengths g ms ≡ true → (s : Scenario) (ls : List ℕ) → s ≡ scenario_of g ms → ls ≡ lengths_of g ms → IsPlayed g (record { scenario = s; lengths = ls })
+  pub is_played : IsWithinLimits g → keeps_budget g ms ≡ true → keeps_lengths g ms ≡ true → (s : Scenario) (ls : List ℕ) → s ≡ scenario_of g ms → ls ≡ lengths_of g ms →
+      IsPlayed g (record { scenario = s; lengths = ls })
   is_played within budget kept s ls e k =
       let made : IsPlayed g (record { scenario = scenario_of g ms; lengths = lengths_of g ms }) = record {
         scenario = is_scenario budget;

@@ -1,5 +1,6 @@
 -- Each cause is there exactly if its test fails, and the tests stand in the order of the causes.
-use Rattle.std.proofs.Common.{ℕ, zero, suc, ℤ, pos, negsuc, ◌≡◌, ◌<◌, ◌≤◌, ◌⊎◌, Bool, true, false, not, ◌&&◌, ◌||◌, if◌then◌else◌, List, [], ◌∷◌, Contains, Option, Some, None, Ok, Err, is_some, sum_by, codes, refl, sym, ap, subst, ◌∙◌, inl, inr, arith, true≢false}
+use Rattle.std.proofs.Common.{ℕ, zero, suc, ℤ, pos, negsuc, ◌≡◌, ◌<◌, ◌≤◌, ◌⊎◌, Bool, true, false, not, ◌&&◌, ◌||◌, if◌then◌else◌, List, [], ◌∷◌, Contains, Option, Some, None, Ok, Err, is_some}
+use Rattle.std.proofs.Common.{sum_by, codes, refl, sym, ap, subst, ◌∙◌, inl, inr, arith, true≢false}
 use Rattle.std.specs.Prelude.{◌↔◌, ⊤, IsSomeAnd, bytes_eq, nat_le, option_and_then}
 use Rattle.std.specs.List.{list_any, list_all}
 use Rattle.std.proofs.lemmas.Bool.{cases_Bool, both_ways, false_from_ne_true, true_from_ne_false, cases_lt, leb-false, lt-leb}
@@ -13,8 +14,10 @@ use Rattle.cpg_scenario.specs.declared.fault.Cause.{Cause}
 use Rattle.cpg_scenario.specs.declared.fault.Cause.TheVariants.{Toml, Field, Unknown, Condition, Budget, Length}
 use Rattle.cpg_scenario.specs.declared.fault.ScenarioFault.TheVariants.{Bad}
 use Rattle.cpg_scenario.specs.declared.reading.Played.{Played}
-use Rattle.cpg_scenario.specs.File.{top_keys, are_among, is_typed, are_typed, is_table_of, has_fields, process_names, are_named, has_names, value_given, may_have_value, has_conditions, count_given, count_of, is_natural, keeps_budget, length_given, is_length, is_length_if, keeps_lengths, lengths_of, scenario_of, Reading, played_if, file_of}
-use Rattle.cpg_scenario.specs.Causes.{document_of, Stands, HasEntry, HasOtherKey, HasOtherType, IsNoTableOf, HasBadField, HasUnknownName, HasBadValue, IsNegative, HasNegativeCount, IsOverBudget, IsNoLength, HasBadLength, IsIn, place_of, FirstCausesAreTold}
+use Rattle.cpg_scenario.specs.File.{top_keys, are_among, is_typed, are_typed, is_table_of, has_fields, process_names, are_named, has_names, value_given, may_have_value, has_conditions, count_given}
+use Rattle.cpg_scenario.specs.File.{count_of, is_natural, keeps_budget, length_given, is_length, is_length_if, keeps_lengths, lengths_of, scenario_of, Reading, played_if, file_of}
+use Rattle.cpg_scenario.specs.Causes.{document_of, Stands, HasEntry, HasOtherKey, HasOtherType, IsNoTableOf, HasBadField, HasUnknownName, HasBadValue, IsNegative, HasNegativeCount, IsOverBudget}
+use Rattle.cpg_scenario.specs.Causes.{IsNoLength, HasBadLength, IsIn, rank_of_cause, FirstCausesAreTold}
 use Rattle.cpg_scenario.proofs.Filling.{all_pass, one_fails}
 
 -- ---- a test and what is so if it fails
@@ -182,7 +185,7 @@ cause_at (suc (suc (suc zero))) = Condition
 cause_at (suc (suc (suc (suc zero)))) = Budget
 cause_at n = Length
 
-at_place : (cause : Cause) → cause_at (place_of cause) ≡ cause
+at_place : (cause : Cause) → cause_at (rank_of_cause cause) ≡ cause
 at_place Toml = refl
 at_place Field = refl
 at_place Unknown = refl
@@ -190,7 +193,7 @@ at_place Condition = refl
 at_place Budget = refl
 at_place Length = refl
 
-few : (cause : Cause) → place_of cause < 6
+few : (cause : Cause) → rank_of_cause cause < 6
 few Toml = omega arith
 few Field = omega arith
 few Unknown = omega arith
@@ -198,7 +201,7 @@ few Condition = omega arith
 few Budget = omega arith
 few Length = omega arith
 
-same_place : (c e : Cause) → place_of c ≡ place_of e → c ≡ e
+same_place : (c e : Cause) → rank_of_cause c ≡ rank_of_cause e → c ≡ e
 same_place c e k = sym (at_place c) ∙ ap cause_at k ∙ at_place e
 
 same_bad : (c e : Cause) → (let r : Reading = Err (Bad c) in r) ≡ Err (Bad e) → c ≡ e
@@ -210,7 +213,7 @@ bad_well c p k = cc
 -- causes that stand at places from n on, up to the last
 abbrev Rise : ℕ → List Cause → Type 0
 Rise n [] = n ≡ 6
-Rise n (c ∷ cs) = (place_of c ≡ n) × Rise (suc n) cs
+Rise n (c ∷ cs) = (rank_of_cause c ≡ n) × Rise (suc n) cs
 
 module _ (test : Cause → Bool) (played : Played) where
   abbrev told : List Cause → Reading
@@ -218,19 +221,19 @@ module _ (test : Cause → Bool) (played : Played) where
   told (c ∷ cs) = if not (test c) then Err (Bad c) else told cs
 
   abbrev Pass : ℕ → Type 0
-  Pass n = (c : Cause) → place_of c < n → test c ≡ true
+  Pass n = (c : Cause) → rank_of_cause c < n → test c ≡ true
 
-  pass_more : (c : Cause) → Pass (place_of c) → test c ≡ true → Pass (suc (place_of c))
-  pass_more c before here e l = elim (cases_lt (place_of e) (place_of c)) [
+  pass_more : (c : Cause) → Pass (rank_of_cause c) → test c ≡ true → Pass (suc (rank_of_cause c))
+  pass_more c before here e l = elim (cases_lt (rank_of_cause e) (rank_of_cause c)) [
     | inl lt ↦ before e lt
-    | inr ge ↦ let same : place_of c ≡ place_of e = omega (arith, l, ge) in subst (λ x. test x ≡ true) (same_place c e same) here
+    | inr ge ↦ let same : rank_of_cause c ≡ rank_of_cause e = omega (arith, l, ge) in subst (λ x. test x ≡ true) (same_place c e same) here
   ]
 
-  pass_next : (n : ℕ) (c : Cause) → place_of c ≡ n → Pass n → test c ≡ true → Pass (suc n)
+  pass_next : (n : ℕ) (c : Cause) → rank_of_cause c ≡ n → Pass n → test c ≡ true → Pass (suc n)
   pass_next n c at before here = subst (λ m. Pass (suc m)) at (pass_more c (subst Pass (sym at) before) here)
 
   abbrev IsFirstFailure : Cause → Type 0
-  IsFirstFailure cause = (test cause ≡ false) × Pass (place_of cause)
+  IsFirstFailure cause = (test cause ≡ false) × Pass (rank_of_cause cause)
 
   goes_on : (c : Cause) (cs : List Cause) → test c ≡ true → told (c ∷ cs) ≡ told cs
   goes_on c cs pass = rw pass refl
@@ -245,11 +248,11 @@ module _ (test : Cause → Bool) (played : Played) where
     | inr fail ↦ subst IsFirstFailure (same_bad c cause (sym (stops c cs fail) ∙ e)) (fail, subst Pass (sym rise.0) before)
   ]
 
-  first_told : (cs : List Cause) (n : ℕ) → Rise n cs → (cause : Cause) → n ≤ place_of cause → IsFirstFailure cause → told cs ≡ Err (Bad cause)
+  first_told : (cs : List Cause) (n : ℕ) → Rise n cs → (cause : Cause) → n ≤ rank_of_cause cause → IsFirstFailure cause → told cs ≡ Err (Bad cause)
   first_told [] n rise cause l first = let f = few cause in absurd (omega (arith, f, l, rise))
-  first_told (c ∷ cs) n rise cause l first = elim (cases_lt n (place_of cause)) [
+  first_told (c ∷ cs) n rise cause l first = elim (cases_lt n (rank_of_cause cause)) [
     | inl lt ↦ let at = rise.0 in goes_on c cs (first.1 c (omega (arith, at, lt))) ∙ first_told cs (suc n) rise.1 cause lt first
-    | inr ge ↦ let at = rise.0 in let same : place_of cause ≡ place_of c = omega (arith, at, l, ge) in
+    | inr ge ↦ let at = rise.0 in let same : rank_of_cause cause ≡ rank_of_cause c = omega (arith, at, l, ge) in
         let is = same_place cause c same in stops c cs (subst (λ x. test x ≡ false) is first.0) ∙ ap (λ x. Err (Bad x)) (sym is)
   ]
 
@@ -292,7 +295,7 @@ module _ (g : Graph) (ms : Members) where
 -- a document is rejected for its first cause, and played if there is none
 abbrev Judged : Graph → Option Members → Type 0
 Judged g document =
-    ((cause : Cause) → played_if g document ≡ Err (Bad cause) ↔ (IsIn g document cause × ((other : Cause) → place_of other < place_of cause → IsIn g document other → ⊥)))
+    ((cause : Cause) → played_if g document ≡ Err (Bad cause) ↔ (IsIn g document cause × ((other : Cause) → rank_of_cause other < rank_of_cause cause → IsIn g document other → ⊥)))
     × (((p : Played) × (played_if g document ≡ Ok p)) ↔ ((cause : Cause) → IsIn g document cause → ⊥))
 
 judged : (g : Graph) (document : Option Members) → Judged g document
@@ -301,8 +304,8 @@ judged g None = (
   (λ (p, e). cc, λ none. absurd (none Toml refl)),
 )
   where
-    at : (cause : Cause) → Toml ≡ cause → IsIn g None cause × ((other : Cause) → place_of other < place_of cause → IsIn g None other → ⊥)
-    at cause e = subst (λ c. IsIn g None c × ((other : Cause) → place_of other < place_of c → IsIn g None other → ⊥)) e (refl, λ other l h. absurd (omega (arith, l)))
+    at : (cause : Cause) → Toml ≡ cause → IsIn g None cause × ((other : Cause) → rank_of_cause other < rank_of_cause cause → IsIn g None other → ⊥)
+    at cause e = subst (λ c. IsIn g None c × ((other : Cause) → rank_of_cause other < rank_of_cause c → IsIn g None other → ⊥)) e (refl, λ other l h. absurd (omega (arith, l)))
 
     back : (cause : Cause) → IsIn g None cause → played_if g None ≡ Err (Bad cause)
     back Toml h = refl
@@ -313,7 +316,8 @@ judged g None = (
     back Length h = absurd h
 judged g (Some ms) = (
   λ cause. (
-    λ e. let first = told_first (test g ms) (played g ms) order 1 rise start cause e in ((fails g ms cause).0 first.0, λ other l h. both_ways (test g ms other) ((fails g ms other).1 h) (first.1 other l)),
+    λ e. let first = told_first (test g ms) (played g ms) order 1 rise start cause e in
+        ((fails g ms cause).0 first.0, λ other l h. both_ways (test g ms other) ((fails g ms other).1 h) (first.1 other l)),
     λ h. first_told (test g ms) (played g ms) order 1 rise cause (behind cause h.0) ((fails g ms cause).1 h.0, λ other l. passes g ms other (h.1 other l)),
   ),
   (
@@ -336,7 +340,7 @@ judged g (Some ms) = (
     start Budget l = absurd (omega (arith, l))
     start Length l = absurd (omega (arith, l))
 
-    behind : (cause : Cause) → IsIn g (Some ms) cause → 1 ≤ place_of cause
+    behind : (cause : Cause) → IsIn g (Some ms) cause → 1 ≤ rank_of_cause cause
     behind Toml h = cc
     behind Field h = omega arith
     behind Unknown h = omega arith

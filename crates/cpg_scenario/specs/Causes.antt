@@ -107,18 +107,18 @@ abbrev pub IsThere : Graph → List ℕ → Cause → Type 0
 IsThere g bytes cause = IsIn g (document_of bytes) cause
 
 -- the place of a cause in the order in which they are looked for
-abbrev pub place_of : Cause → ℕ
-place_of Toml = 0
-place_of Field = 1
-place_of Unknown = 2
-place_of Condition = 3
-place_of Budget = 4
-place_of Length = 5
+abbrev pub rank_of_cause : Cause → ℕ
+rank_of_cause Toml = 0
+rank_of_cause Field = 1
+rank_of_cause Unknown = 2
+rank_of_cause Condition = 3
+rank_of_cause Budget = 4
+rank_of_cause Length = 5
 
 -- the cause is there, and none before it is
 pub record IsFirstCauseOf (g : Graph) (bytes : List ℕ) (cause : Cause) : Type 0 where
   pub there : IsThere g bytes cause
-  pub none : (other : Cause) → place_of other < place_of cause → IsThere g bytes other → ⊥
+  pub none : (other : Cause) → rank_of_cause other < rank_of_cause cause → IsThere g bytes other → ⊥
 
 -- a file is rejected for its first cause, and says a scenario if there is no cause
 pub record IsJudgedByCauses (g : Graph) (bytes : List ℕ) : Type 0 where

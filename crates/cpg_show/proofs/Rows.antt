@@ -12,28 +12,30 @@ use Rattle.cpg_label.specs.Lines.{IsLine, IsLineOf}
 use Rattle.cpg_label.specs.declared.line.Line.{Line}
 use Rattle.cpg_show.specs.Sheet.{part_text}
 use Rattle.cpg_show.specs.TableText.{head_line, is_shown, item_text}
-use Rattle.cpg_show.specs.declared.sheet.Part.{Part}
+use Rattle.cpg_show.specs.declared.sheet.SheetPart.{SheetPart}
 
 -- a line of some literals is a line
 pub line_still : (labels : Labels) (ls : List Literal) (o : Option Line) → IfSome o (IsLineOf labels ls) → IfSome o (IsLine labels)
 line_still labels ls (Some line) h = h.0
 line_still labels ls None h = tt
 
-pushed : (labels : Labels) (rows : List Part) (part : Part) → flat_map (part_text labels) (rows ++ part ∷ []) ≡ flat_map (part_text labels) rows ++ part_text labels part
+pushed : (labels : Labels) (rows : List SheetPart) (part : SheetPart) → flat_map (part_text labels) (rows ++ part ∷ []) ≡ flat_map (part_text labels) rows ++ part_text labels part
 pushed labels rows part = flat_map-append (part_text labels) rows (part ∷ []) ∙ ap (λ t. flat_map (part_text labels) rows ++ t) (append-nil (part_text labels part))
 
-module _ (g : Graph) (tables : List NodeTable) (labels : Labels) (n : ℕ) (rows : List Part) where
+module _ (g : Graph) (tables : List NodeTable) (labels : Labels) (n : ℕ) (rows : List SheetPart) where
   next : flat_map (item_text g tables) (numbers_below (n + 1)) ≡ flat_map (item_text g tables) (numbers_below n) ++ item_text g tables n
-  next = ap (flat_map (item_text g tables)) (below_push n) ∙ flat_map-append (item_text g tables) (numbers_below n) (n ∷ []) ∙ ap (λ t. flat_map (item_text g tables) (numbers_below n) ++ t) (append-nil (item_text g tables n))
+  next = ap (flat_map (item_text g tables)) (below_push n) ∙ flat_map-append (item_text g tables) (numbers_below n) (n ∷ []) ∙
+      ap (λ t. flat_map (item_text g tables) (numbers_below n) ++ t) (append-nil (item_text g tables n))
 
   -- an item without lines
-  pub hidden_more : is_shown g n ≡ false → flat_map (item_text g tables) (numbers_below n) ≡ flat_map (part_text labels) rows → flat_map (item_text g tables) (numbers_below (n + 1)) ≡ flat_map (part_text labels) rows
+  pub hidden_more : is_shown g n ≡ false → flat_map (item_text g tables) (numbers_below n) ≡ flat_map (part_text labels) rows →
+      flat_map (item_text g tables) (numbers_below (n + 1)) ≡ flat_map (part_text labels) rows
   hidden_more hidden e =
       let none : item_text g tables n ≡ [] = rw hidden refl in
       next ∙ ap (λ t. flat_map (item_text g tables) (numbers_below n) ++ t) none ∙ append-nil (flat_map (item_text g tables) (numbers_below n)) ∙ e
 
   -- an item with lines
-  pub shown_more : (part : Part) → is_shown g n ≡ true → labels ≡ labels_of g → string_bytes part.head ≡ head_line g n → part.columns.now ≡ columns_of tables n →
+  pub shown_more : (part : SheetPart) → is_shown g n ≡ true → labels ≡ labels_of g → string_bytes part.head ≡ head_line g n → part.columns.now ≡ columns_of tables n →
       flat_map (item_text g tables) (numbers_below n) ≡ flat_map (part_text labels) rows → flat_map (item_text g tables) (numbers_below (n + 1)) ≡ flat_map (part_text labels) (rows ++ part ∷ [])
   shown_more part shown names head columns e =
       let one : item_text g tables n ≡ part_text labels part = rw shown (sym (ap₂ (λ h cs. h ++ cs) head (ap₂ columns_text names columns))) in

@@ -3,11 +3,11 @@ use Rattle.std.specs.Prelude.{ℕ, List, ◌++◌, string_bytes}
 use Rattle.std.specs.List.{flat_map}
 use Rattle.cpg_label.specs.Labels.{Labels}
 use Rattle.cpg_label.specs.CubeText.{columns_text}
-use Rattle.cpg_show.specs.declared.sheet.Part.{Part}
+use Rattle.cpg_show.specs.declared.sheet.SheetPart.{SheetPart}
 use Rattle.cpg_show.specs.declared.sheet.Sheet.{Sheet}
 
 -- a line, then the lines of its columns
-abbrev pub part_text : Labels → Part → List ℕ
+abbrev pub part_text : Labels → SheetPart → List ℕ
 part_text labels part = string_bytes part.head ++ columns_text labels part.columns.now
 
 -- what comes before the parts, then the parts

@@ -8,15 +8,15 @@ use Rattle.cpg_base.specs.declared.item.Item.TheVariants.{Start as StartItem, Me
 use Rattle.cpg_node.specs.Dispatcher.{Act, Ended}
 use Rattle.cpg_show.specs.declared.event.Deed.{Deed as ToldDeed}
 use Rattle.cpg_show.specs.declared.event.Deed.TheVariants.{End, Send, Start}
-use Rattle.cpg_show.specs.declared.event.Event.{Event as ToldEvent}
+use Rattle.cpg_show.specs.declared.event.TraceEvent.{TraceEvent as ToldEvent}
 
 -- the end of an execution, a message or broadcast, or the start of a process
 abbrev pub Deed : Type 0
 Deed = ToldDeed
 
 -- what a node did at a time
-abbrev pub Event : Type 0
-Event = ToldEvent
+abbrev pub TraceEvent : Type 0
+TraceEvent = ToldEvent
 
 -- a node starts a process, or sends an item of this number
 abbrev pub deed_of : Item → ℕ → Deed
@@ -25,19 +25,19 @@ deed_of (Message e) x = Send x
 deed_of (Broadcast c) x = Send x
 
 -- the event of an act
-abbrev pub event_of_act : Graph → ℕ → Act → Event
+abbrev pub event_of_act : Graph → ℕ → Act → TraceEvent
 event_of_act g node a = record { time = a.time; node = node; deed = deed_of (item_at g a.item) a.item }
 
 -- the event of an execution's end
-abbrev pub event_of_end : ℕ → ℕ × Ended → Event
+abbrev pub event_of_end : ℕ → ℕ × Ended → TraceEvent
 event_of_end node e = record { time = e.0; node = node; deed = End e.1.process e.1.faults e.1.value }
 
 -- what one node did, out of the acts and the ends of all nodes
-abbrev pub node_events : Graph → List (List Act) → List (List (ℕ × Ended)) → ℕ → List Event
+abbrev pub node_events : Graph → List (List Act) → List (List (ℕ × Ended)) → ℕ → List TraceEvent
 node_events g acts ends node = map (event_of_act g node) (get_or acts node []) ++ map (event_of_end node) (get_or ends node [])
 
 -- what all nodes did
-abbrev pub all_events : Graph → List (List Act) → List (List (ℕ × Ended)) → List Event
+abbrev pub all_events : Graph → List (List Act) → List (List (ℕ × Ended)) → List TraceEvent
 all_events g acts ends = flat_map (node_events g acts ends) (numbers_below (length g.nodes))
 
 -- the key that orders deeds: ends, then sends, then starts, and within a kind by number
@@ -47,11 +47,11 @@ deed_key (Send item) = 1 ∷ item ∷ []
 deed_key (Start process) = 2 ∷ process ∷ []
 
 -- the key that orders events: by time, then by node number, then by deed
-abbrev pub event_key : Event → List ℕ
+abbrev pub event_key : TraceEvent → List ℕ
 event_key e = e.time ∷ e.node ∷ deed_key e.deed
 
 -- all events, in order; if no two of them have the same key, there is just one such list
-pub record AreToldInOrder (g : Graph) (acts : List (List Act)) (ends : List (List (ℕ × Ended))) (events : List Event) : Type 0 where
+pub record AreToldInOrder (g : Graph) (acts : List (List Act)) (ends : List (List (ℕ × Ended))) (events : List TraceEvent) : Type 0 where
   pub all : IsPermutation (all_events g acts ends) events
   pub in_order : AllPairs (λ a b. is_below (event_key b) (event_key a) ≡ false) events
 

@@ -11,7 +11,7 @@ use Rattle.cpg_node.specs.Dispatcher.{Act, Ended}
 use Rattle.cpg_show.specs.declared.event.Deed.TheVariants.{End, Send, Start}
 use Rattle.cpg_label.specs.CubeText.{value_text}
 use Rattle.cpg_label.specs.Labels.{labels_of, process_name}
-use Rattle.cpg_show.specs.TraceEvents.{Deed, Event, AreToldInOrder}
+use Rattle.cpg_show.specs.TraceEvents.{Deed, TraceEvent, AreToldInOrder}
 use Rattle.cpg_label.specs.ItemText.{done_text}
 
 -- the value of a process's condition, or nothing if it has none
@@ -34,7 +34,7 @@ deed_text g lengths (Send item) = done_text (labels_of g) (item_at g item)
 deed_text g lengths (Start process) = done_text (labels_of g) (StartItem process)
 
 -- the line of an event: its time, its node, and what it was
-abbrev pub event_line : Graph → List ℕ → Event → List ℕ
+abbrev pub event_line : Graph → List ℕ → TraceEvent → List ℕ
 event_line g lengths e = decimal e.time ++ codes " " ++ get_or g.nodes e.node [] ++ codes " " ++ deed_text g lengths e.deed ++ codes "\n"
 
 -- when executions of a node ended
@@ -51,5 +51,5 @@ finish_line g ends = codes "finish " ++ decimal (finish_of g ends) ++ codes "\n"
 
 -- the text is that of what the nodes did; `lengths` has the length of each process's execution
 abbrev pub IsTraceText : Graph → List ℕ → List (List Act) → List (List (ℕ × Ended)) → List ℕ → Type 0
-IsTraceText g lengths acts ends text = (events : List Event) × AreToldInOrder g acts ends events ×
+IsTraceText g lengths acts ends text = (events : List TraceEvent) × AreToldInOrder g acts ends events ×
     (text ≡ flat_map (event_line g lengths) events ++ finish_line g ends)

@@ -31,7 +31,7 @@ pub enum Deed {
 
 /// What a node did at a time. The order is the one that a trace has.
 #[derive(Clone, Copy, Debug, PartialEq, Eq, PartialOrd, Ord)]
-pub struct Event {
+pub struct TraceEvent {
     /// When it was, in time units of the graph file.
     pub time: u64,
     /// The number of the node.
@@ -41,7 +41,7 @@ pub struct Event {
 }
 
 /// A start or a send as an event.
-pub(crate) fn event_of_act(problem: &Problem, node: u32, act: &Act) -> Event
+pub(crate) fn event_of_act(problem: &Problem, node: u32, act: &Act) -> TraceEvent
     requires { IsActWithin problem.now act.now }
     ensures { result ≡ event_of_act problem.now node act.now }
 {
@@ -49,7 +49,7 @@ pub(crate) fn event_of_act(problem: &Problem, node: u32, act: &Act) -> Event
         Item::Start(process) => Deed::Start { process },
         Item::Message(_) | Item::Broadcast(_) => Deed::Send { item: act.item },
     };
-    Event {
+    TraceEvent {
         time: act.time,
         node,
         deed,
@@ -57,11 +57,11 @@ pub(crate) fn event_of_act(problem: &Problem, node: u32, act: &Act) -> Event
 }
 
 /// The end of an execution as an event.
-pub(crate) fn event_of_end(node: u32, end: &(u64, Ended)) -> Event
+pub(crate) fn event_of_end(node: u32, end: &(u64, Ended)) -> TraceEvent
     ensures { result ≡ event_of_end node end.now }
 {
     let (time, ended) = *end;
-    Event {
+    TraceEvent {
         time,
         node,
         deed: Deed::End {

@@ -3,7 +3,7 @@ ghost use Rattle.std.specs.Prelude.{◌≡◌, ◌++◌, All, IfOk, OnOk, map};
 ghost use Rattle.cpg_cluster.specs.Playing.{IsPlaying};
 ghost use Rattle.cpg_show.specs.TraceEvents.{AreToldInOrder, IsActWithin, all_events, event_of_act, event_of_end};
 
-use crate::event::{Event, event_of_act, event_of_end};
+use crate::event::{TraceEvent, event_of_act, event_of_end};
 use cpg_base::{OutOfMemory, Problem};
 use cpg_cluster::Cluster;
 use cpg_node::{Act, Ended};
@@ -11,7 +11,7 @@ use std::alloc::Global;
 
 /// Adds the starts and sends of a node.
 fn add_acts(
-    events: &mut Vec<Event>,
+    events: &mut Vec<TraceEvent>,
     problem: &Problem,
     node: u32,
     acts: &[Act],
@@ -26,7 +26,11 @@ fn add_acts(
 }
 
 /// Adds the ends of a node.
-fn add_ends(events: &mut Vec<Event>, node: u32, ends: &[(u64, Ended)]) -> Result<(), OutOfMemory>
+fn add_ends(
+    events: &mut Vec<TraceEvent>,
+    node: u32,
+    ends: &[(u64, Ended)],
+) -> Result<(), OutOfMemory>
     ensures { OnOk result (events.new.items ≡ events.old.items ++ map (event_of_end node) ends.now) }
 {
     for end in ends {
@@ -36,7 +40,11 @@ fn add_ends(events: &mut Vec<Event>, node: u32, ends: &[(u64, Ended)]) -> Result
 }
 
 /// All events, node by node.
-fn gathered(alloc: Global, problem: &Problem, cluster: &Cluster) -> Result<Vec<Event>, OutOfMemory>
+fn gathered(
+    alloc: Global,
+    problem: &Problem,
+    cluster: &Cluster,
+) -> Result<Vec<TraceEvent>, OutOfMemory>
     requires same { cluster.now.graph ≡ problem.now }
     requires playing { IsPlaying cluster.now }
     ensures { IfOk result (λ events. events.items ≡ all_events problem.now cluster.now.cluster.acts cluster.now.cluster.ends) }
@@ -54,7 +62,7 @@ pub(crate) fn events_in_order(
     alloc: Global,
     problem: &Problem,
     cluster: &Cluster,
-) -> Result<Vec<Event>, OutOfMemory>
+) -> Result<Vec<TraceEvent>, OutOfMemory>
     requires same { cluster.now.graph ≡ problem.now }
     requires playing { IsPlaying cluster.now }
     ensures { IfOk result (λ events. AreToldInOrder problem.now cluster.now.cluster.acts cluster.now.cluster.ends events.items) }

@@ -6,7 +6,7 @@ ghost use Rattle.cpg_label.specs.ItemText.{act_text, hear_text, item_of};
 ghost use Rattle.cpg_show.specs.NodeText.{act_row, hear_row, name_line, node_text, rows_text};
 ghost use Rattle.cpg_show.specs.Sheet.{part_text, sheet_text};
 
-use crate::sheet::{Part, Sheet, write_sheet};
+use crate::sheet::{Sheet, SheetPart, write_sheet};
 use cpg_base::OutOfMemory;
 use cpg_codec::WriteFault;
 use cpg_head::Head;
@@ -37,7 +37,7 @@ fn hear_line(alloc: Global, labels: &Labels<'_>, item: u32) -> Result<String, Ou
 
 /// Adds rows of what a node starts or sends.
 fn add_acts<'a>(
-    parts: &mut Vec<Part<'a>>,
+    parts: &mut Vec<SheetPart<'a>>,
     labels: &Labels<'_>,
     rows: &'a [Row],
 ) -> Result<(), OutOfMemory>
@@ -46,7 +46,7 @@ fn add_acts<'a>(
 {
     let alloc = *parts.allocator();
     for row in rows {
-        parts.push(Part {
+        parts.push(SheetPart {
             head: act_line(alloc, labels, row.item())?,
             columns: row.entries(),
         })?;
@@ -56,7 +56,7 @@ fn add_acts<'a>(
 
 /// Adds rows of what a node hears.
 fn add_hears<'a>(
-    parts: &mut Vec<Part<'a>>,
+    parts: &mut Vec<SheetPart<'a>>,
     labels: &Labels<'_>,
     rows: &'a [Row],
 ) -> Result<(), OutOfMemory>
@@ -65,7 +65,7 @@ fn add_hears<'a>(
 {
     let alloc = *parts.allocator();
     for row in rows {
-        parts.push(Part {
+        parts.push(SheetPart {
             head: hear_line(alloc, labels, row.item())?,
             columns: row.entries(),
         })?;
@@ -78,7 +78,7 @@ fn rows_of<'a>(
     alloc: Global,
     labels: &Labels<'_>,
     table: &'a NodeTable,
-) -> Result<Vec<Part<'a>>, OutOfMemory>
+) -> Result<Vec<SheetPart<'a>>, OutOfMemory>
     ensures { IfOk result (λ parts. flat_map (part_text labels.now) parts.items ≡ rows_text labels.now table.entry.now) }
 {
     let mut parts = Vec::new(alloc);

@@ -14,7 +14,7 @@ use std::alloc::Global;
 
 /// A line, and the columns below it.
 #[derive(Drop)]
-pub(crate) struct Part<'a> {
+pub(crate) struct SheetPart<'a> {
     pub head: String,
     pub columns: &'a [Entry],
 }
@@ -24,7 +24,7 @@ pub(crate) struct Part<'a> {
 pub(crate) struct Sheet<'a> {
     pub labels: Labels<'a>,
     pub front: String,
-    pub parts: Vec<Part<'a>>,
+    pub parts: Vec<SheetPart<'a>>,
 }
 
 fn put_part<O: Sink>(
@@ -32,7 +32,7 @@ fn put_part<O: Sink>(
     buffer: &mut Buffer,
     sink: &mut O,
     labels: &Labels<'_>,
-    part: &Part<'_>,
+    part: &SheetPart<'_>,
 ) -> Result<(), Failed>
     ensures put { Puts (O.state sink.old).taken (O.state sink.new).taken buffer.old buffer.new result (part_text labels.now part.now) }
     ensures cause { HasCause (O.state sink.old).faults (O.state sink.new).faults result }
@@ -46,7 +46,7 @@ fn put_parts<O: Sink>(
     buffer: &mut Buffer,
     sink: &mut O,
     labels: &Labels<'_>,
-    parts: &[Part<'_>],
+    parts: &[SheetPart<'_>],
 ) -> Result<(), Failed>
     ensures put { Puts (O.state sink.old).taken (O.state sink.new).taken buffer.old buffer.new result (flat_map (part_text labels.now) parts.now) }
     ensures cause { HasCause (O.state sink.old).faults (O.state sink.new).faults result }

@@ -8,7 +8,7 @@ ghost use Rattle.cpg_label.specs.Labels.{labels_of, process_name};
 ghost use Rattle.cpg_show.specs.Sheet.{part_text, sheet_text};
 ghost use Rattle.cpg_show.specs.TableText.{head_line, is_shown, item_text, order_line, table_text, worst_line};
 
-use crate::sheet::{Part, Sheet, write_sheet};
+use crate::sheet::{Sheet, SheetPart, write_sheet};
 use cpg_base::{Item, Order, OutOfMemory, Problem};
 use cpg_codec::WriteFault;
 use cpg_io::Sink;
@@ -86,7 +86,7 @@ fn rows_of<'a>(
     problem: &Problem,
     labels: &Labels<'_>,
     tables: &'a Tables,
-) -> Result<Vec<Part<'a>>, OutOfMemory>
+) -> Result<Vec<SheetPart<'a>>, OutOfMemory>
     requires { labels.now ≡ labels_of problem.now }
     ensures { IfOk result (λ parts. flat_map (part_text labels.now) parts.items ≡ flat_map (item_text problem.now tables.entry.now.nodes)
         (numbers_below (item_count problem.now))) }
@@ -94,7 +94,7 @@ fn rows_of<'a>(
     let mut rows = Vec::new(alloc);
     for item in 0..problem.item_count() {
         if is_shown(problem, item) {
-            rows.push(Part {
+            rows.push(SheetPart {
                 head: head_line_of(alloc, problem, labels, item)?,
                 columns: tables.columns_of(item),
             })?;

@@ -4,7 +4,7 @@ ghost use Rattle.cpg_base.specs.Graph.{process_count};
 ghost use Rattle.cpg_show.specs.TraceEvents.{IsDeedWithin};
 ghost use Rattle.cpg_show.specs.TraceText.{IsTraceText, deed_text, event_line, finish_of, outcome_text, ran_text};
 
-use crate::event::{Deed, Event};
+use crate::event::{Deed, TraceEvent};
 use crate::events::events_in_order;
 use cpg_base::{Lengths, OutOfMemory, Problem};
 use cpg_cluster::Cluster;
@@ -71,7 +71,7 @@ fn write_event(
     out: &mut String,
     problem: &Problem,
     lengths: &Lengths,
-    event: &Event,
+    event: &TraceEvent,
 ) -> Result<(), AllocError>
     requires lengths { length lengths.now ≡ process_count problem.now }
     requires within { IsDeedWithin problem.now event.now.deed }
@@ -88,7 +88,7 @@ fn write_events(
     out: &mut String,
     problem: &Problem,
     lengths: &Lengths,
-    events: &[Event],
+    events: &[TraceEvent],
 ) -> Result<(), AllocError>
     requires lengths { length lengths.now ≡ process_count problem.now }
     requires within { All (λ e. IsDeedWithin problem.now e.deed) events.now }

@@ -1,5 +1,6 @@
 -- What stands after rows of some items.
-use Rattle.std.proofs.Common.{◌≡◌, ◌≢◌, ◌↔◌, IsTrue, true≢false, ℕ, suc, ◌+◌, ◌==◌, Bool, true, false, cond, List, [], ◌∷◌, ◌++◌, Some, None, length, refl, sym, ap, ap₂, ◌∙◌, arith, eqb-true, eq-eqb, append-nil}
+use Rattle.std.proofs.Common.{◌≡◌, ◌≢◌, ◌↔◌, IsTrue, true≢false, ℕ, suc, ◌+◌, ◌==◌, Bool, true, false, cond, List, [], ◌∷◌, ◌++◌, Some, None, length, refl, sym, ap, ap₂, ◌∙◌, arith, eqb-true, eq-eqb}
+use Rattle.std.proofs.Common.{append-nil}
 use Rattle.std.proofs.lemmas.Bool.{cond-true}
 use Rattle.cpg_table.specs.Table.{Row}
 use Rattle.cpg_table.specs.Shape.{items_of}
@@ -11,7 +12,8 @@ after_both [] ys rows rest e = cc
 after_both (x ∷ xs) ys [] rest e = cc
 after_both (x ∷ xs) ys (row ∷ rows) rest e = case (row.item == x) (after_both xs ys rows rest) e
   where
-    case : (b : Bool) → (Some rest ≡ after_items xs rows → after_items (xs ++ ys) rows ≡ after_items ys rest) → Some rest ≡ cond b (after_items xs rows) None → cond b (after_items (xs ++ ys) rows) None ≡ after_items ys rest
+    case : (b : Bool) → (Some rest ≡ after_items xs rows → after_items (xs ++ ys) rows ≡ after_items ys rest) → Some rest ≡ cond b (after_items xs rows) None →
+        cond b (after_items (xs ++ ys) rows) None ≡ after_items ys rest
     case true h e = h e
     case false h e = cc
 
@@ -30,7 +32,8 @@ after_parts [] rows rest e = let same : rest ≡ rows = cc in (ap items_of (sym 
 after_parts (x ∷ xs) [] rest e = absurd (let none : Some rest ≡ None = e in cc)
 after_parts (x ∷ xs) (row ∷ rows) rest e = case (row.item == x) (eqb-true row.item x) (after_parts xs rows rest) e
   where
-    case : (b : Bool) → (b ≡ true → row.item ≡ x) → (Some rest ≡ after_items xs rows → (items_of rows ≡ xs ++ items_of rest) × (length rows ≡ length xs + length rest)) → Some rest ≡ cond b (after_items xs rows) None
+    case : (b : Bool) → (b ≡ true → row.item ≡ x) → (Some rest ≡ after_items xs rows → (items_of rows ≡ xs ++ items_of rest) × (length rows ≡ length xs + length rest)) →
+        Some rest ≡ cond b (after_items xs rows) None
         → (row.item ∷ items_of rows ≡ x ∷ (xs ++ items_of rest)) × (suc (length rows) ≡ suc (length xs) + length rest)
     case true i h e = let k = h e in (ap₂ ◌∷◌ (i refl) k.0, omega (arith, k.1))
     case false i h e = absurd (let none : Some rest ≡ None = e in cc)
@@ -58,7 +61,8 @@ not_all xs row rest rows e same = let all = after_all xs rows same in absurd (le
 -- whether these are the rows of the items: if nothing is left
 pub these_where_nothing : (xs : List ℕ) (rows rest : List Row) → Some rest ≡ after_items xs rows → (b : Bool) → b ≡ (length rest == 0) → IsTrue b ↔ (items_of rows ≡ xs)
 these_where_nothing xs rows [] e b t = (λ _. all_after xs rows e, λ _. t)
-these_where_nothing xs rows (row ∷ rest) e b t = (λ k. absurd (let none : length (row ∷ rest) ≡ 0 = eqb-true (length (row ∷ rest)) 0 (sym t ∙ k) in omega (arith, none)), λ same. absurd (not_all xs row rest rows e same))
+these_where_nothing xs rows (row ∷ rest) e b t =
+    (λ k. absurd (let none : length (row ∷ rest) ≡ 0 = eqb-true (length (row ∷ rest)) 0 (sym t ∙ k) in omega (arith, none)), λ same. absurd (not_all xs row rest rows e same))
 
 pub these_never : (xs : List ℕ) (rows : List Row) → None ≡ after_items xs rows → IsTrue false ↔ (items_of rows ≡ xs)
 these_never xs rows e = (λ k. absurd (true≢false (sym k)), λ same. absurd (not_these xs rows e same))

@@ -1,5 +1,6 @@
 -- Lawful tables for a graph have the shape that the laws on tables ask for, and each node knows its own processes.
-use Rattle.std.proofs.Common.{◌≡◌, ◌<◌, ◌+◌, ◌-◌, ◌==◌, ℕ, zero, suc, Bool, true, false, cond, List, [], ◌∷◌, ◌++◌, Option, Some, None, is_some, All, length, map, filter, get_or, refl, sym, ap, ap₂, ◌∙◌, subst, arith, inl, inr, true≢false, length-append, append_assoc}
+use Rattle.std.proofs.Common.{◌≡◌, ◌<◌, ◌+◌, ◌-◌, ◌==◌, ℕ, zero, suc, Bool, true, false, cond, List, [], ◌∷◌, ◌++◌, Option, Some, None, is_some, All, length, map, filter, get_or, refl, sym, ap, ap₂}
+use Rattle.std.proofs.Common.{◌∙◌, subst, arith, inl, inr, true≢false, length-append, append_assoc}
 use Rattle.std.specs.List.{range_with_len}
 use Rattle.std.proofs.Math.Seq.{get_or-append_seam}
 use Rattle.std.proofs.lemmas.List.FromFn.{length-map-range_with_len}
@@ -65,10 +66,12 @@ module _ (g : Graph) (w : IsWithinLimits g) where
       none_of (Some c) e = absurd (true≢false e)
 
   -- the number of the next condition
-  count_next : (p : ℕ) → cond (is_disjunction g p) (length (filter (is_disjunction g) (numbers_below p)) + 1) (length (filter (is_disjunction g) (numbers_below p))) ≡ length (filter (is_disjunction g) (numbers_below (p + 1)))
+  count_next : (p : ℕ) → cond (is_disjunction g p) (length (filter (is_disjunction g) (numbers_below p)) + 1) (length (filter (is_disjunction g) (numbers_below p))) ≡ length
+      (filter (is_disjunction g) (numbers_below (p + 1)))
   count_next p = step (is_disjunction g p) ∙ sym (ap length (filter_below_push (is_disjunction g) p))
     where
-      step : (b : Bool) → cond b (length (filter (is_disjunction g) (numbers_below p)) + 1) (length (filter (is_disjunction g) (numbers_below p))) ≡ length (filter (is_disjunction g) (numbers_below p) ++ cond b (p ∷ []) [])
+      step : (b : Bool) → cond b (length (filter (is_disjunction g) (numbers_below p)) + 1) (length (filter (is_disjunction g) (numbers_below p))) ≡ length
+          (filter (is_disjunction g) (numbers_below p) ++ cond b (p ∷ []) [])
       step true = sym (length-append (filter (is_disjunction g) (numbers_below p)) (p ∷ []))
       step false = sym (length-append (filter (is_disjunction g) (numbers_below p)) [] ∙ omega arith)
 

@@ -1,5 +1,6 @@
 -- How many columns the rows of all nodes have: no more than the loads of the items.
-use Rattle.std.proofs.Common.{◌≡◌, ℕ, ◌+◌, ◌*◌, ◌<◌, ◌≤◌, Bool, true, false, not, ◌&&◌, ◌==◌, nat_lt, cond, List, [], ◌∷◌, ◌++◌, length, map, filter, sum_by, refl, sym, ap, ap₂, ◌∙◌, subst, arith, inl, inr, lt-ltb, le-ltb, append-nil}
+use Rattle.std.proofs.Common.{◌≡◌, ℕ, ◌+◌, ◌*◌, ◌<◌, ◌≤◌, Bool, true, false, not, ◌&&◌, ◌==◌, nat_lt, cond, List, [], ◌∷◌, ◌++◌, length, map, filter, sum_by, refl, sym, ap, ap₂, ◌∙◌, subst, arith}
+use Rattle.std.proofs.Common.{inl, inr, lt-ltb, le-ltb, append-nil}
 use Rattle.std.specs.List.{range_with_len}
 use Rattle.std.proofs.lemmas.Bool.{cases_lt}
 use Rattle.std.proofs.lemmas.List.{length-map}
@@ -8,7 +9,8 @@ use Rattle.std.proofs.lemmas.List.FromFn.{fill_by_all, length-range_with_len}
 use Rattle.std.proofs.lemmas.List.Sums.{sum_by-cons, sum_by-append}
 use Rattle.std.proofs.Math.Nat.{mul_comm}
 use Rattle.cpg_base.specs.Numbers.{numbers_below}
-use Rattle.cpg_base.specs.Graph.{Graph, process_count, edge_count, condition_count, item_count, item_at, node_of, source, target, process_of, producer_of_item, home, is_sent, is_sent_item, is_heard_by, is_message, message_item, broadcast_item}
+use Rattle.cpg_base.specs.Graph.{Graph, process_count, edge_count, condition_count, item_count, item_at, node_of, source, target, process_of, producer_of_item, home, is_sent, is_sent_item}
+use Rattle.cpg_base.specs.Graph.{is_heard_by, is_message, message_item, broadcast_item}
 use Rattle.cpg_base.specs.Limits.{IsWithinLimits}
 use Rattle.cpg_base.specs.declared.limits.TheConstants.{MOST_LOAD}
 use Rattle.cpg_base.specs.declared.item.Item.TheVariants.{Message, Broadcast}
@@ -71,11 +73,14 @@ module _ (g : Graph) (node : ℕ) where
   -- what it starts are the processes on it
   starts_whole : filter (is_started_on g node) (numbers_below (item_count g)) ≡ processes_on g node
   starts_whole =
-      ap (filter (is_started_on g node)) (ap numbers_below (let e : item_count g ≡ process_count g + (edge_count g + condition_count g) = omega arith in e) ∙ range-append 0 (process_count g) (edge_count g + condition_count g))
+      ap (filter (is_started_on g node)) (ap numbers_below (let e : item_count g ≡ process_count g + (edge_count g + condition_count g) = omega arith in e) ∙
+      range-append 0 (process_count g) (edge_count g + condition_count g))
       ∙ filter-append (is_started_on g node) (numbers_below (process_count g)) (range_with_len (0 + process_count g) (edge_count g + condition_count g))
       ∙ ap₂ (λ xs ys. xs ++ ys)
-      (same_filter (is_started_on g node) (λ p. node_of g p == node) (numbers_below (process_count g)) (λ p c. ap (λ b. b && (node_of g p == node)) (lt-ltb p (process_count g) (numbers-Contains (process_count g) p c))))
-      (filter_none (is_started_on g node) (range_with_len (0 + process_count g) (edge_count g + condition_count g)) (λ x c. late_start x (omega (arith, (from_range (0 + process_count g) (edge_count g + condition_count g) x c).0))))
+      (same_filter (is_started_on g node) (λ p. node_of g p == node) (numbers_below (process_count g))
+      (λ p c. ap (λ b. b && (node_of g p == node)) (lt-ltb p (process_count g) (numbers-Contains (process_count g) p c))))
+      (filter_none (is_started_on g node) (range_with_len (0 + process_count g) (edge_count g + condition_count g))
+      (λ x c. late_start x (omega (arith, (from_range (0 + process_count g) (edge_count g + condition_count g) x c).0))))
       ∙ append-nil (processes_on g node)
 
 -- sums of sums may be taken the other way
@@ -115,7 +120,8 @@ module _ (g : Graph) (within : IsWithinLimits g) (rows : List Row) where
       ∙ ap₂ ◌+◌ (count_rows (row_for rows) columns items.starts (λ x. refl) ∙ ap (sum_by columns) started ∙ sum_by-filter columns (is_started_on g node) all)
       (sum_by-append (λ (r : Row). length r.columns) (map (row_for rows) items.sends) (map (heard_row g rows) items.hears)
       ∙ ap₂ ◌+◌ (count_rows (row_for rows) columns items.sends (λ x. refl) ∙ ap (sum_by columns) sent ∙ sum_by-filter columns (is_sent_from g node) all)
-      (count_rows (heard_row g rows) columns items.hears (λ x. length-map (row_for rows x).columns (later_by (slot_length g (home g x)))) ∙ ap (sum_by columns) heard ∙ sum_by-filter columns (is_heard_at g node) all)
+      (count_rows (heard_row g rows) columns items.hears (λ x. length-map (row_for rows x).columns (later_by (slot_length g (home g x)))) ∙ ap (sum_by columns) heard ∙
+      sum_by-filter columns (is_heard_at g node) all)
       ∙ sym (sum_by-add (λ x. cond (is_sent_from g node x) (columns x) 0) (λ x. cond (is_heard_at g node x) (columns x) 0) all))
       ∙ sym (sum_by-add (λ x. cond (is_started_on g node x) (columns x) 0) (λ x. cond (is_sent_from g node x) (columns x) 0 + cond (is_heard_at g node x) (columns x) 0) all)
 
@@ -146,7 +152,8 @@ module _ (g : Graph) (within : IsWithinLimits g) (rows : List Row) where
         sum_by-add (λ node. cond (node_of g (source g e) == node) (columns x) 0) (λ node. cond (node_of g (target g e) == node) (columns x) 0) nodes,
         same_sum_by (λ node. at_node node x) (λ node. cond (node_of g (source g e) == node) (columns x) 0 + cond (node_of g (target g e) == node) (columns x) 0) nodes
             (λ node c. three (is_started_on g node x) (is_sent_from g node x) (is_heard_at g node x) false (node_of g (source g e) == node) (node_of g (target g e) == node) (columns x)
-            (message_started g node e) (message_sent g node e l ∙ ap (λ b. b && (node_of g (source g e) == node)) m) (message_heard g node e l ∙ ap (λ b. b && (node_of g (target g e) == node)) m) ∙ omega arith),
+            (message_started g node e) (message_sent g node e l ∙ ap (λ b. b && (node_of g (source g e) == node)) m) (message_heard g node e l ∙ ap (λ b. b && (node_of g (target g e) == node)) m) ∙
+            omega arith),
       )
   message_by e l false m =
       let x : ℕ = message_item g e in
@@ -167,7 +174,8 @@ module _ (g : Graph) (within : IsWithinLimits g) (rows : List Row) where
       let each : sum_by (λ node. at_node node x) nodes ≡ sum_by (λ node. columns x) nodes =
       same_sum_by (λ node. at_node node x) (λ node. columns x) nodes
       (λ node c. three (is_started_on g node x) (is_sent_from g node x) (is_heard_at g node x) false (node_of g (process_of g k) == node) (not (node_of g (process_of g k) == node)) (columns x)
-      (broadcast_started g node k) (broadcast_sent g node k ∙ ap (λ b. b && (node_of g (process_of g k) == node)) m) (broadcast_heard g node k ∙ ap (λ b. b && not (node_of g (process_of g k) == node)) m)
+      (broadcast_started g node k) (broadcast_sent g node k ∙ ap (λ b. b && (node_of g (process_of g k) == node)) m)
+      (broadcast_heard g node k ∙ ap (λ b. b && not (node_of g (process_of g k) == node)) m)
       ∙ either (node_of g (process_of g k) == node) (columns x)) in
       let all : sum_by (λ node. columns x) nodes ≡ length g.nodes * columns x = sum_by_constant (columns x) nodes ∙ ap (λ n. n * columns x) (length-range_with_len 0 (length g.nodes)) in
       let product : length g.nodes * columns x ≡ columns x * length g.nodes = mul_comm (length g.nodes) (columns x) in
@@ -178,7 +186,8 @@ module _ (g : Graph) (within : IsWithinLimits g) (rows : List Row) where
         arith,
         sum_by_zeros (λ node. at_node node x) nodes
             (λ node c. three (is_started_on g node x) (is_sent_from g node x) (is_heard_at g node x) false false false (columns x)
-            (broadcast_started g node k) (broadcast_sent g node k ∙ ap (λ b. b && (node_of g (process_of g k) == node)) m) (broadcast_heard g node k ∙ ap (λ b. b && not (node_of g (process_of g k) == node)) m)),
+            (broadcast_started g node k) (broadcast_sent g node k ∙ ap (λ b. b && (node_of g (process_of g k) == node)) m)
+            (broadcast_heard g node k ∙ ap (λ b. b && not (node_of g (process_of g k) == node)) m)),
       )
 
   item_le : (x : ℕ) → x < item_count g → ItemCases g x → sum_by (λ node. at_node node x) nodes ≤ columns x * rows_of_item g (item_at g x)
@@ -192,9 +201,11 @@ module _ (g : Graph) (within : IsWithinLimits g) (rows : List Row) where
   pub rows_le : sum_by (λ node. column_count (rows_of_items g rows (lists_of (head_of g) node))) nodes ≤ sum_by (λ x. columns x * rows_of_item g (item_at g x)) (numbers_below (item_count g))
   rows_le = omega (
     arith,
-    same_sum_by (λ node. column_count (rows_of_items g rows (lists_of (head_of g) node))) (λ node. sum_by (at_node node) (numbers_below (item_count g))) nodes (λ node c. node_count node (numbers-Contains (length g.nodes) node c)),
+    same_sum_by (λ node. column_count (rows_of_items g rows (lists_of (head_of g) node))) (λ node. sum_by (at_node node) (numbers_below (item_count g))) nodes
+        (λ node c. node_count node (numbers-Contains (length g.nodes) node c)),
     swapped at_node nodes (numbers_below (item_count g)),
-    sum_by-le_each (λ x. sum_by (λ node. at_node node x) nodes) (λ x. columns x * rows_of_item g (item_at g x)) (numbers_below (item_count g)) (λ x c. let l = numbers-Contains (item_count g) x c in item_le x l (item_cases g x l)),
+    sum_by-le_each (λ x. sum_by (λ node. at_node node x) nodes) (λ x. columns x * rows_of_item g (item_at g x)) (numbers_below (item_count g))
+        (λ x c. let l = numbers-Contains (item_count g) x c in item_le x l (item_cases g x l)),
   )
 
   pub tables_le : (tables : List NodeTable) → AreNodeTables g rows (length g.nodes) tables → AreWritable g rows → sum_by (λ t. column_count (rows_of t)) tables ≤ MOST_LOAD

@@ -107,7 +107,11 @@ module _ (g : Graph) (within : IsWithinLimits g) where
 
   module _ (rows : List Row) (w : AreWritable g rows) where
     lawful_row : (x : ℕ) → x < item_count g → IsLawfulRow (space_of (head_of g)) (row_for rows x)
-    lawful_row x l = record { few = few_columns g rows w x l; columns = All-weaker (IsWritable g) (IsLawfulColumn (space_of (head_of g))) lawful_column (row_for rows x).columns (writable g rows w x l) }
+    lawful_row x l = record {
+      few = few_columns g rows w x l;
+      columns = All-weaker (IsWritable g) (IsLawfulColumn (space_of (head_of g))) lawful_column (row_for rows x).columns
+          (writable g rows w x l);
+    }
 
     lawful_heard : (x : ℕ) → x < item_count g → IsLawfulRow (space_of (head_of g)) (heard_row g rows x)
     lawful_heard x l =
@@ -118,7 +122,8 @@ module _ (g : Graph) (within : IsWithinLimits g) where
               (All-weaker (IsWritable g) (λ c. IsLawfulColumn (space_of (head_of g)) (later_by delay c)) (later_column delay (slot_short (home g x))) (row_for rows x).columns (writable g rows w x l));
         }
 
-    all_rows : (row : ℕ → Row) → ((x : ℕ) → x < item_count g → IsLawfulRow (space_of (head_of g)) (row x)) → (xs : List ℕ) → ((x : ℕ) → Contains xs x → x < item_count g) → All (IsLawfulRow (space_of (head_of g))) (map row xs)
+    all_rows : (row : ℕ → Row) → ((x : ℕ) → x < item_count g → IsLawfulRow (space_of (head_of g)) (row x)) → (xs : List ℕ) → ((x : ℕ) → Contains xs x → x < item_count g) →
+        All (IsLawfulRow (space_of (head_of g))) (map row xs)
     all_rows row each xs below = All-map (IsLawfulRow (space_of (head_of g))) row xs
         (All-weaker (Contains xs) (λ x. IsLawfulRow (space_of (head_of g)) (row x)) (λ x c. each x (below x c)) xs (All-contains_itself xs))
 

@@ -1,5 +1,6 @@
 -- Rows parted by node: those of what a node starts and sends stand as in its table.
-use Rattle.std.proofs.Common.{◌≡◌, ◌≢◌, ℕ, ◌+◌, ◌<◌, ◌≤◌, Bool, true, false, not, cond, ◌==◌, ◌&&◌, ◌||◌, List, [], ◌∷◌, ◌++◌, length, get_or, map, filter, drop, All, refl, sym, ap, ap₂, ◌∙◌, subst, arith, inl, inr, ltb, lt-ltb, le-ltb, ne_eqb, true≢false, append_assoc}
+use Rattle.std.proofs.Common.{◌≡◌, ◌≢◌, ℕ, ◌+◌, ◌<◌, ◌≤◌, Bool, true, false, not, cond, ◌==◌, ◌&&◌, ◌||◌, List, [], ◌∷◌, ◌++◌, length, get_or, map, filter, drop, All, refl, sym, ap, ap₂, ◌∙◌, subst}
+use Rattle.std.proofs.Common.{arith, inl, inr, ltb, lt-ltb, le-ltb, ne_eqb, true≢false, append_assoc}
 use Rattle.std.specs.List.{range_with_len}
 use Rattle.std.proofs.lemmas.Bool.{cases_Bool, cases_eq}
 use Rattle.std.proofs.lemmas.List.Elements.{All-filter}
@@ -70,7 +71,8 @@ module _ {X Y : Type 0} (view : X → Y) (f : ℕ → Y) where
       ∙ sym (ap (map f) next ∙ map-append f (numbers_below n) (n ∷ []))
 
   -- the first one taken
-  pub view_first : (n : ℕ) (left rest : List X) (x : X) → left ≡ x ∷ rest → map view left ≡ map f (range_with_len n (length left)) → (view x ≡ f n) × (map view rest ≡ map f (range_with_len (n + 1) (length rest)))
+  pub view_first : (n : ℕ) (left rest : List X) (x : X) → left ≡ x ∷ rest → map view left ≡ map f (range_with_len n (length left)) → (view x ≡ f n) ×
+      (map view rest ≡ map f (range_with_len (n + 1) (length rest)))
   view_first n left rest x is e =
       let here : view x ∷ map view rest ≡ f n ∷ map f (range_with_len (n + 1) (length rest)) = subst (λ ls. map view ls ≡ map f (range_with_len n (length ls))) is e in
       (ap (λ ys. get_or ys 0 (f n)) here, ap (drop 1) here)
@@ -122,7 +124,8 @@ module _ (g : Graph) (within : IsWithinLimits g) (node : ℕ) where
     own_are =
         ap (own_rows g node) by_item
         ∙ filter-map (λ (row : Row). has_own g node row.item) (row_for rows) (numbers_below (item_count g))
-        ∙ ap (map (row_for rows)) (same_filter (λ x. has_own g node (row_for rows x).item) (has_own g node) (numbers_below (item_count g)) (λ x c. ap (has_own g node) (item_is g rows w x (numbers-Contains (item_count g) x c))) ∙ own_items)
+        ∙ ap (map (row_for rows)) (same_filter (λ x. has_own g node (row_for rows x).item) (has_own g node) (numbers_below (item_count g))
+        (λ x c. ap (has_own g node) (item_is g rows w x (numbers-Contains (item_count g) x c))) ∙ own_items)
 
     -- with what it hears they are all of its table
     pub node_rows : own_rows g node rows ++ hears_at g rows node ≡ rows_of_items g rows (lists_of (head_of g) node)

@@ -26,7 +26,8 @@ module _ (x : ℕ) where
   columns_in-append [] more = refl
   columns_in-append (r ∷ rs) more = go (r.item == x) (columns_in-append rs more)
     where
-      go : (b : Bool) → columns_in (rs ++ more) x ≡ unwrap_or (row_columns rs x) (columns_in more x) → cond b r.columns (columns_in (rs ++ more) x) ≡ unwrap_or (cond b (Some r.columns) (row_columns rs x)) (columns_in more x)
+      go : (b : Bool) → columns_in (rs ++ more) x ≡ unwrap_or (row_columns rs x) (columns_in more x) →
+          cond b r.columns (columns_in (rs ++ more) x) ≡ unwrap_or (cond b (Some r.columns) (row_columns rs x)) (columns_in more x)
       go true ih = refl
       go false ih = ih
 

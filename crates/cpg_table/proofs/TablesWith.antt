@@ -1,5 +1,6 @@
 -- The tables of all nodes with given rows.
-use Rattle.std.proofs.Common.{◌≡◌, ℕ, ◌+◌, ◌<◌, ◌≤◌, true, false, List, [], ◌∷◌, ◌++◌, Some, length, take, drop, map, slice_get, Contains, refl, sym, ap, ap₂, ◌∙◌, subst, arith, inl, inr, ◌⊎◌, true≢false, length-append}
+use Rattle.std.proofs.Common.{◌≡◌, ℕ, ◌+◌, ◌<◌, ◌≤◌, true, false, List, [], ◌∷◌, ◌++◌, Some, length, take, drop, map, slice_get, Contains, refl, sym, ap, ap₂, ◌∙◌, subst, arith, inl, inr, ◌⊎◌}
+use Rattle.std.proofs.Common.{true≢false, length-append}
 use Rattle.std.proofs.Math.Seq.{take-append_seam, drop-append_seam, get_or-append_seam}
 use Rattle.std.proofs.lemmas.Bool.{cases_lt, cases_Bool}
 use Rattle.std.proofs.lemmas.List.{length-map, get_or_append_left, get_or_past}
@@ -64,16 +65,20 @@ module _ (g : Graph) (within : IsWithinLimits g) (formed : WellFormed g) (rows :
     send_count = count_by_items (row_for rows) (table_at tables node).sends (items node).sends (are.each node l).table.sends
 
     pub starts : (table_at tables node).starts ≡ map (row_for rows) (items node).starts
-    starts = first_of (table_at tables node).starts (table_at tables node).sends (table_at tables node).hears (map (row_for rows) (items node).starts) (map (row_for rows) (items node).sends) (map (heard_row g rows) (items node).hears) (are.each node l).stands start_count
+    starts = first_of (table_at tables node).starts (table_at tables node).sends (table_at tables node).hears (map (row_for rows) (items node).starts) (map (row_for rows) (items node).sends)
+        (map (heard_row g rows) (items node).hears) (are.each node l).stands start_count
 
     pub sends : (table_at tables node).sends ≡ map (row_for rows) (items node).sends
-    sends = second_of (table_at tables node).starts (table_at tables node).sends (table_at tables node).hears (map (row_for rows) (items node).starts) (map (row_for rows) (items node).sends) (map (heard_row g rows) (items node).hears) (are.each node l).stands start_count send_count
+    sends = second_of (table_at tables node).starts (table_at tables node).sends (table_at tables node).hears (map (row_for rows) (items node).starts) (map (row_for rows) (items node).sends)
+        (map (heard_row g rows) (items node).hears) (are.each node l).stands start_count send_count
 
     pub hears : (table_at tables node).hears ≡ map (heard_row g rows) (items node).hears
-    hears = third_of (table_at tables node).starts (table_at tables node).sends (table_at tables node).hears (map (row_for rows) (items node).starts) (map (row_for rows) (items node).sends) (map (heard_row g rows) (items node).hears) (are.each node l).stands start_count send_count
+    hears = third_of (table_at tables node).starts (table_at tables node).sends (table_at tables node).hears (map (row_for rows) (items node).starts) (map (row_for rows) (items node).sends)
+        (map (heard_row g rows) (items node).hears) (are.each node l).stands start_count send_count
 
     -- a row of the table is that of its item
-    from_rows : (xs : List ℕ) → ((x : ℕ) → Contains xs x → x < item_count g) → (rs : List Row) (row : Row) → rs ≡ map (row_for rows) xs → Contains rs row → row.columns ≡ (row_for rows row.item).columns
+    from_rows : (xs : List ℕ) → ((x : ℕ) → Contains xs x → x < item_count g) → (rs : List Row) (row : Row) → rs ≡ map (row_for rows) xs → Contains rs row →
+        row.columns ≡ (row_for rows row.item).columns
     from_rows xs below rs row e k =
         let m = Contains-map_parts (row_for rows) xs row (subst (λ qs. Contains qs row) e k) in
         let same : row.item ≡ m.0 = ap (λ (r : Row). r.item) (sym m.2) ∙ item_is g rows w m.0 (below m.0 m.1) in
@@ -131,7 +136,8 @@ module _ (g : Graph) (within : IsWithinLimits g) (formed : WellFormed g) (rows :
   }
 
 -- one table more
-pub table_pushed : (g : Graph) (rows : List Row) (n : ℕ) (tables more : List NodeTable) (t : NodeTable) → AreNodeTables g rows n tables → IsTableWith g rows n t → more ≡ tables ++ t ∷ [] → AreNodeTables g rows (n + 1) more
+pub table_pushed : (g : Graph) (rows : List Row) (n : ℕ) (tables more : List NodeTable) (t : NodeTable) → AreNodeTables g rows n tables → IsTableWith g rows n t → more ≡ tables ++ t ∷ [] →
+    AreNodeTables g rows (n + 1) more
 table_pushed g rows n tables more t were new is = record {
   long = omega (arith, ap length is, length-append tables (t ∷ []), were.long);
   each = λ node l. elim (cases_lt node n) [

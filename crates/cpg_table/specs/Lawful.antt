@@ -8,38 +8,38 @@ use Rattle.cpg_table.specs.Table.{Row, NodeTable, table_at}
 use Rattle.cpg_cube.specs.Column.{Column}
 use Rattle.cpg_table.specs.Shape.{items_of}
 use Rattle.cpg_table.specs.Items.{first_broadcast, starts_of, sends_of, hears_of, own_of}
-use Rattle.cpg_table.specs.declared.space.Space.{Space}
+use Rattle.cpg_table.specs.declared.space.VariableSpace.{VariableSpace}
 
 -- the variables that exist under a head
-abbrev pub space_of : Head → Space
+abbrev pub space_of : Head → VariableSpace
 space_of h = record { faults = h.faults; processes = length h.processes; conditions = count_by (λ p. p.condition) h.processes }
 
 -- a part of the fault counts of a process, and not all of them
-pub record IsCountLiteral (s : Space) (l : Literal) : Type 0 where
+pub record IsCountLiteral (s : VariableSpace) (l : Literal) : Type 0 where
   pub known : l.variable < s.processes
   pub some : l.low ≤ l.high
   pub within : l.high ≤ s.faults
   pub part : l.high ≡ s.faults → 0 < l.low
 
 -- one value of a condition
-pub record IsValueLiteral (s : Space) (l : Literal) : Type 0 where
+pub record IsValueLiteral (s : VariableSpace) (l : Literal) : Type 0 where
   pub value : 128 ≤ l.variable
   pub known : l.variable < 128 + s.conditions
   pub one : l.low ≡ l.high
   pub within : l.high ≤ 1
 
 -- a literal on a variable that exists, with a range that leaves out some of its numbers
-abbrev pub IsLawfulLiteral : Space → Literal → Type 0
+abbrev pub IsLawfulLiteral : VariableSpace → Literal → Type 0
 IsLawfulLiteral s l = IsCountLiteral s l ⊎ IsValueLiteral s l
 
 -- a time below 2^60, and a cube of lawful literals
-pub record IsLawfulColumn (s : Space) (c : Column) : Type 0 where
+pub record IsLawfulColumn (s : VariableSpace) (c : Column) : Type 0 where
   pub time : c.time < 2 ^ 60
   pub literals : All (IsLawfulLiteral s) c.cube
   pub rising : IsRising c.cube
 
 -- not too many columns, each lawful
-pub record IsLawfulRow (s : Space) (row : Row) : Type 0 where
+pub record IsLawfulRow (s : VariableSpace) (row : Row) : Type 0 where
   pub few : length row.columns ≤ MOST_COLUMNS
   pub columns : All (IsLawfulColumn s) row.columns
 

@@ -8,7 +8,7 @@ ghost use Rattle.cpg_table.specs.Lawful.{AreRowsOf, IsTableOf, rows_of};
 ghost use Rattle.cpg_table.specs.Valid.{later_by};
 ghost use Rattle.cpg_table.specs.Writing.{heard_row, hears_at, has_own, own_rows, other_rows, AreWritable, AreNodeTables, AreTablesWith};
 
-use crate::counts::Counts;
+use crate::counts::RowCounts;
 use crate::{NodeItems, NodeTable, Row, Tables};
 use cpg_base::{OutOfMemory, Problem};
 use cpg_cube::Entry;
@@ -126,13 +126,18 @@ fn has_own(problem: &Problem, node: u32, item: u32) -> bool
 
 /// Rows, those of what a node starts and sends apart from the others.
 #[derive(Drop)]
-struct Parts {
+struct RowParts {
     own: Vec<Row>,
     others: Vec<Row>,
 }
 
 /// Parts the rows of what a node starts and sends from the others.
-fn parted(alloc: Global, problem: &Problem, node: u32, rows: Vec<Row>) -> Result<Parts, OutOfMemory>
+fn parted(
+    alloc: Global,
+    problem: &Problem,
+    node: u32,
+    rows: Vec<Row>,
+) -> Result<RowParts, OutOfMemory>
     requires { All (λ row. row.item < item_count problem.now) rows.items }
     ensures own { IfOk result (λ p. p.own.items ≡ own_rows problem.now node rows.items) }
     ensures others { IfOk result (λ p. p.others.items ≡ other_rows problem.now node rows.items) }
@@ -146,7 +151,7 @@ fn parted(alloc: Global, problem: &Problem, node: u32, rows: Vec<Row>) -> Result
             others.push(row)?;
         }
     }
-    Ok(Parts { own, others })
+    Ok(RowParts { own, others })
 }
 
 /// The table of a node.
@@ -162,7 +167,7 @@ fn node_table(
     ensures rows { IfOk result (λ t. rows_of t ≡ own.items ++ hears.items) }
 {
     let items = NodeItems::of(alloc, head, node)?;
-    let counts = Counts {
+    let counts = RowCounts {
         starts: items.starts().len(),
         sends: items.sends().len(),
     };
@@ -195,7 +200,7 @@ fn node_tables(
     let mut left = rows;
     let mut node: u32 = 0;
     for heard in hears {
-        let Parts { own, others } = parted(alloc, problem, node, left)?;
+        let RowParts { own, others } = parted(alloc, problem, node, left)?;
         left = others;
         let table = node_table(alloc, head, node, own, heard)?;
         tables.push(table)?;

@@ -9,7 +9,7 @@ use cpg_head::Head;
 
 /// How many rows a node has of each kind but the last.
 #[derive(Clone, Copy, Debug)]
-pub struct Counts {
+pub struct RowCounts {
     /// How many it starts.
     pub starts: usize,
     /// How many it sends.
@@ -17,7 +17,7 @@ pub struct Counts {
 }
 
 /// How many rows a node starts and sends, and `None` exactly if rows aren't those of its items.
-pub fn counts_of(head: &Head, node: u32, rows: &[Row]) -> Option<Counts>
+pub fn counts_of(head: &Head, node: u32, rows: &[Row]) -> Option<RowCounts>
     ensures items { IfSome result (λ _. items_of rows.now ≡ starts_of head.now node ++ (sends_of head.now node ++ hears_of head.now node)) }
     ensures starts { IfSome result (λ c. c.starts ≡ length (starts_of head.now node)) }
     ensures sends { IfSome result (λ c. c.sends ≡ length (sends_of head.now node)) }
@@ -35,7 +35,7 @@ pub fn counts_of(head: &Head, node: u32, rows: &[Row]) -> Option<Counts>
     if !rest.is_empty() {
         return None;
     }
-    Some(Counts {
+    Some(RowCounts {
         starts: rows.len() - sends.len(),
         sends: sends.len() - hears.len(),
     })

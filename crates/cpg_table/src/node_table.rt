@@ -5,11 +5,11 @@ ghost use Rattle.cpg_table.specs.Items.{first_broadcast, own_of, starts_of, send
 ghost use Rattle.cpg_table.specs.Table.{columns_in};
 ghost use Rattle.cpg_table.specs.Lawful.{IsTable, IsTableOf, AreRowsOf, IsLawfulRow, rows_of, space_of};
 
-use crate::counts::{Counts, counts_of, have_hears, have_sends, have_starts};
+use crate::counts::{RowCounts, counts_of, have_hears, have_sends, have_starts};
 use crate::found::row_columns;
 use crate::items::first_broadcast;
 use crate::own::{is_own_of, own_of};
-use crate::space::{Space, are_rows, space_of};
+use crate::space::{VariableSpace, are_rows, space_of};
 use crate::{Own, Row};
 use cpg_base::OutOfMemory;
 use cpg_cube::Entry;
@@ -61,7 +61,7 @@ impl NodeTable {
         alloc: Global,
         head: &Head,
         node: u32,
-        counts: Counts,
+        counts: RowCounts,
         rows: Vec<Row>,
     ) -> Result<NodeTable, OutOfMemory>
         requires rows { AreRowsOf head.now node rows.items }
@@ -206,7 +206,7 @@ impl Clone for NodeTable {
 }
 
 /// Whether all rows of a table are lawful.
-fn are_table_rows(space: Space, table: &NodeTable) -> bool
+fn are_table_rows(space: VariableSpace, table: &NodeTable) -> bool
     ensures { IsTrue result ↔ All (IsLawfulRow space) (rows_of table.now) }
 {
     if !are_rows(space, table.starts()) {

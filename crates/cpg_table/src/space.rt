@@ -11,7 +11,7 @@ use cpg_head::{Head, TIME_END, condition_count};
 
 /// The variables that there are under a head.
 #[derive(Clone, Copy, Debug)]
-pub struct Space {
+pub struct VariableSpace {
     /// The greatest fault count.
     pub faults: u8,
     /// How many processes there are.
@@ -21,10 +21,10 @@ pub struct Space {
 }
 
 /// The variables that there are under a head.
-pub fn space_of(head: &Head) -> Space
+pub fn space_of(head: &Head) -> VariableSpace
     ensures { result ≡ space_of head.now }
 {
-    Space {
+    VariableSpace {
         faults: head.faults(),
         processes: head.processes().len() as u32,
         conditions: condition_count(head.processes()) as u32,
@@ -32,7 +32,7 @@ pub fn space_of(head: &Head) -> Space
 }
 
 /// Whether a literal is a part of the fault counts of a process, and not all of them.
-fn is_count(space: Space, literal: Literal) -> bool
+fn is_count(space: VariableSpace, literal: Literal) -> bool
     ensures { IsTrue result ↔ IsCountLiteral space literal }
 {
     let known = u32::from(literal.variable) < space.processes;
@@ -42,7 +42,7 @@ fn is_count(space: Space, literal: Literal) -> bool
 }
 
 /// Whether each literal is such a part: without a way out before the last, as the compiler makes fast loops of such.
-fn are_counts(space: Space, literals: &[Literal]) -> bool
+fn are_counts(space: VariableSpace, literals: &[Literal]) -> bool
     ensures { OnTrue result (All (IsCountLiteral space) literals.now) }
 {
     let mut are = true;
@@ -53,7 +53,7 @@ fn are_counts(space: Space, literals: &[Literal]) -> bool
 }
 
 /// Whether a literal is one value of a condition.
-fn is_value(space: Space, literal: Literal) -> bool
+fn is_value(space: VariableSpace, literal: Literal) -> bool
     ensures { IsTrue result ↔ IsValueLiteral space literal }
 {
     let Variable::Value(condition) = Variable::of(literal.variable) else {
@@ -65,13 +65,13 @@ fn is_value(space: Space, literal: Literal) -> bool
     literal.low == literal.high && literal.high <= 1
 }
 
-fn is_literal(space: Space, literal: Literal) -> bool
+fn is_literal(space: VariableSpace, literal: Literal) -> bool
     ensures { IsTrue result ↔ IsLawfulLiteral space literal }
 {
     is_count(space, literal) || is_value(space, literal)
 }
 
-fn are_literals(space: Space, literals: &[Literal]) -> bool
+fn are_literals(space: VariableSpace, literals: &[Literal]) -> bool
     ensures { IsTrue result ↔ All (IsLawfulLiteral space) literals.now }
 {
     // most cubes speak of fault counts alone
@@ -81,20 +81,20 @@ fn are_literals(space: Space, literals: &[Literal]) -> bool
     literals.iter().all(|literal| is_literal(space, *literal))
 }
 
-fn is_column(space: Space, column: &Entry) -> bool
+fn is_column(space: VariableSpace, column: &Entry) -> bool
     ensures { IsTrue result ↔ IsLawfulColumn space column.now }
 {
     column.time < TIME_END && are_literals(space, column.cube.literals())
 }
 
-fn are_columns(space: Space, columns: &[Entry]) -> bool
+fn are_columns(space: VariableSpace, columns: &[Entry]) -> bool
     ensures { IsTrue result ↔ All (IsLawfulColumn space) columns.now }
 {
     columns.iter().all(|column| is_column(space, column))
 }
 
 /// Whether a row is lawful.
-pub fn is_row(space: Space, row: &Row) -> bool
+pub fn is_row(space: VariableSpace, row: &Row) -> bool
     ensures { IsTrue result ↔ IsLawfulRow space row.now }
 {
     let columns = row.entries();
@@ -102,7 +102,7 @@ pub fn is_row(space: Space, row: &Row) -> bool
 }
 
 /// Whether rows are lawful.
-pub fn are_rows(space: Space, rows: &[Row]) -> bool
+pub fn are_rows(space: VariableSpace, rows: &[Row]) -> bool
     ensures { IsTrue result ↔ All (IsLawfulRow space) rows.now }
 {
     rows.iter().all(|row| is_row(space, row))

@@ -5,24 +5,24 @@ use cpg_gen::generate;
 use std::alloc::Global;
 
 /// A process, and its worst time, parts and costs.
-type Costs = (usize, [u64; 5]);
+type DrawnCosts = (usize, [u64; 5]);
 
 /// An edge, its ends and its condition.
-type Ends = (usize, u32, u32, Option<bool>);
+type DrawnEnds = (usize, u32, u32, Option<bool>);
 
 fn costs_of(process: &Process) -> [u64; 5] {
     let parts = u64::from(process.parts);
     [process.wcet, parts, process.alpha, process.chi, process.mu]
 }
 
-fn has_costs(problem: &Problem, costs: Costs) -> bool {
+fn has_costs(problem: &Problem, costs: DrawnCosts) -> bool {
     match problem.processes().get(costs.0) {
         Some(process) => costs_of(process) == costs.1,
         None => false,
     }
 }
 
-fn has_edge(problem: &Problem, ends: Ends) -> bool {
+fn has_edge(problem: &Problem, ends: DrawnEnds) -> bool {
     match problem.edges().get(ends.0) {
         Some(edge) => edge.from == ends.1 && edge.to == ends.2 && edge.when == ends.3,
         None => false,
@@ -47,8 +47,8 @@ fn are_counts(problem: &Problem) -> bool {
 fn is_generated(
     alloc: Global,
     number: u64,
-    costs: &[Costs],
-    edges: &[Ends],
+    costs: &[DrawnCosts],
+    edges: &[DrawnEnds],
     conditions: u32,
 ) -> bool {
     match generate(alloc, number) {

@@ -17,7 +17,7 @@ use cpg_base::{OutOfMemory, Scenario};
 use cpg_bus::Plan;
 use cpg_list::rows;
 use cpg_rules::Admitted;
-use cpg_run::{Frozen, RunTimes};
+use cpg_run::{FrozenTimes, RunTimes};
 use cpg_table::Row;
 use std::alloc::Global;
 use std::test::Fail;
@@ -53,7 +53,7 @@ fn frozen_over(
     admitted: &Admitted,
     plan: &Plan,
     scenarios: &[Scenario],
-) -> Result<Frozen, OutOfMemory>
+) -> Result<FrozenTimes, OutOfMemory>
     requires plan { plan.now ≡ plan_of admitted.now.graph }
     requires scenarios { AreScenarios admitted.now.graph scenarios.now }
     ensures frozen { IfOk result (λ frozen. AreFrozenTimes admitted.now.graph admitted.now.order frozen) }
@@ -71,7 +71,7 @@ fn runs_over(
     alloc: Global,
     admitted: &Admitted,
     plan: &Plan,
-    frozen: &Frozen,
+    frozen: &FrozenTimes,
     scenarios: &[Scenario],
 ) -> Result<Vec<RunTimes>, OutOfMemory>
     requires plan { plan.now ≡ plan_of admitted.now.graph }
@@ -92,7 +92,7 @@ fn rows_over(
     alloc: Global,
     admitted: &Admitted,
     plan: &Plan,
-    frozen: &Frozen,
+    frozen: &FrozenTimes,
     scenarios: &[Scenario],
     runs: &[RunTimes],
 ) -> Result<Vec<Row>, OutOfMemory>
@@ -163,7 +163,7 @@ fn are_peaks(
 }
 
 /// Whether the start of A isn't frozen, and the message is at this time.
-fn are_times(frozen: &Frozen, message: Option<u64>) -> bool
+fn are_times(frozen: &FrozenTimes, message: Option<u64>) -> bool
     requires { length frozen.now ≡ 3 }
 {
     frozen.of(0).is_none() && frozen.of(2) == message
@@ -186,7 +186,7 @@ fn are_runs(
     alloc: Global,
     admitted: &Admitted,
     plan: &Plan,
-    frozen: &Frozen,
+    frozen: &FrozenTimes,
     scenarios: &[Scenario],
     want: &Found,
 ) -> Result<bool, OutOfMemory>

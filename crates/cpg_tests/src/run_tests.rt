@@ -8,17 +8,17 @@ ghost use Rattle.cpg_run.specs.Known.{AreEarly};
 use crate::fixtures::{CHOICE, admitted};
 use cpg_base::{OutOfMemory, Scenario};
 use cpg_rules::Admitted;
-use cpg_run::{Frozen, RunTimes, run};
+use cpg_run::{FrozenTimes, RunTimes, run};
 use std::alloc::Global;
 use std::test::Fail;
 
 /// No frozen times.
 #[tactic(auto, using(crate::proofs::Unfrozen::unfrozen_long, crate::proofs::Unfrozen::unfrozen_early))]
-fn unfrozen(alloc: Global, admitted: &Admitted) -> Result<Frozen, OutOfMemory>
+fn unfrozen(alloc: Global, admitted: &Admitted) -> Result<FrozenTimes, OutOfMemory>
     ensures long { IfOk result (λ frozen. length frozen ≡ item_count admitted.now.graph) }
     ensures early { IfOk result AreEarly }
 {
-    Frozen::none(alloc, admitted.problem())
+    FrozenTimes::none(alloc, admitted.problem())
 }
 
 /// No faults, and the value of the first condition.

@@ -1,5 +1,6 @@
 -- Steps of the loops that place the processes of a track.
-use Rattle.std.proofs.Common.{◌≡◌, ◌≢◌, ℕ, suc, ◌+◌, ◌*◌, ◌^◌, ◌<◌, ◌≤◌, Bool, true, false, cond, List, [], ◌∷◌, ◌++◌, length, get_or, set, replicate, map, filter, take, max, Contains, Option, Some, None, is_some, unwrap_or, IfSome, IfNone, refl, sym, ap, ◌∙◌, subst, arith, inl, inr, true≢false}
+use Rattle.std.proofs.Common.{◌≡◌, ◌≢◌, ℕ, suc, ◌+◌, ◌*◌, ◌^◌, ◌<◌, ◌≤◌, Bool, true, false, cond, List, [], ◌∷◌, ◌++◌, length, get_or, set, replicate, map, filter, take, max, Contains, Option, Some}
+use Rattle.std.proofs.Common.{None, is_some, unwrap_or, IfSome, IfNone, refl, sym, ap, ◌∙◌, subst, arith, inl, inr, true≢false}
 use Rattle.std.specs.Option.{option_map}
 use Rattle.std.proofs.lemmas.List.{take_more, map-append, get_or_default, get_or-set_same, get_or-set_other, length-set, length-replicate, get_or-replicate, ext_get_or}
 use Rattle.std.proofs.lemmas.List.FromFn.{length-map-range_with_len}
@@ -13,7 +14,8 @@ use Rattle.cpg_base.specs.Activity.{active, live}
 use Rattle.cpg_base.specs.Duration.{duration}
 use Rattle.cpg_base.specs.Bus.{round}
 use Rattle.cpg_base.proofs.Bounds.{round-le, duration-le}
-use Rattle.cpg_base.proofs.Lists.{Contains-cases, Contains-nil, Contains-map_parts, Contains-filter, Contains-filter_parts, Contains-numbers, numbers-Contains, get_or-map-below, greatest_push, greatest-le}
+use Rattle.cpg_base.proofs.Lists.{Contains-cases, Contains-nil, Contains-map_parts, Contains-filter, Contains-filter_parts, Contains-numbers, numbers-Contains, get_or-map-below, greatest_push}
+use Rattle.cpg_base.proofs.Lists.{greatest-le}
 use Rattle.cpg_order.specs.Urgency.{IsUrgencyOrder, IsTopological}
 use Rattle.cpg_order.proofs.Urgent.{urgent_total}
 use Rattle.cpg_order.proofs.UrgencyIsTopological.{urgent_first}
@@ -139,7 +141,8 @@ module _ (g : Graph) (within : IsWithinLimits g) (w : WellFormed g) (o : List Bo
       go false = omega (arith, end_by (source g e) (live_source g w o p e k).0)
 
   ready_at_by : (p : ℕ) → p < process_count g → ready_at g o starts p ≤ b + 616000000000
-  ready_at_by p l = let at : IsProcessWithin (length g.nodes) (process_at g p) = within.processes p _ l in greatest-le ((process_at g p).release ∷ map (input_ready g starts) (filter (live g o) (inputs g p))) (b + 616000000000) (λ x k.
+  ready_at_by p l = let at : IsProcessWithin (length g.nodes) (process_at g p) = within.processes p _ l in
+      greatest-le ((process_at g p).release ∷ map (input_ready g starts) (filter (live g o) (inputs g p))) (b + 616000000000) (λ x k.
       elim (Contains-cases (process_at g p).release (map (input_ready g starts) (filter (live g o) (inputs g p))) x k) [
         | inl is ↦ omega (arith, at.release)
         | inr m ↦ let r = Contains-map_parts (input_ready g starts) (filter (live g o) (inputs g p)) x m in omega (arith, input_by p r.0 r.1, r.2)
@@ -213,23 +216,27 @@ module _ (g : Graph) (o : List Bool) (starts : List (Option ℕ)) (order : List 
     })
   ]
 
-pub best_within : (g : Graph) (o : List Bool) (starts : List (Option ℕ)) (n : ℕ) → n ≡ process_count g → (qs : List ℕ) (best : Option Candidate) → IsBestOf g o starts qs best → IfSome best (λ c. c.process < n)
+pub best_within : (g : Graph) (o : List Bool) (starts : List (Option ℕ)) (n : ℕ) → n ≡ process_count g → (qs : List ℕ) (best : Option Candidate) → IsBestOf g o starts qs best →
+    IfSome best (λ c. c.process < n)
 best_within g o starts n e qs None h = _
 best_within g o starts n e qs (Some c) h = omega (arith, h.candidate.fed.within)
 
-pub candidate_within : (g : Graph) (o : List Bool) (starts : List (Option ℕ)) (n : ℕ) → n ≡ process_count g → (other : Option Candidate) → IfSome other (IsCandidate g o starts) → IfSome other (λ c. c.process < n)
+pub candidate_within : (g : Graph) (o : List Bool) (starts : List (Option ℕ)) (n : ℕ) → n ≡ process_count g → (other : Option Candidate) → IfSome other (IsCandidate g o starts) →
+    IfSome other (λ c. c.process < n)
 candidate_within g o starts n e None h = _
 candidate_within g o starts n e (Some c) h = omega (arith, h.fed.within)
 
 pub active_at : (g : Graph) (t : Track) → IsTrackOf g t → (i d : ℕ) → i < length t.active → (get_or t.active i d < process_count g) × (active g t.outcome (get_or t.active i d) ≡ true)
 active_at g t track i d l =
-    let r = Contains-filter_parts (active g t.outcome) (numbers_below (process_count g)) (get_or t.active i d) (subst (λ xs. Contains xs (get_or t.active i d)) track.active (Contains-get_or t.active i d l)) in
+    let r = Contains-filter_parts (active g t.outcome) (numbers_below (process_count g)) (get_or t.active i d)
+    (subst (λ xs. Contains xs (get_or t.active i d)) track.active (Contains-get_or t.active i d l)) in
     (numbers-Contains (process_count g) (get_or t.active i d) r.0, r.1)
 
 -- the best of the active processes is the next
 module _ (g : Graph) (o : List Bool) (starts : List (Option ℕ)) (t : Track) (track : IsTrackOf g t) (same : t.outcome ≡ o) where
   in_active : (q : ℕ) → IsFed g o starts q → Contains t.active q
-  in_active q f = subst (λ xs. Contains xs q) (sym track.active) (Contains-filter (active g t.outcome) (numbers_below (process_count g)) q (ap (λ x. active g x q) same ∙ f.active) (Contains-numbers (process_count g) q f.within))
+  in_active q f = subst (λ xs. Contains xs q) (sym track.active)
+      (Contains-filter (active g t.outcome) (numbers_below (process_count g)) q (ap (λ x. active g x q) same ∙ f.active) (Contains-numbers (process_count g) q f.within))
 
   pub done_none : (best : Option Candidate) → IsBestOf g o starts t.active best → IfNone best (IsDone g o starts)
   done_none None h = λ q f. h q (in_active q f) f
@@ -239,7 +246,8 @@ module _ (g : Graph) (o : List Bool) (starts : List (Option ℕ)) (t : Track) (t
   done_some None h = _
   done_some (Some c) h = record { fed = h.candidate.fed; best = λ q f ne. h.best q (in_active q f) f ne }
 
-pub done_start : (g : Graph) (o : List Bool) (starts : List (Option ℕ)) (qs : List ℕ) (best : Option Candidate) → IsBestOf g o starts qs best → IfSome best (λ c. c.start ≡ would_start g o starts c.process)
+pub done_start : (g : Graph) (o : List Bool) (starts : List (Option ℕ)) (qs : List ℕ) (best : Option Candidate) → IsBestOf g o starts qs best →
+    IfSome best (λ c. c.start ≡ would_start g o starts c.process)
 done_start g o starts qs None h = _
 done_start g o starts qs (Some c) h = h.candidate.start
 

@@ -1,6 +1,8 @@
 -- Steps of the loops that find the schedules and the keys, and what they come to.
-use Rattle.std.proofs.Common.{◌≡◌, ℕ, ◌+◌, ◌<◌, ◌≤◌, Bool, List, [], ◌∷◌, ◌++◌, length, get_or, set, take, replicate, map, flat_map, All, Contains, IsPermutation, AllPairs, true, Option, Some, None, option_to_list, unwrap_or, sym, ap, ◌∙◌, subst, subst₂, arith, inl, inr}
-use Rattle.std.proofs.lemmas.List.{take_more, map-append, length-map, length-append, get_or-replicate, get_or_past, length-replicate, get_or-set_same, get_or-set_other, get_or_append_left, get_or-append-add}
+use Rattle.std.proofs.Common.{◌≡◌, ℕ, ◌+◌, ◌<◌, ◌≤◌, Bool, List, [], ◌∷◌, ◌++◌, length, get_or, set, take, replicate, map, flat_map, All, Contains, IsPermutation, AllPairs, true, Option, Some, None}
+use Rattle.std.proofs.Common.{option_to_list, unwrap_or, sym, ap, ◌∙◌, subst, subst₂, arith, inl, inr}
+use Rattle.std.proofs.lemmas.List.{take_more, map-append, length-map, length-append, get_or-replicate, get_or_past, length-replicate, get_or-set_same, get_or-set_other, get_or_append_left}
+use Rattle.std.proofs.lemmas.List.{get_or-append-add}
 use Rattle.std.proofs.lemmas.List.Elements.{Contains-append_cases, All-contains}
 use Rattle.std.proofs.lemmas.Bool.{cases_eq, cases_lt}
 use Rattle.std.proofs.lemmas.List.FromFn.{length-map-range_with_len}
@@ -24,7 +26,8 @@ start_low b schedules early p x k =
     go starts m e = omega (arith, All-contains (AreBy b) schedules starts early m p, ap (λ o. unwrap_or o 0) e)
 
 pub key_low : (g : Graph) (schedules : List (List (Option ℕ))) (keys : List ℕ) (b c p : ℕ) → All (AreBy b) schedules → b ≤ c → AreLow c keys → key_by g schedules keys p ≤ c + 1
-key_low g schedules keys b c p early more low = greatest-le (flat_map (λ starts. option_to_list (get_or starts p None)) schedules ++ map (λ e. get_or keys (source g e) 0 + 1) (inputs g p)) (c + 1) (λ x k.
+key_low g schedules keys b c p early more low = greatest-le (flat_map (λ starts. option_to_list (get_or starts p None)) schedules ++ map (λ e. get_or keys (source g e) 0 + 1) (inputs g p)) (c + 1)
+    (λ x k.
     elim (Contains-append_cases (flat_map (λ starts. option_to_list (get_or starts p None)) schedules) (map (λ e. get_or keys (source g e) 0 + 1) (inputs g p)) x k) [
       | inl m ↦ omega (arith, start_low b schedules early p x m)
       | inr m ↦ let r = Contains-map_parts (λ e. get_or keys (source g e) 0 + 1) (inputs g p) x m in omega (arith, low (source g r.0), r.2)
@@ -59,7 +62,8 @@ schedules_more g tracks i d schedules more starts l h greedy is =
         | inl n ↦ subst₂ (IsGreedy g) (sym (get_or_append_left os (o ∷ []) [] j n)) (sym (get_or_append_left ss (s ∷ []) [] j (omega (arith, h.count)))) (h.each j n)
         | inr n ↦
             let at : j ≡ length os + 0 = omega (arith, length-append os (o ∷ []), n) in
-            subst₂ (IsGreedy g) (sym (ap (λ x. get_or (os ++ o ∷ []) x []) at ∙ get_or-append-add os (o ∷ []) 0 [])) (sym (ap (λ x. get_or (ss ++ s ∷ []) x []) (at ∙ ap (λ n. n + 0) (sym h.count)) ∙ get_or-append-add ss (s ∷ []) 0 [])) k
+            subst₂ (IsGreedy g) (sym (ap (λ x. get_or (os ++ o ∷ []) x []) at ∙ get_or-append-add os (o ∷ []) 0 []))
+            (sym (ap (λ x. get_or (ss ++ s ∷ []) x []) (at ∙ ap (λ n. n + 0) (sym h.count)) ∙ get_or-append-add ss (s ∷ []) 0 [])) k
       ];
     }
 
@@ -68,7 +72,8 @@ schedules_more g tracks i d schedules more starts l h greedy is =
 pub keys_long : (g : Graph) (schedules : List (List (Option ℕ))) (keys : List ℕ) → AreKeys g schedules keys → length keys ≡ process_count g
 keys_long g schedules keys by = ap length by ∙ length-map-range_with_len (key_by g schedules keys) 0 (process_count g)
 
-pub has_order : (g : Graph) (tracks : List Track) (schedules : List (List (Option ℕ))) (keys order : List ℕ) → AreAllTracks g tracks → AreSchedules g (map (λ (t : Track). t.outcome) tracks) schedules → AreKeys g schedules keys →
+pub has_order : (g : Graph) (tracks : List Track) (schedules : List (List (Option ℕ))) (keys order : List ℕ) → AreAllTracks g tracks →
+    AreSchedules g (map (λ (t : Track). t.outcome) tracks) schedules → AreKeys g schedules keys →
     IsPermutation (numbers_below (length keys)) order → AllPairs (λ p q. is_ahead keys p q ≡ true) order → HasTrackOrder g order
 has_order g tracks schedules keys order all greedy by perm rising = record {
   tracks = map (λ (t : Track). t.outcome) tracks;

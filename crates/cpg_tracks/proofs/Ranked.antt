@@ -1,5 +1,6 @@
 -- The order by rests is the order by keys.
-use Rattle.std.proofs.Common.{ℕ, ◌+◌, ◌-◌, ◌^◌, ◌≡◌, ◌<◌, ◌++◌, ◌∷◌, [], inl, inr, true, List, length, get_or, Contains, IsPermutation, arith, sym, ap, ◌∙◌, subst, ltb, ◌||◌, ◌&&◌, ◌==◌, ltb-true, eqb-true}
+use Rattle.std.proofs.Common.{ℕ, ◌+◌, ◌-◌, ◌^◌, ◌≡◌, ◌<◌, ◌++◌, ◌∷◌, [], inl, inr, true, List, length, get_or, Contains, IsPermutation, arith, sym, ap, ◌∙◌, subst, ltb, ◌||◌, ◌&&◌, ◌==◌, ltb-true}
+use Rattle.std.proofs.Common.{eqb-true}
 use Rattle.std.specs.List.{AllPairs}
 use Rattle.std.proofs.lemmas.Grind.{common_steps}
 use Rattle.std.proofs.lemmas.Bool.{cases_order, or_cases, and_parts}
@@ -37,7 +38,8 @@ module _ (keys rests order : List ℕ) (are : AreRests keys rests) (ranked : Are
   pub rising_by_key : AllPairs (λ p q. is_ahead keys p q ≡ true) order
   rising_by_key i j d h l =
       let within : (p : ℕ) → Contains order p → p < length keys = from_order (length keys) order all_ranked in
-      ahead (get_or order i d) (get_or order j d) (within (get_or order i d) (Contains-get_or order i d (omega arith))) (within (get_or order j d) (Contains-get_or order j d l)) (ranked.falling i j d h l)
+      ahead (get_or order i d) (get_or order j d) (within (get_or order i d) (Contains-get_or order i d (omega arith))) (within (get_or order j d) (Contains-get_or order j d l))
+      (ranked.falling i j d h l)
 
 -- one more of the numbers
 pub rests_more : (keys rests next : List ℕ) (n rest : ℕ) → AreRestsUpTo keys n rests → rest + get_or keys n 0 ≡ 2 ^ 64 - 1 → next ≡ rests ++ rest ∷ [] → AreRestsUpTo keys (n + 1) next

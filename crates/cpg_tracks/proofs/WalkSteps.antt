@@ -32,7 +32,8 @@ ways_more g c xs before after i d l h e = e ∙ ap (λ ys. ys ++ both_ways_at g 
 
 over_next : (g : Graph) (order : List ℕ) (i : ℕ) (o : Option ℕ) → i < length order → condition_of g (get_or order i 0) ≡ o →
     tracks_over g (conditions_along g (take (i + 1) order)) (all_false g ∷ []) ≡ tracks_over g (option_to_list o) (tracks_over g (conditions_along g (take i order)) (all_false g ∷ []))
-over_next g order i o l e = ap (λ cs. tracks_over g cs (all_false g ∷ [])) (flat_map_next (λ p. option_to_list (condition_of g p)) order i 0 l ∙ ap (λ r. conditions_along g (take i order) ++ option_to_list r) e)
+over_next g order i o l e = ap (λ cs. tracks_over g cs (all_false g ∷ []))
+    (flat_map_next (λ p. option_to_list (condition_of g p)) order i 0 l ∙ ap (λ r. conditions_along g (take i order) ++ option_to_list r) e)
     ∙ over_append g (conditions_along g (take i order)) (option_to_list o) (all_false g ∷ [])
 
 pub walk_takes : (g : Graph) (order : List ℕ) (i c : ℕ) (before after : List Scenario) → i < length order → condition_of g (get_or order i 0) ≡ Some c →
@@ -50,7 +51,8 @@ pub stopped_at : (g : Graph) (order : List ℕ) → IsUrgencyOrder g order → I
 stopped_at g order urgency top i l =
     let front : List ℕ = conditions_along g (take i order) in
     let back : List ℕ = conditions_along g (drop i order) in
-    let split : conditions_along g order ≡ front ++ back = ap (conditions_along g) (sym (take-append-drop i order)) ∙ flat_map-append (λ p. option_to_list (condition_of g p)) (take i order) (drop i order) in
+    let split : conditions_along g order ≡ front ++ back = ap (conditions_along g) (sym (take-append-drop i order)) ∙
+    flat_map-append (λ p. option_to_list (condition_of g p)) (take i order) (drop i order) in
     let all : tracks_over g (conditions_along g order) (all_false g ∷ []) ≡ tracks_over g back (tracks_over g front (all_false g ∷ [])) =
     ap (λ cs. tracks_over g cs (all_false g ∷ [])) split ∙ over_append g front back (all_false g ∷ []) in
     record {

@@ -7,7 +7,7 @@ use Rattle.std.proofs.lemmas.List.{append_cancel_left, length-append}
 use Rattle.std.proofs.Math.Seq.{take-append_seam, drop-append_seam}
 use Rattle.cpg_tree.specs.declared.bounds.Bound.{Bound}
 use Rattle.cpg_tree.specs.declared.bounds.Span.{Span}
-use Rattle.cpg_tree.specs.declared.node.Node.{Node, Fork'}
+use Rattle.cpg_tree.specs.declared.node.TreeNode.{TreeNode, Fork'}
 use Rattle.cpg_tree.specs.Bounds.{AreAbove, AreBelow, bounds_in, span_in}
 use Rattle.cpg_tree.specs.Greater.{IsAtLeast}
 use Rattle.cpg_tree.proofs.Greatness.{least_under, most_over}
@@ -41,7 +41,8 @@ module _ (bounds sides : List Bound) (last : Bound) (cut : IsLastAndRest bounds 
   above_is e = ap (λ n. drop n sides) (forks_are (ap (λ (b : Bound). b.forks) last_is ∙ e)) ∙ ap (drop (length front)) sides_are ∙ drop-append_seam front back
 
 -- the bounds of the sides of a tree that is a fork
-module _ {T : Type 0} (number : T → ℕ) (v cut : ℕ) (below above n : Node T) {p : Box (Unit {0}) Global} (is : n ≡ Fork' v cut p below above) (bounds part : List Bound) (are : bounds ≡ bounds_in number n) where
+module _ {T : Type 0} (number : T → ℕ) (v cut : ℕ) (below above n : TreeNode T) {p : Box (Unit {0}) Global} (is : n ≡ Fork' v cut p below above) (bounds part : List Bound)
+    (are : bounds ≡ bounds_in number n) where
   fork_are : bounds ≡ bounds_in number (Fork' v cut p below above)
   fork_are = are ∙ ap (bounds_in number) is
 
@@ -52,7 +53,7 @@ module _ {T : Type 0} (number : T → ℕ) (v cut : ℕ) (below above n : Node T
   side_above side = side (bounds_in number below) (bounds_in number above) _ fork_are refl
 
 -- what the spans tell
-pub at_least_by : {T U : Type 0} (number : T → ℕ) (other_number : U → ℕ) (a : Node T) (b : Node U) (own others : Span) (is : Bool) →
+pub at_least_by : {T U : Type 0} (number : T → ℕ) (other_number : U → ℕ) (a : TreeNode T) (b : TreeNode U) (own others : Span) (is : Bool) →
     own ≡ span_in number a → others ≡ span_in other_number b → is ≡ nat_le others.most own.least → is ≡ true → IsAtLeast number other_number a b
 at_least_by number other_number a b own others is first second e h = λ s t.
     omega (arith, most_over other_number b s, least_under number a t, leb-true others.most own.least (sym e ∙ h), ap (λ (x : Span). x.least) first, ap (λ (x : Span). x.most) second)

@@ -1,5 +1,6 @@
 -- No more faults are asked for than a scenario has.
-use Rattle.std.proofs.Common.{arith, ℕ, ◌+◌, ◌-◌, ◌<◌, ◌≤◌, ◌≡◌, ◌≢◌, ◌==◌, true, cond, List, [], ◌∷◌, Contains, sum_by, drop, nat_lt, get_or, length, ◌∙◌, refl, sym, ap, subst, inl, inr, lt-ltb, le-ltb, eq-eqb, ne_eqb}
+use Rattle.std.proofs.Common.{arith, ℕ, ◌+◌, ◌-◌, ◌<◌, ◌≤◌, ◌≡◌, ◌≢◌, ◌==◌, true, cond, List, [], ◌∷◌, Contains, sum_by, drop, nat_lt, get_or, length, ◌∙◌, refl, sym, ap, subst, inl, inr, lt-ltb}
+use Rattle.std.proofs.Common.{le-ltb, eq-eqb, ne_eqb}
 use Rattle.std.proofs.lemmas.Bool.{cases_lt, cond-true, cond-false}
 use Rattle.std.proofs.lemmas.List.Sums.{sum_by-cons, sum_by-take-drop, sum_by-drop_more}
 use Rattle.cpg_base.specs.Numbers.{numbers_below}
@@ -24,7 +25,8 @@ pub without_other : (v u : ℕ) (f : ℕ → ℕ) → u ≢ v → without v f u 
 without_other v u f n = cond-false (u == v) 0 (f u) (ne_eqb u v n)
 
 -- what each literal is given is at most a number of its variable, or nothing from a variable on
-pub weights_le : (g : Literal → ℕ) (n : ℕ) (f : ℕ → ℕ) (ls : List Literal) → IsRising ls → ((l : Literal) → Contains ls l → l.variable < n → g l ≤ f l.variable) → ((l : Literal) → n ≤ l.variable → g l ≤ 0) → sum_by g ls ≤ sum_by f (numbers_below n)
+pub weights_le : (g : Literal → ℕ) (n : ℕ) (f : ℕ → ℕ) (ls : List Literal) → IsRising ls → ((l : Literal) → Contains ls l → l.variable < n → g l ≤ f l.variable) →
+    ((l : Literal) → n ≤ l.variable → g l ≤ 0) → sum_by g ls ≤ sum_by f (numbers_below n)
 weights_le g n f [] rising each none = omega arith
 weights_le g n f (l ∷ ls) rising each none = elim (cases_lt l.variable n) [
   | inl few ↦
@@ -46,7 +48,8 @@ module _ (room : Space) where
 
     pub demands_left : (from : ℕ) → sum_by (more_asked room) (drop from ls) ≤ room.left
     demands_left from =
-        let all_of = weights_le (more_asked room) 128 (beyond room s) ls rising beyond_le (λ l many. omega (arith, cond-false (nat_lt l.variable 128) (l.low - get_or room.low l.variable 0) 0 (le-ltb l.variable 128 many))) in
+        let all_of = weights_le (more_asked room) 128 (beyond room s) ls rising beyond_le
+        (λ l many. omega (arith, cond-false (nat_lt l.variable 128) (l.low - get_or room.low l.variable 0) 0 (le-ltb l.variable 128 many))) in
         omega (arith, all_of, lies.left, sum_by-take-drop (more_asked room) ls from)
 
   -- the next literal's demand, and the rest

@@ -3,7 +3,7 @@ use Rattle.std.proofs.Common.{ℕ, ◌+◌, ◌-◌, ◌<◌, ◌≤◌, ◌≡�
 use Rattle.std.specs.Prelude.{nat_le, slice_set, length}
 use Rattle.std.proofs.lemmas.Bool.{cases_eq, cases_lt, and_parts, and_from, or_cases, or_left, or_right, cond-true, cond-false, leb-true, ltb-true, le-leb, le-ltb}
 use Rattle.std.proofs.lemmas.List.{get_or-set_same, get_or-set_other, get_or_past, length-set}
-use Rattle.cpg_tree.specs.declared.node.Node.{Node, Leaf, Fork'}
+use Rattle.cpg_tree.specs.declared.node.TreeNode.{TreeNode, Leaf, Fork'}
 use Rattle.cpg_tree.specs.Space.{Space, is_open_below, is_open_above, below_cut, above_cut, faults_of}
 use Rattle.cpg_tree.specs.Decision.{IsFit}
 
@@ -14,7 +14,8 @@ record IsHigher (room other : Space) : Type 0 where
   pub long : length room.high ≡ length other.high
   pub high : (v : ℕ) → get_or room.high v 0 ≤ get_or other.high v 0
 
-higher_set : (highs others : List ℕ) (v cut u : ℕ) → length highs ≡ length others → get_or highs u 0 ≤ get_or others u 0 → (u ≡ v) ⊎ (u ≢ v) → get_or (slice_set highs v cut) u 0 ≤ get_or (slice_set others v cut) u 0
+higher_set : (highs others : List ℕ) (v cut u : ℕ) → length highs ≡ length others → get_or highs u 0 ≤ get_or others u 0 → (u ≡ v) ⊎ (u ≢ v) →
+    get_or (slice_set highs v cut) u 0 ≤ get_or (slice_set others v cut) u 0
 higher_set highs others v cut u long h (inr n) = omega (arith, get_or-set_other highs v u cut 0 n, get_or-set_other others v u cut 0 n, h)
 higher_set highs others v cut u long h (inl e) = subst (λ w. get_or (slice_set highs v cut) w 0 ≤ get_or (slice_set others v cut) w 0) (sym e) (by_length (cases_lt v (length highs)))
   where
@@ -44,7 +45,8 @@ module _ (room other : Space) (h : IsHigher room other) (v cut : ℕ) where
   higher_above : IsHigher (above_cut room v cut) (above_cut other v cut)
   higher_above = record {
     low = ap (λ (lows : List ℕ). slice_set lows v (cut + 1)) h.low;
-    left = subst (λ (lows : List ℕ). room.left - faults_of v (cut + 1 - get_or room.low v 0) ≤ other.left - faults_of v (cut + 1 - get_or lows v 0)) h.low (less_left room.left other.left (faults_of v (cut + 1 - get_or room.low v 0)) h.left);
+    left = subst (λ (lows : List ℕ). room.left - faults_of v (cut + 1 - get_or room.low v 0) ≤ other.left - faults_of v (cut + 1 - get_or lows v 0)) h.low
+        (less_left room.left other.left (faults_of v (cut + 1 - get_or room.low v 0)) h.left);
     long = h.long;
     high = h.high;
   }
@@ -58,7 +60,7 @@ module _ (room other : Space) (h : IsHigher room other) (v cut : ℕ) where
       and_from (nat_lt cut (get_or other.high v 0)) _ (lt-ltb cut (get_or other.high v 0) (omega (arith, ltb-true cut (get_or room.high v 0) parts.0, h.high v)))
       (subst (λ (lows : List ℕ). (nat_le 128 v || nat_lt cut (get_or lows v 0 + other.left)) ≡ true) h.low (allows_more v cut (get_or room.low v 0) room.left other.left h.left parts.1))
 
-fits_higher : {T : Type 0} (node : Node T) (room other : Space) → IsHigher room other → IsFit room node → IsFit other node
+fits_higher : {T : Type 0} (node : TreeNode T) (room other : Space) → IsHigher room other → IsFit room node → IsFit other node
 fits_higher (Leaf x) room other h fit = fit
 fits_higher (Fork' v cut p below above) room other h fit = (
   fit.0,
@@ -69,7 +71,7 @@ fits_higher (Fork' v cut p below above) room other h fit = (
 )
 
 -- what fits the numbers up to a cut fits without the cut
-pub fits_uncut : {T : Type 0} (node : Node T) (room : Space) (v cut : ℕ) → is_open_above room v cut ≡ true → IsFit (below_cut room v cut) node → IsFit room node
+pub fits_uncut : {T : Type 0} (node : TreeNode T) (room : Space) (v cut : ℕ) → is_open_above room v cut ≡ true → IsFit (below_cut room v cut) node → IsFit room node
 fits_uncut node room v cut o fit = fits_higher node (below_cut room v cut) room (record { low = refl; left = omega arith; long = length-set room.high v cut; high = lower }) fit
   where
     below_high : cut < get_or room.high v 0
@@ -143,7 +145,8 @@ module _ (room : Space) (v cut far : ℕ) (less : cut < far) (below : is_open_be
   joined_below : IsHigher (below_cut room v cut) (below_cut room v far)
   joined_below = record { low = refl; left = omega arith; long = length-set room.high v cut ∙ sym (length-set room.high v far); high = λ u. set_lower room.high v cut far u less }
 
-  joined_left : (room.left - faults_of v (cut + 1 - get_or room.low v 0)) - faults_of v (far + 1 - get_or (slice_set room.low v (cut + 1)) v 0) ≤ room.left - faults_of v (far + 1 - get_or room.low v 0)
+  joined_left : (room.left - faults_of v (cut + 1 - get_or room.low v 0)) - faults_of v (far + 1 - get_or (slice_set room.low v (cut + 1)) v 0) ≤ room.left - faults_of v
+      (far + 1 - get_or room.low v 0)
   joined_left = elim (cases_lt v 128) [
     | inl count ↦ omega (
       arith,
@@ -159,11 +162,12 @@ module _ (room : Space) (v cut far : ℕ) (less : cut < far) (below : is_open_be
   joined_above = record { low = set-set room.low v (cut + 1) (far + 1); left = joined_left; long = refl; high = λ u. omega arith }
 
 -- a fork with a fork on the same variable above it, whose side below is left out
-pub fits_joined : {T : Type 0} (below near far_above above : Node T) {p : Box (Unit {0}) Global} (room : Space) (v cut next far : ℕ) → above ≡ Fork' next far p near far_above → next ≡ v → cut < far →
+pub fits_joined : {T : Type 0} (below near far_above above : TreeNode T) {p : Box (Unit {0}) Global} (room : Space) (v cut next far : ℕ) → above ≡ Fork' next far p near far_above → next ≡ v →
+    cut < far →
     is_open_below room v cut ≡ true → IsFit (below_cut room v cut) below → IsFit (above_cut room v cut) above →
     (v < 256) × (is_open_below room v far ≡ true) × (is_open_above room v far ≡ true) × IsFit (below_cut room v far) below × IsFit (above_cut room v far) far_above
 fits_joined {T} below near far_above above {p} room v cut next far is same less under fit_below fit_above =
-    let fit = subst (λ (u : ℕ). IsFit (above_cut room v cut) (Fork' u far p near far_above)) same (subst (λ (n : Node T). IsFit (above_cut room v cut) n) is fit_above) in (
+    let fit = subst (λ (u : ℕ). IsFit (above_cut room v cut) (Fork' u far p near far_above)) same (subst (λ (n : TreeNode T). IsFit (above_cut room v cut) n) is fit_above) in (
       fit.0,
       joined_open_below room v cut far less under,
       joined_open_above room v cut far less under fit.2,

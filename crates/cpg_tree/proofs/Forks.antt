@@ -4,7 +4,7 @@ use Rattle.std.specs.Prelude.{nat_le, IfOk}
 use Rattle.std.specs.Bool.{OnFalse, OnTrue}
 use Rattle.std.proofs.lemmas.Bool.{cases_lt, cases_eq, cond-true, cond-false, le-leb, lt-leb}
 use Rattle.cpg_base.specs.Scenario.{Scenario, number_of}
-use Rattle.cpg_tree.specs.declared.node.Node.{Node, Leaf, Fork'}
+use Rattle.cpg_tree.specs.declared.node.TreeNode.{TreeNode, Leaf, Fork'}
 use Rattle.cpg_tree.specs.Decision.{value_at, low_at, high_at, DoForksPass, IsFit}
 use Rattle.cpg_tree.specs.Space.{Space, Lies}
 use Rattle.cpg_tree.specs.Results.{IsForkOf, IsJoinIn, IsJoinOf, IsPickOf, IsMade, IsWithin, picked}
@@ -13,7 +13,7 @@ use Rattle.cpg_tree.specs.declared.asked.Highs.{Highs}
 
 -- ---- what a scenario finds
 
-module _ {T : Type 0} (v cut : ℕ) (p : Box (Unit {0}) Global) (below : Node T) (above : Node T) (s : Scenario) where
+module _ {T : Type 0} (v cut : ℕ) (p : Box (Unit {0}) Global) (below : TreeNode T) (above : TreeNode T) (s : Scenario) where
   module _ (h : number_of s v ≤ cut) where
     goes_below : nat_le (number_of s v) cut ≡ true
     goes_below = le-leb (number_of s v) cut h
@@ -57,7 +57,7 @@ module _ {T : Type 0} (domain : Scenario → Type 0) (fact : Scenario → T → 
     pub highs : (k u : ℕ) → u ≢ v → high k s u ≤ inner_high k s u
 
   module _ (one : Scenario → Type 0) (one_fact : Scenario → T → Type 0) (one_low : Scenario → ℕ → ℕ) (one_high : ℕ → Scenario → ℕ → ℕ)
-      (two : Scenario → Type 0) (two_fact : Scenario → T → Type 0) (two_low : Scenario → ℕ → ℕ) (two_high : ℕ → Scenario → ℕ → ℕ) (lo hi r : Node T)
+      (two : Scenario → Type 0) (two_fact : Scenario → T → Type 0) (two_low : Scenario → ℕ → ℕ) (two_high : ℕ → Scenario → ℕ → ℕ) (lo hi r : TreeNode T)
       (fork : IsForkOf v cut lo hi r) (of_lo : IsMade one one_fact one_low one_high lo) (of_hi : IsMade two two_fact two_low two_high hi)
       (first : (s : Scenario) → domain s → number_of s v ≤ cut → Side one one_fact one_low one_high s)
       (first_low : (s : Scenario) → domain s → number_of s v ≤ cut → one_low s v ≤ low s v)
@@ -78,7 +78,8 @@ module _ {T : Type 0} (domain : Scenario → Type 0) (fact : Scenario → T → 
     high_is : (k : ℕ) (s : Scenario) (u : ℕ) → domain s → (cut < number_of s v) ⊎ (number_of s v ≤ cut) → (u ≡ v) ⊎ (u ≢ v) → high k s u ≤ high_at k r s u
     high_is k s u d (inr h) (inl e) = let side = first s d h in subst (λ w. high k s w ≤ high_at k r s w) (sym e) (omega (arith, fork.high_here k s h, of_lo.highs k s v side.lies, first_high k s d h))
     high_is k s u d (inr h) (inr n) = let side = first s d h in omega (arith, fork.high_below k s u h n, of_lo.highs k s u side.lies, side.highs k u n)
-    high_is k s u d (inl h) (inl e) = let side = second s d h in subst (λ w. high k s w ≤ high_at k r s w) (sym e) (omega (arith, fork.high_above k s v h, of_hi.highs k s v side.lies, second_high k s d h))
+    high_is k s u d (inl h) (inl e) = let side = second s d h in subst (λ w. high k s w ≤ high_at k r s w) (sym e)
+        (omega (arith, fork.high_above k s v h, of_hi.highs k s v side.lies, second_high k s d h))
     high_is k s u d (inl h) (inr n) = let side = second s d h in omega (arith, fork.high_above k s u h, of_hi.highs k s u side.lies, side.highs k u n)
 
     pub made_of_sides : IsMade domain fact low high r
@@ -89,8 +90,10 @@ module _ {T : Type 0} (domain : Scenario → Type 0) (fact : Scenario → T → 
     }
 
 -- what tells more is made too
-pub made_weaker : {T : Type 0} (domain : Scenario → Type 0) (fact other_fact : Scenario → T → Type 0) (low other_low : Scenario → ℕ → ℕ) (high other_high : ℕ → Scenario → ℕ → ℕ) (r : Node T) → IsMade domain fact low high r →
-    ((s : Scenario) (z : T) → domain s → fact s z → other_fact s z) → ((s : Scenario) (u : ℕ) → domain s → low s u ≤ other_low s u) → ((k : ℕ) (s : Scenario) (u : ℕ) → domain s → other_high k s u ≤ high k s u) →
+pub made_weaker : {T : Type 0} (domain : Scenario → Type 0) (fact other_fact : Scenario → T → Type 0) (low other_low : Scenario → ℕ → ℕ) (high other_high : ℕ → Scenario → ℕ → ℕ) (r : TreeNode T) →
+    IsMade domain fact low high r →
+    ((s : Scenario) (z : T) → domain s → fact s z → other_fact s z) → ((s : Scenario) (u : ℕ) → domain s → low s u ≤ other_low s u) →
+    ((k : ℕ) (s : Scenario) (u : ℕ) → domain s → other_high k s u ≤ high k s u) →
     IsMade domain other_fact other_low other_high r
 made_weaker domain fact other_fact low other_low high other_high r made tells lows highs = record {
   value = λ s d. tells s (value_at r s) d (made.value s d);
@@ -99,7 +102,8 @@ made_weaker domain fact other_fact low other_low high other_high r made tells lo
 }
 
 -- what is made in some scenarios is made in fewer
-pub made_narrower : {T : Type 0} (domain fewer : Scenario → Type 0) (fact : Scenario → T → Type 0) (low : Scenario → ℕ → ℕ) (high : ℕ → Scenario → ℕ → ℕ) (r : Node T) → IsMade domain fact low high r →
+pub made_narrower : {T : Type 0} (domain fewer : Scenario → Type 0) (fact : Scenario → T → Type 0) (low : Scenario → ℕ → ℕ) (high : ℕ → Scenario → ℕ → ℕ) (r : TreeNode T) →
+    IsMade domain fact low high r →
     ((s : Scenario) → fewer s → domain s) → IsMade fewer fact low high r
 made_narrower domain fewer fact low high r made only = record {
   value = λ s d. made.value s (only s d);
@@ -108,26 +112,26 @@ made_narrower domain fewer fact low high r made only = record {
 }
 
 -- what is made in the space that is asked for is made in both
-pub made_in_both : {T U V : Type 0} (answers : T → U → V → Type 0) (rooms : Rooms) (a : Node T) (b : Node U) (r : Node V) → IsJoinOf answers rooms.asked a b r →
+pub made_in_both : {T U V : Type 0} (answers : T → U → V → Type 0) (rooms : Rooms) (a : TreeNode T) (b : TreeNode U) (r : TreeNode V) → IsJoinOf answers rooms.asked a b r →
     IsJoinIn answers (LiesInBoth rooms) a b r
 made_in_both answers rooms a b r made = made_narrower (Lies rooms.asked) (LiesInBoth rooms) _ _ _ r made (λ s d. d.0)
 
 -- what is made with the part of a tree that the space walked comes to is made with the tree
-pub both_whole : {T U V : Type 0} (answers : T → U → V → Type 0) (rooms : Rooms) (a : Node T) (b part : Node U) (r : Node V) → IsWithin rooms.walked b part →
+pub both_whole : {T U V : Type 0} (answers : T → U → V → Type 0) (rooms : Rooms) (a : TreeNode T) (b part : TreeNode U) (r : TreeNode V) → IsWithin rooms.walked b part →
     IsJoinIn answers (LiesInBoth rooms) a part r → IsJoinIn answers (LiesInBoth rooms) a b r
 both_whole answers rooms a b part r same made = made_weaker (LiesInBoth rooms) _ _ _ _ _ _ r made
     (λ s z d t. subst (λ y. answers (value_at a s) y z) (same.value s d.1) t)
     (λ s u d. omega (arith, same.lows s u d.1)) (λ k s u d. omega (arith, same.highs k s u d.1))
 
 -- what is made with the part of a tree that a space comes to is made with the tree
-pub join_whole : {T U V : Type 0} (answers : T → U → V → Type 0) (room : Space) (a : Node T) (b part : Node U) (r : Node V) → IsWithin room b part →
+pub join_whole : {T U V : Type 0} (answers : T → U → V → Type 0) (room : Space) (a : TreeNode T) (b part : TreeNode U) (r : TreeNode V) → IsWithin room b part →
     IsJoinOf answers room a part r → IsJoinOf answers room a b r
 join_whole answers room a b part r same made = made_weaker (Lies room) _ _ _ _ _ _ r made
     (λ s z d t. subst (λ y. answers (value_at a s) y z) (same.value s d) t)
     (λ s u d. omega (arith, same.lows s u d)) (λ k s u d. omega (arith, same.highs k s u d))
 
 -- what a chooser picks from the parts of trees that a space comes to is picked from the trees
-pub pick_whole : {T : Type 0} (room : Space) (chooser : Node Bool) (on off on_part off_part r : Node T) → IsWithin room on on_part → IsWithin room off off_part →
+pub pick_whole : {T : Type 0} (room : Space) (chooser : TreeNode Bool) (on off on_part off_part r : TreeNode T) → IsWithin room on on_part → IsWithin room off off_part →
     IsPickOf room chooser on_part off_part r → IsPickOf room chooser on off r
 pick_whole {T} room chooser on off on_part off_part r same_on same_off made = made_weaker (Lies room) _ _ _ _ _ _ r made
     (λ s z d t. t ∙ same_value (value_at chooser s) s d)
@@ -148,11 +152,11 @@ pick_whole {T} room chooser on off on_part off_part r same_on same_off made = ma
 -- ---- of one tree
 
 module _ {T U : Type 0} (fact : Scenario → T → U → Type 0) where
-  abbrev pub IsOne : (Scenario → Type 0) → Node T → Node U → Type 0
+  abbrev pub IsOne : (Scenario → Type 0) → TreeNode T → TreeNode U → Type 0
   IsOne domain a r = IsMade domain (λ s z. fact s (value_at a s) z) (low_at a) (λ k. high_at k a) r
 
-  module _ (domain : Scenario → Type 0) (v cut : ℕ) (p : Box (Unit {0}) Global) (below : Node T) (above : Node T) (r : Node U) where
-    abbrev whole : Node T
+  module _ (domain : Scenario → Type 0) (v cut : ℕ) (p : Box (Unit {0}) Global) (below : TreeNode T) (above : TreeNode T) (r : TreeNode U) where
+    abbrev whole : TreeNode T
     whole = Fork' v cut p below above
 
     pub one_below : IsOne domain below r → ((s : Scenario) → domain s → number_of s v ≤ cut) → IsOne domain (Fork' v cut p below above) r
@@ -173,7 +177,7 @@ module _ {T U : Type 0} (fact : Scenario → T → U → Type 0) where
         ])
         (λ k s u d. omega (arith, high_above v cut p below above s (only s d) k u))
 
-    pub one_fork : (one two : Scenario → Type 0) (lo hi : Node U) → IsOne one below lo → IsOne two above hi → IsForkOf v cut lo hi r →
+    pub one_fork : (one two : Scenario → Type 0) (lo hi : TreeNode U) → IsOne one below lo → IsOne two above hi → IsForkOf v cut lo hi r →
         ((s : Scenario) → domain s → number_of s v ≤ cut → one s) → ((s : Scenario) → domain s → cut < number_of s v → two s) → IsOne domain (Fork' v cut p below above) r
     one_fork one two lo hi of_lo of_hi fork goes_one goes_two = made_of_sides domain (λ s z. fact s (value_at whole s) z) (low_at whole) (λ k. high_at k whole) v cut
         one _ _ _ two _ _ _ lo hi r fork of_lo of_hi
@@ -197,11 +201,11 @@ module _ {T U : Type 0} (fact : Scenario → T → U → Type 0) where
 -- ---- of a tree and more
 
 module _ {T U : Type 0} (fact : Scenario → T → U → Type 0) (more_low : Scenario → T → ℕ → ℕ) (more_high : ℕ → Scenario → T → ℕ → ℕ) where
-  abbrev pub IsTwo : (Scenario → Type 0) → Node T → Node U → Type 0
+  abbrev pub IsTwo : (Scenario → Type 0) → TreeNode T → TreeNode U → Type 0
   IsTwo domain a r = IsMade domain (λ s z. fact s (value_at a s) z) (λ s u. max (low_at a s u) (more_low s (value_at a s) u)) (λ k s u. min (high_at k a s u) (more_high k s (value_at a s) u)) r
 
-  module _ (domain : Scenario → Type 0) (v cut : ℕ) (p : Box (Unit {0}) Global) (below : Node T) (above : Node T) (r : Node U) where
-    abbrev both : Node T
+  module _ (domain : Scenario → Type 0) (v cut : ℕ) (p : Box (Unit {0}) Global) (below : TreeNode T) (above : TreeNode T) (r : TreeNode U) where
+    abbrev both : TreeNode T
     both = Fork' v cut p below above
 
     pub two_below : IsTwo domain below r → ((s : Scenario) → domain s → number_of s v ≤ cut) → IsTwo domain (Fork' v cut p below above) r
@@ -224,7 +228,7 @@ module _ {T U : Type 0} (fact : Scenario → T → U → Type 0) (more_low : Sce
         ])
         (λ k s u d. omega (arith, high_above v cut p below above s (only s d) k u, ap (λ x. more_high k s x u) (value_above v cut p below above s (only s d))))
 
-    pub two_fork : (one two : Scenario → Type 0) (lo hi : Node U) → IsTwo one below lo → IsTwo two above hi → IsForkOf v cut lo hi r →
+    pub two_fork : (one two : Scenario → Type 0) (lo hi : TreeNode U) → IsTwo one below lo → IsTwo two above hi → IsForkOf v cut lo hi r →
         ((s : Scenario) → domain s → number_of s v ≤ cut → one s) → ((s : Scenario) → domain s → cut < number_of s v → two s) → IsTwo domain (Fork' v cut p below above) r
     two_fork one two lo hi of_lo of_hi fork goes_one goes_two = made_of_sides domain _ _ _ v cut
         one _ _ _ two _ _ _ lo hi r fork of_lo of_hi
@@ -264,50 +268,56 @@ from_true true e h = h
 from_true false e h = cc
 
 -- the same of a tree that is a fork
-module _ {T U : Type 0} (fact : Scenario → T → U → Type 0) (domain : Scenario → Type 0) (v cut : ℕ) (below above n : Node T) {p : Box (Unit {0}) Global} (is : n ≡ Fork' v cut p below above) (r : Node U) where
+module _ {T U : Type 0} (fact : Scenario → T → U → Type 0) (domain : Scenario → Type 0) (v cut : ℕ) (below above n : TreeNode T) {p : Box (Unit {0}) Global} (is : n ≡ Fork' v cut p below above)
+    (r : TreeNode U) where
   pub one_below_of : IsOne fact domain below r → ((s : Scenario) → domain s → number_of s v ≤ cut) → IsOne fact domain n r
-  one_below_of made only = subst (λ (m : Node T). IsOne fact domain m r) (sym is) (one_below fact domain v cut p below above r made only)
+  one_below_of made only = subst (λ (m : TreeNode T). IsOne fact domain m r) (sym is) (one_below fact domain v cut p below above r made only)
 
   pub one_above_of : IsOne fact domain above r → ((s : Scenario) → domain s → cut < number_of s v) → IsOne fact domain n r
-  one_above_of made only = subst (λ (m : Node T). IsOne fact domain m r) (sym is) (one_above fact domain v cut p below above r made only)
+  one_above_of made only = subst (λ (m : TreeNode T). IsOne fact domain m r) (sym is) (one_above fact domain v cut p below above r made only)
 
-  pub one_fork_of : (one two : Scenario → Type 0) (lo hi : Node U) → IsOne fact one below lo → IsOne fact two above hi → IsForkOf v cut lo hi r →
+  pub one_fork_of : (one two : Scenario → Type 0) (lo hi : TreeNode U) → IsOne fact one below lo → IsOne fact two above hi → IsForkOf v cut lo hi r →
       ((s : Scenario) → domain s → number_of s v ≤ cut → one s) → ((s : Scenario) → domain s → cut < number_of s v → two s) → IsOne fact domain n r
-  one_fork_of one two lo hi of_lo of_hi fork goes_one goes_two = subst (λ (m : Node T). IsOne fact domain m r) (sym is) (one_fork fact domain v cut p below above r one two lo hi of_lo of_hi fork goes_one goes_two)
+  one_fork_of one two lo hi of_lo of_hi fork goes_one goes_two = subst (λ (m : TreeNode T). IsOne fact domain m r) (sym is)
+      (one_fork fact domain v cut p below above r one two lo hi of_lo of_hi fork goes_one goes_two)
 
 -- the same of a tree that is a fork
-module _ {T U : Type 0} (fact : Scenario → T → U → Type 0) (more_low : Scenario → T → ℕ → ℕ) (more_high : ℕ → Scenario → T → ℕ → ℕ) (domain : Scenario → Type 0) (v cut : ℕ) (below above n : Node T) {p : Box (Unit {0}) Global} (is : n ≡ Fork' v cut p below above) (r : Node U) where
+module _ {T U : Type 0} (fact : Scenario → T → U → Type 0) (more_low : Scenario → T → ℕ → ℕ) (more_high : ℕ → Scenario → T → ℕ → ℕ) (domain : Scenario → Type 0) (v cut : ℕ)
+    (below above n : TreeNode T) {p : Box (Unit {0}) Global} (is : n ≡ Fork' v cut p below above) (r : TreeNode U) where
   pub two_below_of : IsTwo fact more_low more_high domain below r → ((s : Scenario) → domain s → number_of s v ≤ cut) → IsTwo fact more_low more_high domain n r
-  two_below_of made only = subst (λ (m : Node T). IsTwo fact more_low more_high domain m r) (sym is) (two_below fact more_low more_high domain v cut p below above r made only)
+  two_below_of made only = subst (λ (m : TreeNode T). IsTwo fact more_low more_high domain m r) (sym is) (two_below fact more_low more_high domain v cut p below above r made only)
 
   pub two_above_of : IsTwo fact more_low more_high domain above r → ((s : Scenario) → domain s → cut < number_of s v) → IsTwo fact more_low more_high domain n r
-  two_above_of made only = subst (λ (m : Node T). IsTwo fact more_low more_high domain m r) (sym is) (two_above fact more_low more_high domain v cut p below above r made only)
+  two_above_of made only = subst (λ (m : TreeNode T). IsTwo fact more_low more_high domain m r) (sym is) (two_above fact more_low more_high domain v cut p below above r made only)
 
-  pub two_fork_of : (one two : Scenario → Type 0) (lo hi : Node U) → IsTwo fact more_low more_high one below lo → IsTwo fact more_low more_high two above hi → IsForkOf v cut lo hi r →
+  pub two_fork_of : (one two : Scenario → Type 0) (lo hi : TreeNode U) → IsTwo fact more_low more_high one below lo → IsTwo fact more_low more_high two above hi → IsForkOf v cut lo hi r →
       ((s : Scenario) → domain s → number_of s v ≤ cut → one s) → ((s : Scenario) → domain s → cut < number_of s v → two s) → IsTwo fact more_low more_high domain n r
-  two_fork_of one two lo hi of_lo of_hi fork goes_one goes_two = subst (λ (m : Node T). IsTwo fact more_low more_high domain m r) (sym is) (two_fork fact more_low more_high domain v cut p below above r one two lo hi of_lo of_hi fork goes_one goes_two)
+  two_fork_of one two lo hi of_lo of_hi fork goes_one goes_two = subst (λ (m : TreeNode T). IsTwo fact more_low more_high domain m r) (sym is)
+      (two_fork fact more_low more_high domain v cut p below above r one two lo hi of_lo of_hi fork goes_one goes_two)
 
 -- the same of a tree that is one value
-module _ {T U : Type 0} (fact : Scenario → T → U → Type 0) (more_low : Scenario → T → ℕ → ℕ) (more_high : ℕ → Scenario → T → ℕ → ℕ) (domain : Scenario → Type 0) (x : T) (n : Node T) (is : n ≡ Leaf x) (r : Node U) where
+module _ {T U : Type 0} (fact : Scenario → T → U → Type 0) (more_low : Scenario → T → ℕ → ℕ) (more_high : ℕ → Scenario → T → ℕ → ℕ) (domain : Scenario → Type 0) (x : T) (n : TreeNode T)
+    (is : n ≡ Leaf x) (r : TreeNode U) where
   pub two_leaf_of : IsMade domain (λ s z. fact s x z) (λ s u. more_low s x u) (λ k s u. more_high k s x u) r → IsTwo fact more_low more_high domain n r
-  two_leaf_of made = subst (λ (m : Node T). IsTwo fact more_low more_high domain m r) (sym is)
+  two_leaf_of made = subst (λ (m : TreeNode T). IsTwo fact more_low more_high domain m r) (sym is)
       (made_weaker domain _ _ _ _ _ _ r made (λ s z d t. t) (λ s u d. omega arith) (λ k s u d. omega arith))
 
 -- if the forks of a tree that is a fork pass a test, so do those of its sides
-pub passes_parts : {T : Type 0} (test : ℕ → Bool) (v cut : ℕ) (below above n : Node T) {p : Box (Unit {0}) Global} → n ≡ Fork' v cut p below above → DoForksPass test n → (test v ≡ true) × DoForksPass test below × DoForksPass test above
+pub passes_parts : {T : Type 0} (test : ℕ → Bool) (v cut : ℕ) (below above n : TreeNode T) {p : Box (Unit {0}) Global} → n ≡ Fork' v cut p below above → DoForksPass test n → (test v ≡ true) ×
+    DoForksPass test below × DoForksPass test above
 passes_parts test v cut below above n is pass = subst (DoForksPass test) is pass
 
 -- if such a tree fits, so do its sides
-pub fit_parts : {T : Type 0} (room : Space) (v cut : ℕ) (below above n : Node T) {p : Box (Unit {0}) Global} → n ≡ Fork' v cut p below above → IsFit room n → IsFit room (Fork' v cut p below above)
+pub fit_parts : {T : Type 0} (room : Space) (v cut : ℕ) (below above n : TreeNode T) {p : Box (Unit {0}) Global} → n ≡ Fork' v cut p below above → IsFit room n → IsFit room (Fork' v cut p below above)
 fit_parts room v cut below above n is fit = subst (IsFit room) is fit
 
 -- if two pairs of sides are the same, so are their sides
-module _ {T : Type 0} {one other : Node T × Node T} (same : one ≡ other) where
+module _ {T : Type 0} {one other : TreeNode T × TreeNode T} (same : one ≡ other) where
   pub same_below : one.0 ≡ other.0
-  same_below = ap (λ (sides : Node T × Node T). sides.0) same
+  same_below = ap (λ (sides : TreeNode T × TreeNode T). sides.0) same
 
   pub same_above : one.1 ≡ other.1
-  same_above = ap (λ (sides : Node T × Node T). sides.1) same
+  same_above = ap (λ (sides : TreeNode T × TreeNode T). sides.1) same
 
 -- ---- two spaces, put back above a cut
 
@@ -316,13 +326,14 @@ module _ (rooms shut inner opened : Rooms) (v : ℕ) (highs : Highs) (back : low
   both_opened = put ∙ ap (λ (r : Rooms). lowered r v highs) same ∙ back
 
   -- what is above the cut in them is in those closed below it
-  pub both_reopened : (upper : Rooms) (cut : ℕ) → ((s : Scenario) → LiesInBoth opened s → cut < number_of s v → LiesInBoth upper s) → (s : Scenario) → LiesInBoth rooms s → cut < number_of s v → LiesInBoth upper s
+  pub both_reopened : (upper : Rooms) (cut : ℕ) → ((s : Scenario) → LiesInBoth opened s → cut < number_of s v → LiesInBoth upper s) → (s : Scenario) → LiesInBoth rooms s → cut < number_of s v →
+      LiesInBoth upper s
   both_reopened upper cut lies_upper s lies h = lies_upper s (subst (λ r. LiesInBoth r s) (sym both_opened) lies) h
 
 -- ---- a fork at which all scenarios of two spaces go one way
 
-module _ {T U V : Type 0} (answers : T → U → V → Type 0) (rooms inner : Rooms) (v cut : ℕ) (below above n : Node T) {p : Box (Unit {0}) Global} (is : n ≡ Fork' v cut p below above)
-    (other part : Node U) (same : IsWithin rooms.walked other part) (r : Node V) where
+module _ {T U V : Type 0} (answers : T → U → V → Type 0) (rooms inner : Rooms) (v cut : ℕ) (below above n : TreeNode T) {p : Box (Unit {0}) Global} (is : n ≡ Fork' v cut p below above)
+    (other part : TreeNode U) (same : IsWithin rooms.walked other part) (r : TreeNode V) where
   -- what is made in the spaces left, with the part of the other tree that the space walked comes to, is made with both trees
   pub made_all_below : IsInner rooms (λ s. number_of s v ≤ cut) inner → IsJoinIn answers (LiesInBoth inner) below part r → IsJoinIn answers (LiesInBoth rooms) n other r
   made_all_below way made = both_whole answers rooms n other part r same

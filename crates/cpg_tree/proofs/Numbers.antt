@@ -7,7 +7,7 @@ use Rattle.std.proofs.lemmas.List.FromFn.{length-map-range_with_len}
 use Rattle.cpg_base.specs.Scenario.{number_of_value, Scenario, number_of}
 use Rattle.cpg_base.specs.Numbers.{numbers_below}
 use Rattle.cpg_base.proofs.Lists.{get_or-map-below}
-use Rattle.cpg_tree.specs.declared.node.Node.{Node, Leaf}
+use Rattle.cpg_tree.specs.declared.node.TreeNode.{TreeNode, Leaf}
 use Rattle.cpg_tree.specs.Space.{Space, HasFew, IsWhole, is_open_below, is_open_above, above_cut}
 use Rattle.cpg_tree.specs.Decision.{value_at, IsGood}
 use Rattle.cpg_tree.specs.Results.{IsForkOf}
@@ -20,7 +20,7 @@ use Rattle.cpg_tree.proofs.Spaces.{number_le_top}
 pub leaf_only : {T : Type 0} (v : ℕ) (x : T) → ForksOnly v (Leaf x)
 leaf_only v x = record { low = λ s u n. omega arith; high = λ k s u n. omega arith }
 
-fork_only : {T : Type 0} (v cut : ℕ) (below above r : Node T) → ForksOnly v below → ForksOnly v above → IsForkOf v cut below above r → ForksOnly v r
+fork_only : {T : Type 0} (v cut : ℕ) (below above r : TreeNode T) → ForksOnly v below → ForksOnly v above → IsForkOf v cut below above r → ForksOnly v r
 fork_only v cut below above r one two fork = record {
   low = λ s u n. elim (cases_lt cut (number_of s v)) [
     | inl gt ↦ omega (arith, fork.low_above s u gt n, two.low s u n)
@@ -35,7 +35,7 @@ fork_only v cut below above r one two fork = record {
 pub last_count : (p k : ℕ) → AreCountsFrom p k k (Leaf k)
 last_count p k = record { value = λ s low high. omega (arith, low, high); only = leaf_only p k }
 
-pub more_counts : (p first k : ℕ) (above r : Node ℕ) → AreCountsFrom p (first + 1) k above → IsForkOf p first (Leaf first) above r → AreCountsFrom p first k r
+pub more_counts : (p first k : ℕ) (above r : TreeNode ℕ) → AreCountsFrom p (first + 1) k above → IsForkOf p first (Leaf first) above r → AreCountsFrom p first k r
 more_counts p first k above r rest fork = record {
   value = λ s low high. elim (cases_lt first (number_of s p)) [
     | inl gt ↦ fork.value_above s gt ∙ rest.value s (omega (arith, gt)) high
@@ -65,7 +65,7 @@ whole_counts k room p count whole = record { long = whole.long; low = whole.lows
 
 -- ---- values
 
-pub value_is : (v : ℕ) (r : Node Bool) → IsForkOf v 0 (Leaf false) (Leaf true) r → IsValueNode v r
+pub value_is : (v : ℕ) (r : TreeNode Bool) → IsForkOf v 0 (Leaf false) (Leaf true) r → IsValueNode v r
 value_is v r fork = record {
   value = λ s few. elim (cases_lt 0 (number_of s v)) [
     | inl gt ↦ ap number_of_value (fork.value_above s gt) ∙ omega (arith, few, gt)
@@ -83,7 +83,8 @@ module _ (k : ℕ) (room : Space) (whole : IsWhole k room) (v : ℕ) (value : 12
 
 -- ---- said of paths
 
-pub number_paths : {T : Type 0} (v k : ℕ) (number : T → ℕ) (node : Node T) → IsGood k node → ((s : Scenario) → HasFew k s → number (value_at node s) ≡ number_of s v) → ForksOnly v node → IsNumber v k number (state k node)
+pub number_paths : {T : Type 0} (v k : ℕ) (number : T → ℕ) (node : TreeNode T) → IsGood k node → ((s : Scenario) → HasFew k s → number (value_at node s) ≡ number_of s v) → ForksOnly v node →
+    IsNumber v k number (state k node)
 number_paths v k number node good value only = record {
   faults = refl;
   value = λ s x few on. ap number (found k node good s x on).value ∙ value s few;

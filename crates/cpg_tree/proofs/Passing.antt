@@ -9,7 +9,7 @@ use Rattle.cpg_cube.specs.declared.literal.Literal.{Literal}
 use Rattle.cpg_cube.specs.Narrow.{narrowed_by, meet_literal}
 use Rattle.cpg_cube.specs.Fit.{IsKnown}
 use Rattle.cpg_cube.proofs.Narrow.{narrowed-before, narrowed-here, narrowed-after, variables_of_narrowed}
-use Rattle.cpg_tree.specs.declared.node.Node.{Node, Leaf, Fork'}
+use Rattle.cpg_tree.specs.declared.node.TreeNode.{TreeNode, Leaf, Fork'}
 use Rattle.cpg_tree.specs.Decision.{DoForksPass}
 use Rattle.cpg_tree.specs.Paths.{up_to, above, paths_from, paths_of}
 use Rattle.cpg_tree.specs.Tree.{Path, DoPathsPass}
@@ -49,7 +49,7 @@ speaks_of_old l (m ∷ ms) x c = elim (cases_order l.variable m.variable) [
 abbrev IsSpoken : {T : Type 0} → List (Path T) → ℕ → Type 0
 IsSpoken {T} paths v = (p : Path T) × Contains paths p × SpeaksOf p.0 v
 
-some_path : {T : Type 0} (k : ℕ) (node : Node T) (cube : List Literal) (v : ℕ) → SpeaksOf cube v → IsSpoken (paths_from k cube node) v
+some_path : {T : Type 0} (k : ℕ) (node : TreeNode T) (cube : List Literal) (v : ℕ) → SpeaksOf cube v → IsSpoken (paths_from k cube node) v
 some_path k (Leaf x) cube v speaks = ((cube, x), Contains-first (cube, x) [], speaks)
 some_path k (Fork' u cut p below upper) cube v speaks =
     let old = speaks_of_old (up_to u cut) cube speaks.0 speaks.1 in
@@ -60,7 +60,7 @@ module _ (test : ℕ → Bool) where
   abbrev Passes : List Literal → Type 0
   Passes cube = (l : Literal) → Contains cube l → test l.variable ≡ true
 
-  forks_from : {T : Type 0} (k : ℕ) (node : Node T) (cube : List Literal) → ((p : Path T) → Contains (paths_from k cube node) p → Passes p.0) → DoForksPass test node
+  forks_from : {T : Type 0} (k : ℕ) (node : TreeNode T) (cube : List Literal) → ((p : Path T) → Contains (paths_from k cube node) p → Passes p.0) → DoForksPass test node
   forks_from k (Leaf x) cube h = tt
   forks_from k (Fork' v cut p below upper) cube h =
       let lower = paths_from k (narrowed_by (up_to v cut) cube) below in
@@ -79,22 +79,24 @@ module _ (test : ℕ → Bool) where
     | inr r ↦ subst (λ (v : ℕ). test v ≡ true) r.2 (old r.0 r.1)
   ]
 
-  paths_pass : {T : Type 0} (k : ℕ) (node : Node T) (cube : List Literal) → Passes cube → DoForksPass test node → (x : Path T) → Contains (paths_from k cube node) x → Passes x.0
+  paths_pass : {T : Type 0} (k : ℕ) (node : TreeNode T) (cube : List Literal) → Passes cube → DoForksPass test node → (x : Path T) → Contains (paths_from k cube node) x → Passes x.0
   paths_pass {T} k (Leaf y) cube on pass x c = elim (Contains-cases (cube, y) [] x c) [
     | inl e ↦ subst (λ (z : Path T). Passes z.0) e on
     | inr none ↦ absurd (Contains-nil x none)
   ]
-  paths_pass k (Fork' v cut p below upper) cube on pass x c = elim (Contains-append_cases (paths_from k (narrowed_by (up_to v cut) cube) below) (paths_from k (narrowed_by (above k v cut) cube) upper) x c) [
-    | inl i ↦ paths_pass k below (narrowed_by (up_to v cut) cube) (passes_narrowed (up_to v cut) cube pass.0 on) pass.1 x i
-    | inr i ↦ paths_pass k upper (narrowed_by (above k v cut) cube) (passes_narrowed (above k v cut) cube pass.0 on) pass.2 x i
-  ]
+  paths_pass k (Fork' v cut p below upper) cube on pass x c =
+      elim (Contains-append_cases (paths_from k (narrowed_by (up_to v cut) cube) below) (paths_from k (narrowed_by (above k v cut) cube) upper) x c) [
+        | inl i ↦ paths_pass k below (narrowed_by (up_to v cut) cube) (passes_narrowed (up_to v cut) cube pass.0 on) pass.1 x i
+        | inr i ↦ paths_pass k upper (narrowed_by (above k v cut) cube) (passes_narrowed (above k v cut) cube pass.0 on) pass.2 x i
+      ]
 
   -- ---- of a whole tree
 
-  pub forks_of_paths : {T : Type 0} (k : ℕ) (node : Node T) → DoPathsPass test (paths_of k node) → DoForksPass test node
-  forks_of_paths {T} k node h = forks_from k node [] (λ p c. λ l. All-contains (λ (m : Literal). test m.variable ≡ true) p.0 l (All-contains (λ (q : Path T). All (λ (m : Literal). test m.variable ≡ true) q.0) (paths_of k node) p h c))
+  pub forks_of_paths : {T : Type 0} (k : ℕ) (node : TreeNode T) → DoPathsPass test (paths_of k node) → DoForksPass test node
+  forks_of_paths {T} k node h = forks_from k node []
+      (λ p c. λ l. All-contains (λ (m : Literal). test m.variable ≡ true) p.0 l (All-contains (λ (q : Path T). All (λ (m : Literal). test m.variable ≡ true) q.0) (paths_of k node) p h c))
 
-  pub paths_of_forks : {T : Type 0} (k : ℕ) (node : Node T) → DoForksPass test node → DoPathsPass test (paths_of k node)
+  pub paths_of_forks : {T : Type 0} (k : ℕ) (node : TreeNode T) → DoForksPass test node → DoPathsPass test (paths_of k node)
   paths_of_forks k node pass i d l j e m =
       let path = get_or (paths_of k node) i d in
       paths_pass k node [] (λ x c. absurd (Contains-nil x c)) pass path (Contains-get_or (paths_of k node) i d l) (get_or path.0 j e) (Contains-get_or path.0 j e m)

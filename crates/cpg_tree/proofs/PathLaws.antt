@@ -1,5 +1,6 @@
 -- The paths of a tree: each scenario is on one, which has the value and the ranges that it finds on its way down.
-use Rattle.std.proofs.Common.{ℕ, ◌+◌, ◌<◌, ◌≤◌, ◌≡◌, ◌≢◌, max, min, true, false, List, [], ◌∷◌, length, filter, get_or, Contains, arith, refl, sym, ap, ap₂, ◌∙◌, subst, inl, inr, ◌⊎◌, length-append, lt-ltb, le-ltb, rules, Box, Global}
+use Rattle.std.proofs.Common.{ℕ, ◌+◌, ◌<◌, ◌≤◌, ◌≡◌, ◌≢◌, max, min, true, false, List, [], ◌∷◌, length, filter, get_or, Contains, arith, refl, sym, ap, ap₂, ◌∙◌, subst, inl, inr, ◌⊎◌, length-append}
+use Rattle.std.proofs.Common.{lt-ltb, le-ltb, rules, Box, Global}
 use Rattle.std.specs.Prelude.{nat_lt, slice_set}
 use Rattle.std.proofs.lemmas.Bool.{cases_lt, cases_eq, cond-true, cond-false, and_parts, and_from, both_ways, false_from_ne_true, ltb-true}
 use Rattle.std.proofs.lemmas.List.{get_or-set_same, get_or-set_other, get_or_past}
@@ -12,7 +13,7 @@ use Rattle.cpg_base.specs.Variable.{top}
 use Rattle.cpg_cube.specs.Narrow.{narrowed_by}
 use Rattle.cpg_cube.proofs.CubeLows.{holds-low, holds-high, holds-from}
 use Rattle.cpg_cube.proofs.Narrow.{matches-narrowed, rising-narrowed}
-use Rattle.cpg_tree.specs.declared.node.Node.{Node, Leaf, Fork'}
+use Rattle.cpg_tree.specs.declared.node.TreeNode.{TreeNode, Leaf, Fork'}
 use Rattle.cpg_tree.specs.Space.{Space, HasFew, IsWhole, below_cut, above_cut}
 use Rattle.cpg_tree.specs.Decision.{value_at, low_at, high_at, IsFit, IsGood, HasCuts}
 use Rattle.cpg_tree.specs.Paths.{up_to, above, paths_from, paths_of}
@@ -43,7 +44,7 @@ reaches_below k room v cut less h u l = by_place (cases_eq u v)
     by_place (inr n) = omega (arith, get_or-set_other room.high v u cut 0 n, h u l)
     by_place (inl e) = subst (λ w. get_or (slice_set room.high v cut) w 0 ≤ top k w) (sym e) (at_cut (cases_lt v (length room.high)))
 
-fits_cuts : {T : Type 0} (k : ℕ) (node : Node T) (room : Space) → Reaches k room → IsFit room node → HasCuts k node
+fits_cuts : {T : Type 0} (k : ℕ) (node : TreeNode T) (room : Space) → Reaches k room → IsFit room node → HasCuts k node
 unfolding Reaches
 fits_cuts k (Leaf x) room h fit = tt
 fits_cuts k (Fork' v cut p below above) room h fit =
@@ -57,7 +58,7 @@ whole_reaches k room whole v l = elim (cases_lt v 128) [
   | inr m ↦ omega (arith, whole.values v m l, cond-false (nat_lt v 128) k 1 (le-ltb v 128 m))
 ]
 
-pub good_cuts : {T : Type 0} (k : ℕ) (node : Node T) → IsGood k node → HasCuts k node
+pub good_cuts : {T : Type 0} (k : ℕ) (node : TreeNode T) → IsGood k node → HasCuts k node
 good_cuts k node good = fits_cuts k node good.0 (whole_reaches k good.0 good.1) good.2
 
 -- ---- what a path says
@@ -88,13 +89,13 @@ module _ (k : ℕ) (cube : List Literal) (tidy : IsTidy k cube) (v cut : ℕ) (l
 
 module _ {T : Type 0} (k : ℕ) (s : Scenario) where
   -- the path on from a cube tells what the scenario finds
-  pub record Tells (cube : List Literal) (node : Node T) (x : Path T) : Type 0 where
+  pub record Tells (cube : List Literal) (node : TreeNode T) (x : Path T) : Type 0 where
     pub came : matches cube s ≡ true
     pub value : x.1 ≡ value_at node s
     pub low : (v : ℕ) → low_in x.0 v ≡ max (low_in cube v) (low_at node s v)
     pub high : (v : ℕ) → high_in k x.0 v ≡ min (high_in k cube v) (high_at k node s v)
 
-  tells_below : (cube : List Literal) → IsTidy k cube → (v cut : ℕ) (p : Box (Unit {0}) Global) (below : Node T) (upper : Node T) → cut < top k v → (x : Path T) →
+  tells_below : (cube : List Literal) → IsTidy k cube → (v cut : ℕ) (p : Box (Unit {0}) Global) (below : TreeNode T) (upper : TreeNode T) → cut < top k v → (x : Path T) →
       Tells (narrowed_by (up_to v cut) cube) below x → Tells cube (Fork' v cut p below upper) x
   tells_below cube tidy v cut p below upper less x t =
       let both = and_parts (holds s (up_to v cut)) (matches cube s) (sym (matches-narrowed s (up_to v cut) cube) ∙ t.came) in
@@ -103,7 +104,8 @@ module _ {T : Type 0} (k : ℕ) (s : Scenario) where
         came = both.1;
         value = t.value ∙ sym (value_below v cut p below upper s le);
         low = λ u. elim (cases_eq v u) [
-          | inl e ↦ subst (λ w. low_in x.0 w ≡ max (low_in cube w) (low_at (Fork' v cut p below upper) s w)) e (omega (arith, t.low v, low-same k (up_to v cut) cube tidy.rising, low_below v cut p below upper s le v))
+          | inl e ↦ subst (λ w. low_in x.0 w ≡ max (low_in cube w) (low_at (Fork' v cut p below upper) s w)) e
+              (omega (arith, t.low v, low-same k (up_to v cut) cube tidy.rising, low_below v cut p below upper s le v))
           | inr n ↦ omega (arith, t.low u, low-other k (up_to v cut) cube u n, low_below v cut p below upper s le u)
         ];
         high = λ u. elim (cases_eq v u) [
@@ -113,7 +115,7 @@ module _ {T : Type 0} (k : ℕ) (s : Scenario) where
         ];
       }
 
-  tells_above : (cube : List Literal) → IsTidy k cube → (v cut : ℕ) (p : Box (Unit {0}) Global) (below : Node T) (upper : Node T) → cut < top k v → (x : Path T) →
+  tells_above : (cube : List Literal) → IsTidy k cube → (v cut : ℕ) (p : Box (Unit {0}) Global) (below : TreeNode T) (upper : TreeNode T) → cut < top k v → (x : Path T) →
       Tells (narrowed_by (above k v cut) cube) upper x → Tells cube (Fork' v cut p below upper) x
   tells_above cube tidy v cut p below upper less x t =
       let both = and_parts (holds s (above k v cut)) (matches cube s) (sym (matches-narrowed s (above k v cut) cube) ∙ t.came) in
@@ -122,7 +124,8 @@ module _ {T : Type 0} (k : ℕ) (s : Scenario) where
         came = both.1;
         value = t.value ∙ sym (value_above v cut p below upper s gt);
         low = λ u. elim (cases_eq v u) [
-          | inl e ↦ subst (λ w. low_in x.0 w ≡ max (low_in cube w) (low_at (Fork' v cut p below upper) s w)) e (omega (arith, t.low v, low-same k (above k v cut) cube tidy.rising, low_here v cut p below upper s gt))
+          | inl e ↦ subst (λ w. low_in x.0 w ≡ max (low_in cube w) (low_at (Fork' v cut p below upper) s w)) e
+              (omega (arith, t.low v, low-same k (above k v cut) cube tidy.rising, low_here v cut p below upper s gt))
           | inr n ↦ omega (arith, t.low u, low-other k (above k v cut) cube u n, low_above v cut p below upper s gt u (λ i. n (sym i)))
         ];
         high = λ u. elim (cases_eq v u) [
@@ -132,7 +135,7 @@ module _ {T : Type 0} (k : ℕ) (s : Scenario) where
         ];
       }
 
-  pub tells : (node : Node T) (cube : List Literal) → IsTidy k cube → HasCuts k node → (x : Path T) → Contains (paths_from k cube node) x → matches x.0 s ≡ true → Tells cube node x
+  pub tells : (node : TreeNode T) (cube : List Literal) → IsTidy k cube → HasCuts k node → (x : Path T) → Contains (paths_from k cube node) x → matches x.0 s ≡ true → Tells cube node x
   tells (Leaf y) cube tidy cuts x c m = only (Contains-cases (cube, y) [] x c)
     where
       only : ((cube, y) ≡ x) ⊎ Contains [] x → Tells cube (Leaf y) x
@@ -143,30 +146,36 @@ module _ {T : Type 0} (k : ℕ) (s : Scenario) where
         high = λ v. omega (arith, tidy.within v);
       })
       only (inr none) = absurd (Contains-nil x none)
-  tells (Fork' v cut p below upper) cube tidy cuts x c m = elim (Contains-append_cases (paths_from k (narrowed_by (up_to v cut) cube) below) (paths_from k (narrowed_by (above k v cut) cube) upper) x c) [
-    | inl i ↦ tells_below cube tidy v cut p below upper cuts.1 x (tells below (narrowed_by (up_to v cut) cube) (tidy_below k cube tidy v cut cuts.1) cuts.2 x i m)
-    | inr i ↦ tells_above cube tidy v cut p below upper cuts.1 x (tells upper (narrowed_by (above k v cut) cube) (tidy_above k cube tidy v cut cuts.1) cuts.3 x i m)
-  ]
+  tells (Fork' v cut p below upper) cube tidy cuts x c m =
+      elim (Contains-append_cases (paths_from k (narrowed_by (up_to v cut) cube) below) (paths_from k (narrowed_by (above k v cut) cube) upper) x c) [
+        | inl i ↦ tells_below cube tidy v cut p below upper cuts.1 x (tells below (narrowed_by (up_to v cut) cube) (tidy_below k cube tidy v cut cuts.1) cuts.2 x i m)
+        | inr i ↦ tells_above cube tidy v cut p below upper cuts.1 x (tells upper (narrowed_by (above k v cut) cube) (tidy_above k cube tidy v cut cuts.1) cuts.3 x i m)
+      ]
 
   -- a scenario that the cube doesn't match is on no path
-  none_from : (node : Node T) (cube : List Literal) → IsTidy k cube → HasCuts k node → matches cube s ≡ false → length (filter (is_on s) (paths_from k cube node)) ≡ 0
-  none_from node cube tidy cuts off = ap length (filter_none (is_on s) (paths_from k cube node) (λ x c. false_from_ne_true (matches x.0 s) (λ m. both_ways (matches cube s) off (tells node cube tidy cuts x c m).came)))
+  none_from : (node : TreeNode T) (cube : List Literal) → IsTidy k cube → HasCuts k node → matches cube s ≡ false → length (filter (is_on s) (paths_from k cube node)) ≡ 0
+  none_from node cube tidy cuts off = ap length
+      (filter_none (is_on s) (paths_from k cube node) (λ x c. false_from_ne_true (matches x.0 s) (λ m. both_ways (matches cube s) off (tells node cube tidy cuts x c m).came)))
 
   -- one that it matches is on one
-  pub one_from : HasFew k s → (node : Node T) (cube : List Literal) → IsTidy k cube → HasCuts k node → matches cube s ≡ true → length (filter (is_on s) (paths_from k cube node)) ≡ 1
+  pub one_from : HasFew k s → (node : TreeNode T) (cube : List Literal) → IsTidy k cube → HasCuts k node → matches cube s ≡ true → length (filter (is_on s) (paths_from k cube node)) ≡ 1
   one_from few (Leaf y) cube tidy cuts on = ap length (cond-true (matches cube s) ((cube, y) ∷ []) [] on)
   one_from few (Fork' v cut p below upper) cube tidy cuts on =
       ap length (filter-append (is_on s) (paths_from k (narrowed_by (up_to v cut) cube) below) (paths_from k (narrowed_by (above k v cut) cube) upper))
       ∙ length-append (filter (is_on s) (paths_from k (narrowed_by (up_to v cut) cube) below)) (filter (is_on s) (paths_from k (narrowed_by (above k v cut) cube) upper))
       ∙ elim (cases_lt cut (number_of s v)) [
         | inr le ↦ ap₂ ◌+◌
-            (one_from few below (narrowed_by (up_to v cut) cube) (tidy_below k cube tidy v cut cuts.1) cuts.2 (matches-narrowed s (up_to v cut) cube ∙ and_from _ _ (holds-from s (up_to v cut) (omega arith) le) on))
+            (one_from few below (narrowed_by (up_to v cut) cube) (tidy_below k cube tidy v cut cuts.1) cuts.2
+            (matches-narrowed s (up_to v cut) cube ∙ and_from _ _ (holds-from s (up_to v cut) (omega arith) le) on))
             (none_from upper (narrowed_by (above k v cut) cube) (tidy_above k cube tidy v cut cuts.1) cuts.3
-            (false_from_ne_true _ (λ m. let l = holds-low s (above k v cut) (and_parts (holds s (above k v cut)) (matches cube s) (sym (matches-narrowed s (above k v cut) cube) ∙ m)).0 in absurd (omega (arith, l, le)))))
+            (false_from_ne_true _ (λ m. let l = holds-low s (above k v cut) (and_parts (holds s (above k v cut)) (matches cube s) (sym (matches-narrowed s (above k v cut) cube) ∙ m)).0 in
+            absurd (omega (arith, l, le)))))
         | inl gt ↦ ap₂ ◌+◌
             (none_from below (narrowed_by (up_to v cut) cube) (tidy_below k cube tidy v cut cuts.1) cuts.2
-            (false_from_ne_true _ (λ m. let l = holds-high s (up_to v cut) (and_parts (holds s (up_to v cut)) (matches cube s) (sym (matches-narrowed s (up_to v cut) cube) ∙ m)).0 in absurd (omega (arith, l, gt)))))
-            (one_from few upper (narrowed_by (above k v cut) cube) (tidy_above k cube tidy v cut cuts.1) cuts.3 (matches-narrowed s (above k v cut) cube ∙ and_from _ _ (holds-from s (above k v cut) (omega (arith, gt)) (number_le_top k s few v)) on))
+            (false_from_ne_true _ (λ m. let l = holds-high s (up_to v cut) (and_parts (holds s (up_to v cut)) (matches cube s) (sym (matches-narrowed s (up_to v cut) cube) ∙ m)).0 in
+            absurd (omega (arith, l, gt)))))
+            (one_from few upper (narrowed_by (above k v cut) cube) (tidy_above k cube tidy v cut cuts.1) cuts.3
+            (matches-narrowed s (above k v cut) cube ∙ and_from _ _ (holds-from s (above k v cut) (omega (arith, gt)) (number_le_top k s few v)) on))
       ]
 
 -- ---- of a whole tree
@@ -174,7 +183,7 @@ module _ {T : Type 0} (k : ℕ) (s : Scenario) where
 no_literals : (k : ℕ) → IsTidy k []
 no_literals k = record { rising = λ i j d l m. absurd (omega (arith, m)); within = λ v. omega arith }
 
-module _ {T : Type 0} (k : ℕ) (node : Node T) (good : IsGood k node) (s : Scenario) where
+module _ {T : Type 0} (k : ℕ) (node : TreeNode T) (good : IsGood k node) (s : Scenario) where
   pub one_path : HasFew k s → length (filter (is_on s) (paths_of k node)) ≡ 1
   one_path few = one_from k s few node [] (no_literals k) (good_cuts k node good) refl
 

@@ -3,7 +3,7 @@ use Rattle.std.proofs.Common.{ℕ, ◌≡◌, min, Bool, true, false, List, if�
 use Rattle.cpg_base.specs.Scenario.{Scenario}
 use Rattle.cpg_cube.specs.Cube.{low_in, high_in}
 use Rattle.cpg_base.specs.Variable.{top}
-use Rattle.cpg_tree.specs.declared.node.Node.{Node}
+use Rattle.cpg_tree.specs.declared.node.TreeNode.{TreeNode}
 use Rattle.cpg_tree.specs.Space.{Space, Lies, HasFew, IsWhole}
 use Rattle.cpg_tree.specs.Decision.{value_at, low_at, high_at, IsGood, IsFit, DoForksPass}
 use Rattle.cpg_tree.specs.Paths.{paths_of}
@@ -13,16 +13,16 @@ use Rattle.cpg_tree.proofs.PathLaws.{found}
 use Rattle.cpg_tree.proofs.Passing.{forks_of_paths, paths_of_forks}
 
 -- the state of a tree
-abbrev pub state : {T : Type 0} → ℕ → Node T → TreeState T
+abbrev pub state : {T : Type 0} → ℕ → TreeNode T → TreeState T
 state k node = record { faults = k; paths = paths_of k node }
 
 -- what is known of a root is known of what a reference to it shows
-module _ {T : Type 0} (k : ℕ) (a root : Node T) (same : a ≡ root) where
+module _ {T : Type 0} (k : ℕ) (a root : TreeNode T) (same : a ≡ root) where
   pub root_seen : (t : TreeState T) → state k root ≡ t → state k a ≡ t
-  root_seen t is = ap (λ (n : Node T). state k n) same ∙ is
+  root_seen t is = ap (λ (n : TreeNode T). state k n) same ∙ is
 
   pub root_good : IsGood k root → IsGood k a
-  root_good good = subst (λ (n : Node T). IsGood k n) (sym same) good
+  root_good good = subst (λ (n : TreeNode T). IsGood k n) (sym same) good
 
   -- as a caller sees it
   pub good_seen : (t : TreeState T) → state k root ≡ t → IsGood k root → IsGood t.faults a
@@ -32,11 +32,11 @@ module _ {T : Type 0} (k : ℕ) (a root : Node T) (same : a ≡ root) where
   paths_seen t is = subst (λ (u : TreeState T). u.paths ≡ paths_of u.faults a) (root_seen t is) refl
 
 -- a tree with the paths of a node is the node's
-pub state_seen : {T : Type 0} (t : TreeState T) (a : Node T) → t.paths ≡ paths_of t.faults a → state t.faults a ≡ t
+pub state_seen : {T : Type 0} (t : TreeState T) (a : TreeNode T) → t.paths ≡ paths_of t.faults a → state t.faults a ≡ t
 state_seen {T} t a paths = ap (λ (ps : List (Path T)). record { faults = t.faults; paths = ps }) (sym paths)
 
 module _ (k : ℕ) (room : Space) (all : (s : Scenario) → HasFew k s → Lies room s) where
-  pub join_paths : {T U V : Type 0} (answers : T → U → V → Type 0) (a : Node T) (b : Node U) (r : Node V) → IsGood k a → IsGood k b → IsGood k r → IsJoinOf answers room a b r →
+  pub join_paths : {T U V : Type 0} (answers : T → U → V → Type 0) (a : TreeNode T) (b : TreeNode U) (r : TreeNode V) → IsGood k a → IsGood k b → IsGood k r → IsJoinOf answers room a b r →
       IsJoin answers (state k a) (state k b) (state k r)
   join_paths answers a b r good_a good_b good_r made = record {
     faults = refl;
@@ -44,7 +44,8 @@ module _ (k : ℕ) (room : Space) (all : (s : Scenario) → HasFew k s → Lies 
         let fx = found k a good_a s x on_x in
         let fy = found k b good_b s y on_y in
         let fz = found k r good_r s z on_z in
-        subst (λ v. answers x.1 y.1 v) (sym fz.value) (subst (λ v. answers x.1 v (value_at r s)) (sym fy.value) (subst (λ v. answers v (value_at b s) (value_at r s)) (sym fx.value) (made.value s (all s few))));
+        subst (λ v. answers x.1 y.1 v) (sym fz.value)
+        (subst (λ v. answers x.1 v (value_at r s)) (sym fy.value) (subst (λ v. answers v (value_at b s) (value_at r s)) (sym fx.value) (made.value s (all s few))));
     ranges = λ s x y z few on_x on_y on_z.
         let fx = found k a good_a s x on_x in
         let fy = found k b good_b s y on_y in
@@ -55,7 +56,7 @@ module _ (k : ℕ) (room : Space) (all : (s : Scenario) → HasFew k s → Lies 
         };
   }
 
-  pub pick_paths : {T : Type 0} (chooser : Node Bool) (on off r : Node T) → IsGood k chooser → IsGood k on → IsGood k off → IsGood k r → IsPickOf room chooser on off r →
+  pub pick_paths : {T : Type 0} (chooser : TreeNode Bool) (on off r : TreeNode T) → IsGood k chooser → IsGood k on → IsGood k off → IsGood k r → IsPickOf room chooser on off r →
       IsPick (state k chooser) (state k on) (state k off) (state k r)
   pick_paths {T} chooser on off r good_c good_on good_off good_r made = record {
     faults = refl;
@@ -84,10 +85,10 @@ module _ (k : ℕ) (room : Space) (all : (s : Scenario) → HasFew k s → Lies 
       picked_high true s x h v = (found k on good_on s x h).high v
       picked_high false s x h v = (found k off good_off s x h).high v
 
-pub value_path : {T : Type 0} (k : ℕ) (node : Node T) (good : IsGood k node) (s : Scenario) → IsValueAt (state k node) s (value_at node s)
+pub value_path : {T : Type 0} (k : ℕ) (node : TreeNode T) (good : IsGood k node) (s : Scenario) → IsValueAt (state k node) s (value_at node s)
 value_path k node good s = record { of_path = λ x on. sym (found k node good s x on).value }
 
-pub map_paths : {T U : Type 0} (k : ℕ) (answers : T → U → Type 0) (a : Node T) (r : Node U) → IsGood k a → IsGood k r → IsMapOf answers a r → IsMap answers (state k a) (state k r)
+pub map_paths : {T U : Type 0} (k : ℕ) (answers : T → U → Type 0) (a : TreeNode T) (r : TreeNode U) → IsGood k a → IsGood k r → IsMapOf answers a r → IsMap answers (state k a) (state k r)
 map_paths k answers a r good_a good_r made = record {
   faults = refl;
   value = λ s x z few on_x on_z.
@@ -104,8 +105,10 @@ map_paths k answers a r good_a good_r made = record {
 }
 
 -- what is made of two trees, said of what callers see of them
-module _ {T U V : Type 0} (k l : ℕ) (a : Node T) (b : Node U) (r : Node V) (first : TreeState T) (second : TreeState U) (is_first : state k a ≡ first) (is_second : state l b ≡ second) where
-  pub joined_seen : (answers : T → U → V → Type 0) → first.faults ≡ second.faults → IsGood k a → IsGood l b → (room : Space) → IsWhole k room → ((s : Scenario) → HasFew k s → Lies room s) → IsFit room r → IsJoinOf answers room a b r →
+module _ {T U V : Type 0} (k l : ℕ) (a : TreeNode T) (b : TreeNode U) (r : TreeNode V) (first : TreeState T) (second : TreeState U) (is_first : state k a ≡ first)
+    (is_second : state l b ≡ second) where
+  pub joined_seen : (answers : T → U → V → Type 0) → first.faults ≡ second.faults → IsGood k a → IsGood l b → (room : Space) → IsWhole k room → ((s : Scenario) → HasFew k s → Lies room s) →
+      IsFit room r → IsJoinOf answers room a b r →
       IsJoin answers first second (state k r)
   joined_seen answers same good_a good_b room whole all fit made =
       let equal : k ≡ l = ap (λ (t : TreeState T). t.faults) is_first ∙ same ∙ sym (ap (λ (t : TreeState U). t.faults) is_second) in

@@ -8,7 +8,7 @@ use Rattle.cpg_base.proofs.Sums.{filter-map}
 use Rattle.cpg_base.specs.Scenario.{Scenario, number_of}
 use Rattle.cpg_cube.specs.declared.literal.Literal.{Literal}
 use Rattle.cpg_cube.specs.Narrow.{narrowed_by}
-use Rattle.cpg_tree.specs.declared.node.Node.{Node, Leaf, Fork'}
+use Rattle.cpg_tree.specs.declared.node.TreeNode.{TreeNode, Leaf, Fork'}
 use Rattle.cpg_tree.specs.Decision.{value_at, low_at, high_at, IsFit, IsGood, DoForksPass}
 use Rattle.cpg_tree.specs.Later.{time_later}
 use Rattle.cpg_tree.specs.Paths.{up_to, above, paths_from}
@@ -24,40 +24,40 @@ either number true x y m n e f = e
 either number false x y m n e f = f
 
 module _ {T : Type 0} (number : T → ℕ) where
-  pub value_read : (a : Node T) (s : Scenario) → value_at (read_by number a) s ≡ number (value_at a s)
+  pub value_read : (a : TreeNode T) (s : Scenario) → value_at (read_by number a) s ≡ number (value_at a s)
   value_read (Leaf x) s = refl
   value_read (Fork' v cut p below above) s =
       either number (nat_le (number_of s v) cut) (value_at below s) (value_at above s) (value_at (read_by number below) s) (value_at (read_by number above) s) (value_read below s) (value_read above s)
 
-  pub low_read : (a : Node T) (s : Scenario) (u : ℕ) → low_at (read_by number a) s u ≡ low_at a s u
+  pub low_read : (a : TreeNode T) (s : Scenario) (u : ℕ) → low_at (read_by number a) s u ≡ low_at a s u
   low_read (Leaf x) s u = refl
   low_read (Fork' v cut p below above) s u =
       ap₂ (λ x y. if nat_le (number_of s v) cut then x else if v == u then max (cut + 1) y else y) (low_read below s u) (low_read above s u)
 
-  pub high_read : (k : ℕ) (a : Node T) (s : Scenario) (u : ℕ) → high_at k (read_by number a) s u ≡ high_at k a s u
+  pub high_read : (k : ℕ) (a : TreeNode T) (s : Scenario) (u : ℕ) → high_at k (read_by number a) s u ≡ high_at k a s u
   high_read k (Leaf x) s u = refl
   high_read k (Fork' v cut p below above) s u =
       ap₂ (λ x y. if nat_le (number_of s v) cut then (if v == u then min cut x else x) else y) (high_read k below s u) (high_read k above s u)
 
-  pub pass_read : (test : ℕ → Bool) (a : Node T) → DoForksPass test a → DoForksPass test (read_by number a)
+  pub pass_read : (test : ℕ → Bool) (a : TreeNode T) → DoForksPass test a → DoForksPass test (read_by number a)
   pass_read test (Leaf x) pass = tt
   pass_read test (Fork' v cut p below above) pass = (pass.0, pass_read test below pass.1, pass_read test above pass.2)
 
-  fit_read : (room : Space) (a : Node T) → IsFit room a → IsFit room (read_by number a)
+  fit_read : (room : Space) (a : TreeNode T) → IsFit room a → IsFit room (read_by number a)
   fit_read room (Leaf x) fit = tt
   fit_read room (Fork' v cut p below above) fit = (fit.0, fit.1, fit.2, fit_read (below_cut room v cut) below fit.3, fit_read (above_cut room v cut) above fit.4)
 
-  pub good_read : (k : ℕ) (a : Node T) → IsGood k a → IsGood k (read_by number a)
+  pub good_read : (k : ℕ) (a : TreeNode T) → IsGood k a → IsGood k (read_by number a)
   good_read k a good = (good.0, good.1, fit_read good.0 a good.2)
 
-  paths_read : (k : ℕ) (cube : List Literal) (a : Node T) → paths_from k cube (read_by number a) ≡ map (λ (p : Path T). (p.0, number p.1)) (paths_from k cube a)
+  paths_read : (k : ℕ) (cube : List Literal) (a : TreeNode T) → paths_from k cube (read_by number a) ≡ map (λ (p : Path T). (p.0, number p.1)) (paths_from k cube a)
   paths_read k cube (Leaf x) = refl
   paths_read k cube (Fork' v cut p lower upper) =
       ap₂ ◌++◌ (paths_read k (narrowed_by (up_to v cut) cube) lower) (paths_read k (narrowed_by (above k v cut) cube) upper)
       ∙ sym (map-append (λ (q : Path T). (q.0, number q.1)) (paths_from k (narrowed_by (up_to v cut) cube) lower) (paths_from k (narrowed_by (above k v cut) cube) upper))
 
   -- the part of a tree that a space comes to, read
-  pub within_read : (room : Space) (a part : Node T) → IsWithin room a part → IsWithin room (read_by number a) (read_by number part)
+  pub within_read : (room : Space) (a part : TreeNode T) → IsWithin room a part → IsWithin room (read_by number a) (read_by number part)
   within_read room a part same = record {
     value = λ s d. value_read part s ∙ ap number (same.value s d) ∙ sym (value_read a s);
     lows = λ s u d. omega (arith, low_read part s u, low_read a s u, same.lows s u d);
@@ -65,14 +65,14 @@ module _ {T : Type 0} (number : T → ℕ) where
   }
 
   -- at least 0 is as it is read
-  pub filled_read : (room : Space) (a : Node T) (r : Node ℕ) → IsFillOf (λ (x : ℕ) (y : T) (z : ℕ). z ≡ max x (number y)) room 0 a r → IsWithin room (read_by number a) r
+  pub filled_read : (room : Space) (a : TreeNode T) (r : TreeNode ℕ) → IsFillOf (λ (x : ℕ) (y : T) (z : ℕ). z ≡ max x (number y)) room 0 a r → IsWithin room (read_by number a) r
   filled_read room a r made = record {
     value = λ s d. omega (arith, made.value s d, value_read a s);
     lows = λ s u d. omega (arith, low_read a s u, made.lows s u d);
     highs = λ k s u d. omega (arith, high_read k a s u, made.highs k s u d);
   }
 
-pub state_read : (k delay : ℕ) (a : Node (Option ℕ)) → state k (read_by (time_later delay) a) ≡ later_by delay (state k a)
+pub state_read : (k delay : ℕ) (a : TreeNode (Option ℕ)) → state k (read_by (time_later delay) a) ≡ later_by delay (state k a)
 state_read k delay a = ap (λ (paths : List (Path ℕ)). record { faults = k; paths = paths }) (paths_read (time_later delay) k [] a)
 
 -- ---- the tree of later times

@@ -85,11 +85,14 @@ module _ (k : ℕ) (room : Space) (is : IsRoom k room) (v cut : ℕ) (there : v 
       | inl l ↦
           let changed = sum_changed (λ p. get_or (slice_set room.low v (cut + 1)) p 0) (λ p. get_or room.low p 0) 128 v l (λ u n. get_or-set_other room.low v u (cut + 1) 0 n) in
           let here = ap (λ m. sum_by (λ p. get_or room.low p 0) (numbers_below 128) + m) (get_or-set_same room.low v (cut + 1) 0 (omega (arith, is.lows, there))) in
-          subst (λ n. sum_by (λ p. get_or (slice_set room.low v (cut + 1)) p 0) (numbers_below 128) + (room.left - n) ≤ k) (sym (cond-true (nat_lt v 128) (cut + 1 - get_or room.low v 0) 0 (lt-ltb v 128 l)))
+          subst (λ n. sum_by (λ p. get_or (slice_set room.low v (cut + 1)) p 0) (numbers_below 128) + (room.left - n) ≤ k)
+          (sym (cond-true (nat_lt v 128) (cut + 1 - get_or room.low v 0) 0 (lt-ltb v 128 l)))
           (more_asked _ _ (get_or room.low v 0) cut room.left k (changed ∙ here) is.budget low_at_most (allows l))
       | inr l ↦
-          let same = same_sum_by (λ p. get_or (slice_set room.low v (cut + 1)) p 0) (λ p. get_or room.low p 0) (numbers_below 128) (λ u c. get_or-set_other room.low v u (cut + 1) 0 (λ e. omega (arith, numbers-Contains 128 u c, e, l))) in
-          subst (λ n. sum_by (λ p. get_or (slice_set room.low v (cut + 1)) p 0) (numbers_below 128) + (room.left - n) ≤ k) (sym (cond-false (nat_lt v 128) (cut + 1 - get_or room.low v 0) 0 (le-ltb v 128 l)))
+          let same = same_sum_by (λ p. get_or (slice_set room.low v (cut + 1)) p 0) (λ p. get_or room.low p 0) (numbers_below 128)
+          (λ u c. get_or-set_other room.low v u (cut + 1) 0 (λ e. omega (arith, numbers-Contains 128 u c, e, l))) in
+          subst (λ n. sum_by (λ p. get_or (slice_set room.low v (cut + 1)) p 0) (numbers_below 128) + (room.left - n) ≤ k)
+          (sym (cond-false (nat_lt v 128) (cut + 1 - get_or room.low v 0) 0 (le-ltb v 128 l)))
           (as_before _ _ room.left k same is.budget)
     ];
   }
@@ -129,7 +132,8 @@ module _ (k : ℕ) (room : Space) (is : IsRoom k room) (v cut : ℕ) (there : v 
         | inr n ↦ omega (arith, get_or-set_other room.low v u (cut + 1) 0 (λ e. n (sym e)), low-other k (above k v cut) cube u n, told.low u l)
       ];
       high = λ u l. elim (cases_eq v u) [
-        | inl e ↦ subst (λ w. get_or room.high w 0 ≤ high_in k (narrowed_by (above k v cut) cube) w) e (omega (arith, high-same k (above k v cut) cube told.rising (omega arith), told.high v there, is.tops v there))
+        | inl e ↦ subst (λ w. get_or room.high w 0 ≤ high_in k (narrowed_by (above k v cut) cube) w) e
+            (omega (arith, high-same k (above k v cut) cube told.rising (omega arith), told.high v there, is.tops v there))
         | inr n ↦ omega (arith, high-other k (above k v cut) cube u n, told.high u l)
       ];
       within = λ u. elim (cases_eq v u) [

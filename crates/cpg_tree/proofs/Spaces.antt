@@ -81,20 +81,23 @@ module _ (room : Space) (s : Scenario) (lies : Lies room s) (v cut : ℕ) (there
           subst (λ n. sum_by (beyond (above_cut room v cut) s) (numbers_below 128) ≤ room.left - n) (sym (cond-true (nat_lt v 128) (cut + 1 - get_or room.low v 0) 0 (lt-ltb v 128 l)))
           (fewer_left _ _ (get_or room.low v 0) cut (fault_of s v) room.left (changed ∙ here) lies.left (leb-true (get_or room.low v 0) cut under) (subst (λ n. cut < n) (number_of-fault s v l) h))
       | inr l ↦
-          let same = same_sum_by (beyond (above_cut room v cut) s) (beyond room s) (numbers_below 128) (λ u c. ap (λ m. fault_of s u - m) (set_other room.low v (cut + 1) u (λ e. omega (arith, numbers-Contains 128 u c, e, l)))) in
+          let same = same_sum_by (beyond (above_cut room v cut) s) (beyond room s) (numbers_below 128)
+          (λ u c. ap (λ m. fault_of s u - m) (set_other room.low v (cut + 1) u (λ e. omega (arith, numbers-Contains 128 u c, e, l)))) in
           subst (λ n. sum_by (beyond (above_cut room v cut) s) (numbers_below 128) ≤ room.left - n) (sym (cond-false (nat_lt v 128) (cut + 1 - get_or room.low v 0) 0 (le-ltb v 128 l)))
           (subst (λ n. n ≤ room.left - 0) (sym same) (none_less _ room.left lies.left))
     ];
   }
 
 -- what is above a cut lies in a space that was closed above it, put back and closed below it
-pub lies_reopened : (room shut inner opened upper : Space) (v high cut : ℕ) → below_cut shut v high ≡ room → inner ≡ shut → opened ≡ below_cut inner v high → ((s : Scenario) → Lies opened s → cut < number_of s v → Lies upper s) →
+pub lies_reopened : (room shut inner opened upper : Space) (v high cut : ℕ) → below_cut shut v high ≡ room → inner ≡ shut → opened ≡ below_cut inner v high →
+    ((s : Scenario) → Lies opened s → cut < number_of s v → Lies upper s) →
     (s : Scenario) → Lies room s → cut < number_of s v → Lies upper s
 lies_reopened room shut inner opened upper v high cut back same put lies_upper s lies h =
     lies_upper s (subst (λ r. Lies r s) (sym (put ∙ ap (λ r. below_cut r v high) same ∙ back)) lies) h
 
 -- what is left above the cut then
-pub above_reopened : (room shut inner opened upper : Space) (v high cut : ℕ) → below_cut shut v high ≡ room → inner ≡ shut → opened ≡ below_cut inner v high → upper ≡ above_cut opened v cut → upper ≡ above_cut room v cut
+pub above_reopened : (room shut inner opened upper : Space) (v high cut : ℕ) → below_cut shut v high ≡ room → inner ≡ shut → opened ≡ below_cut inner v high → upper ≡ above_cut opened v cut →
+    upper ≡ above_cut room v cut
 above_reopened room shut inner opened upper v high cut back same reopened closed =
     closed ∙ ap (λ (r : Space). above_cut r v cut) (reopened ∙ ap (λ (r : Space). below_cut r v high) same ∙ back)
 
@@ -108,15 +111,26 @@ module _ (k : ℕ) (s : Scenario) (few : HasFew k s) where
   pub number_le_top : (v : ℕ) → number_of s v ≤ top k v
   number_le_top v = elim (cases_lt v 128) [
     | inl l ↦ omega (arith, number_of-fault s v l, count_few v l, cond-true (nat_lt v 128) k 1 (lt-ltb v 128 l))
-    | inr l ↦ omega (arith, cond-false (nat_lt v 128) (fault_of s v) (number_of_value (get_or s.values (v - 128) false)) (le-ltb v 128 l), number_of_value-le (get_or s.values (v - 128) false), cond-false (nat_lt v 128) k 1 (le-ltb v 128 l))
+    | inr l ↦ omega (
+      arith,
+      cond-false (nat_lt v 128) (fault_of s v) (number_of_value (get_or s.values (v - 128) false)) (le-ltb v 128 l),
+      number_of_value-le (get_or s.values (v - 128) false),
+      cond-false (nat_lt v 128) k 1 (le-ltb v 128 l),
+    )
   ]
 
-  pub lies_whole : (room : Space) → ((v : ℕ) → v < 256 → get_or room.low v 0 ≡ 0) → ((v : ℕ) → v < 128 → get_or room.high v 0 ≡ k) → ((v : ℕ) → 128 ≤ v → v < 256 → get_or room.high v 0 ≡ 1) → room.left ≡ k → Lies room s
+  pub lies_whole : (room : Space) → ((v : ℕ) → v < 256 → get_or room.low v 0 ≡ 0) → ((v : ℕ) → v < 128 → get_or room.high v 0 ≡ k) → ((v : ℕ) → 128 ≤ v → v < 256 → get_or room.high v 0 ≡ 1) →
+      room.left ≡ k → Lies room s
   lies_whole room lows counts values left = record {
     low = λ v l. omega (arith, lows v l);
     high = λ v l. elim (cases_lt v 128) [
       | inl m ↦ omega (arith, counts v m, number_of-fault s v m, count_few v m)
-      | inr m ↦ omega (arith, values v m l, cond-false (nat_lt v 128) (fault_of s v) (number_of_value (get_or s.values (v - 128) false)) (le-ltb v 128 m), number_of_value-le (get_or s.values (v - 128) false))
+      | inr m ↦ omega (
+        arith,
+        values v m l,
+        cond-false (nat_lt v 128) (fault_of s v) (number_of_value (get_or s.values (v - 128) false)) (le-ltb v 128 m),
+        number_of_value-le (get_or s.values (v - 128) false),
+      )
     ];
     left = omega (arith, same_sum_by (beyond room s) (fault_of s) (numbers_below 128) (λ p c. omega (arith, lows p (omega (arith, numbers-Contains 128 p c)))), few, left);
   }

@@ -9,7 +9,7 @@ use Rattle.cpg_base.specs.Variable.{top}
 use Rattle.cpg_cube.specs.Narrow.{narrowed_by}
 use Rattle.cpg_cube.proofs.Narrow.{variables_of_narrowed}
 use Rattle.cpg_cube.proofs.Ranges.{range_of_literal}
-use Rattle.cpg_tree.specs.declared.node.Node.{Node, Leaf, Fork'}
+use Rattle.cpg_tree.specs.declared.node.TreeNode.{TreeNode, Leaf, Fork'}
 use Rattle.cpg_tree.specs.Space.{Space, below_cut, above_cut}
 use Rattle.cpg_tree.specs.Decision.{IsFit, IsGood}
 use Rattle.cpg_tree.specs.Paths.{up_to, above, paths_from, paths_of}
@@ -47,19 +47,22 @@ pub record IsToldPath (k : ℕ) (cube : List Literal) : Type 0 where
   pub told : IsTold k room cube
   pub part : (l : Literal) → Contains cube l → (l.variable < 256) × ((0 < low_in cube l.variable) ⊎ (high_in k cube l.variable < top k l.variable))
 
-pub tidy_paths : {T : Type 0} (k : ℕ) (node : Node T) (room : Space) (cube : List Literal) → IsRoom k room → IsTold k room cube → IsPart k cube → IsFit room node → (x : Path T) → Contains (paths_from k cube node) x → IsToldPath k x.0
+pub tidy_paths : {T : Type 0} (k : ℕ) (node : TreeNode T) (room : Space) (cube : List Literal) → IsRoom k room → IsTold k room cube → IsPart k cube → IsFit room node → (x : Path T) →
+    Contains (paths_from k cube node) x → IsToldPath k x.0
 tidy_paths {T} k (Leaf y) room cube is told part fit x c = elim (Contains-cases (cube, y) [] x c) [
   | inl e ↦ subst (λ (z : Path T). IsToldPath k z.0) e (record { room = room; is = is; told = told; part = part })
   | inr none ↦ absurd (Contains-nil x none)
 ]
-tidy_paths k (Fork' v cut p below upper) room cube is told part fit x c = elim (Contains-append_cases (paths_from k (narrowed_by (up_to v cut) cube) below) (paths_from k (narrowed_by (above k v cut) cube) upper) x c) [
-  | inl i ↦ tidy_paths k below (below_cut room v cut) (narrowed_by (up_to v cut) cube) (room_below k room is v cut fit.0 fit.1 fit.2) (told_below k room is v cut fit.0 fit.1 fit.2 cube told)
-      (part_narrowed k (up_to v cut) cube fit.0 (inr (omega (arith, high-same k (up_to v cut) cube told.rising (omega (arith, cut_under k room is v cut fit.0 fit.1 fit.2)), cut_under k room is v cut fit.0 fit.1 fit.2))) part) fit.3 x i
-  | inr i ↦ tidy_paths k upper (above_cut room v cut) (narrowed_by (above k v cut) cube) (room_above k room is v cut fit.0 fit.1 fit.2) (told_above k room is v cut fit.0 fit.1 fit.2 cube told)
-      (part_narrowed k (above k v cut) cube fit.0 (inl (omega (arith, low-same k (above k v cut) cube told.rising))) part) fit.4 x i
-]
+tidy_paths k (Fork' v cut p below upper) room cube is told part fit x c =
+    elim (Contains-append_cases (paths_from k (narrowed_by (up_to v cut) cube) below) (paths_from k (narrowed_by (above k v cut) cube) upper) x c) [
+      | inl i ↦ tidy_paths k below (below_cut room v cut) (narrowed_by (up_to v cut) cube) (room_below k room is v cut fit.0 fit.1 fit.2) (told_below k room is v cut fit.0 fit.1 fit.2 cube told)
+          (part_narrowed k (up_to v cut) cube fit.0
+          (inr (omega (arith, high-same k (up_to v cut) cube told.rising (omega (arith, cut_under k room is v cut fit.0 fit.1 fit.2)), cut_under k room is v cut fit.0 fit.1 fit.2))) part) fit.3 x i
+      | inr i ↦ tidy_paths k upper (above_cut room v cut) (narrowed_by (above k v cut) cube) (room_above k room is v cut fit.0 fit.1 fit.2) (told_above k room is v cut fit.0 fit.1 fit.2 cube told)
+          (part_narrowed k (above k v cut) cube fit.0 (inl (omega (arith, low-same k (above k v cut) cube told.rising))) part) fit.4 x i
+    ]
 
-pub tidy_of : {T : Type 0} (k : ℕ) (node : Node T) → IsGood k node → (x : Path T) → Contains (paths_of k node) x → IsToldPath k x.0
+pub tidy_of : {T : Type 0} (k : ℕ) (node : TreeNode T) → IsGood k node → (x : Path T) → Contains (paths_of k node) x → IsToldPath k x.0
 tidy_of k node good = tidy_paths k node good.0 [] (room_whole k good.0 good.1) (told_whole k good.0 good.1) (λ l c. absurd (Contains-nil l c)) good.2
 
 -- ---- so it has no whole literal, and none past the whole range

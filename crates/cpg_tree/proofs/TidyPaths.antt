@@ -12,7 +12,7 @@ use Rattle.cpg_cube.specs.Cube.{holds, matches}
 use Rattle.cpg_cube.proofs.Boxes.{top_of_value}
 use Rattle.cpg_cube.proofs.CubeLows.{holds-from}
 use Rattle.cpg_cube.proofs.Ranges.{range_of_literal}
-use Rattle.cpg_tree.specs.declared.node.Node.{Node}
+use Rattle.cpg_tree.specs.declared.node.TreeNode.{TreeNode}
 use Rattle.cpg_tree.specs.Space.{Space, HasFew}
 use Rattle.cpg_tree.specs.Decision.{IsGood}
 use Rattle.cpg_tree.specs.Paths.{paths_of}
@@ -56,7 +56,8 @@ module _ (k : ℕ) (room : Space) (is : IsRoom k room) where
   ]
 
   lowest_few : HasFew k (lowest room)
-  lowest_few = fewer _ _ room.left (same_sum_by (fault_of (lowest room)) (λ p. get_or room.low p 0) (numbers_below 128) (λ p c. lowest_faults room p (omega (arith, numbers-Contains 128 p c)))) is.budget
+  lowest_few = fewer _ _ room.left (same_sum_by (fault_of (lowest room)) (λ p. get_or room.low p 0) (numbers_below 128) (λ p c. lowest_faults room p (omega (arith, numbers-Contains 128 p c))))
+      is.budget
     where
       fewer : (new old left : ℕ) → new ≡ old → old + left ≤ k → new ≤ k
       fewer new old left e h = omega (arith, e, h)
@@ -75,7 +76,7 @@ module _ (k : ℕ) (cube : List Literal) (tidy : IsToldPath k cube) where
 
 -- ---- of a whole tree
 
-module _ {T : Type 0} (k : ℕ) (node : Node T) (good : IsGood k node) where
+module _ {T : Type 0} (k : ℕ) (node : TreeNode T) (good : IsGood k node) where
   tidy_path : (x : Path T) → Contains (paths_of k node) x → IsTidyPath k x
   tidy_path x c =
       let told = tidy_of k node good x c in

@@ -3,7 +3,7 @@ use Rattle.std.proofs.Common.{ℕ, ◌<◌, ◌≤◌, ◌≡◌, max, min, Bool
 use Rattle.std.proofs.lemmas.Bool.{cond-true, cond-false}
 use Rattle.cpg_base.specs.Scenario.{Scenario, number_of}
 use Rattle.cpg_base.specs.Variable.{top}
-use Rattle.cpg_tree.specs.declared.node.Node.{Node, Leaf, Fork'}
+use Rattle.cpg_tree.specs.declared.node.TreeNode.{TreeNode, Leaf, Fork'}
 use Rattle.cpg_tree.specs.Space.{Space, HasFew, IsWhole, Lies}
 use Rattle.cpg_tree.specs.Decision.{value_at, low_at, high_at, DoForksPass, IsFit, IsGood}
 use Rattle.cpg_tree.specs.Paths.{paths_of}
@@ -15,7 +15,7 @@ use Rattle.cpg_tree.proofs.PathLaws.{found}
 use Rattle.cpg_tree.proofs.Passing.{forks_of_paths, paths_of_forks}
 use Rattle.cpg_tree.proofs.Publics.{state, state_seen}
 
-module _ {T U V : Type 0} (answers : T → U → V → Type 0) (none : V) (rooms : Rooms) (a : Node T) (b : Node U) where
+module _ {T U V : Type 0} (answers : T → U → V → Type 0) (none : V) (rooms : Rooms) (a : TreeNode T) (b : TreeNode U) where
   abbrev fact : Scenario → Bool → V → Type 0
   fact s x z = TellsWhere x (answers (value_at a s) (value_at b s) z) none z
 
@@ -25,23 +25,28 @@ module _ {T U V : Type 0} (answers : T → U → V → Type 0) (none : V) (rooms
   abbrev high : ℕ → Scenario → Bool → ℕ → ℕ
   high k s x v = if x then min (high_at k a s v) (high_at k b s v) else top k v
 
-  pub where_on : (n : Node Bool) → n ≡ Leaf true → (r : Node V) → IsJoinIn answers (LiesInBoth rooms) a b r → IsJoinWhereOf answers none (LiesInBoth rooms) n a b r
+  pub where_on : (n : TreeNode Bool) → n ≡ Leaf true → (r : TreeNode V) → IsJoinIn answers (LiesInBoth rooms) a b r → IsJoinWhereOf answers none (LiesInBoth rooms) n a b r
   where_on n is r made = two_leaf_of fact low high (LiesInBoth rooms) true n is r made
 
-  module _ (v cut : ℕ) (below above n : Node Bool) {p : Box (Unit {0}) Global} (is : n ≡ Fork' v cut p below above) (r : Node V) where
+  module _ (v cut : ℕ) (below above n : TreeNode Bool) {p : Box (Unit {0}) Global} (is : n ≡ Fork' v cut p below above) (r : TreeNode V) where
     pub where_below : IsJoinWhereOf answers none (LiesInBoth rooms) below a b r → ((s : Scenario) → Lies rooms.asked s → number_of s v ≤ cut) → IsJoinWhereOf answers none (LiesInBoth rooms) n a b r
     where_below made only = two_below_of fact low high (LiesInBoth rooms) v cut below above n is r made (λ s d. only s d.0)
 
     pub where_above : IsJoinWhereOf answers none (LiesInBoth rooms) above a b r → ((s : Scenario) → Lies rooms.asked s → cut < number_of s v) → IsJoinWhereOf answers none (LiesInBoth rooms) n a b r
     where_above made only = two_above_of fact low high (LiesInBoth rooms) v cut below above n is r made (λ s d. only s d.0)
 
-    pub where_fork : (shut upper : Rooms) (lo hi : Node V) → IsJoinWhereOf answers none (LiesInBoth shut) below a b lo → IsJoinWhereOf answers none (LiesInBoth upper) above a b hi → IsForkOf v cut lo hi r →
-        ((s : Scenario) → LiesInBoth rooms s → number_of s v ≤ cut → LiesInBoth shut s) → ((s : Scenario) → LiesInBoth rooms s → cut < number_of s v → LiesInBoth upper s) → IsJoinWhereOf answers none (LiesInBoth rooms) n a b r
-    where_fork shut upper lo hi of_lo of_hi fork goes_shut goes_upper = two_fork_of fact low high (LiesInBoth rooms) v cut below above n is r (LiesInBoth shut) (LiesInBoth upper) lo hi of_lo of_hi fork goes_shut goes_upper
+    pub where_fork : (shut upper : Rooms) (lo hi : TreeNode V) → IsJoinWhereOf answers none (LiesInBoth shut) below a b lo → IsJoinWhereOf answers none (LiesInBoth upper) above a b hi →
+        IsForkOf v cut lo hi r →
+        ((s : Scenario) → LiesInBoth rooms s → number_of s v ≤ cut → LiesInBoth shut s) → ((s : Scenario) → LiesInBoth rooms s → cut < number_of s v → LiesInBoth upper s) →
+        IsJoinWhereOf answers none (LiesInBoth rooms) n a b r
+    where_fork shut upper lo hi of_lo of_hi fork goes_shut goes_upper = two_fork_of fact low high (LiesInBoth rooms) v cut below above n is r (LiesInBoth shut)
+        (LiesInBoth upper) lo hi of_lo of_hi fork goes_shut goes_upper
 
 -- the same, said of the paths
-module _ {T U V : Type 0} (k : ℕ) (domain : Scenario → Type 0) (all : (s : Scenario) → HasFew k s → domain s) (answers : T → U → V → Type 0) (none : V) (chooser : Node Bool) (a : Node T) (b : Node U) (r : Node V) where
-  pub where_paths : IsGood k chooser → IsGood k a → IsGood k b → IsGood k r → IsJoinWhereOf answers none domain chooser a b r → IsJoinWhere answers none (state k chooser) (state k a) (state k b) (state k r)
+module _ {T U V : Type 0} (k : ℕ) (domain : Scenario → Type 0) (all : (s : Scenario) → HasFew k s → domain s) (answers : T → U → V → Type 0) (none : V) (chooser : TreeNode Bool) (a : TreeNode T)
+    (b : TreeNode U) (r : TreeNode V) where
+  pub where_paths : IsGood k chooser → IsGood k a → IsGood k b → IsGood k r → IsJoinWhereOf answers none domain chooser a b r →
+      IsJoinWhere answers none (state k chooser) (state k a) (state k b) (state k r)
   where_paths good_c good_a good_b good_r made = record {
     faults = refl;
     on = λ s c x y z few on_c is on_x on_y on_z.
@@ -86,9 +91,10 @@ module _ {T U V : Type 0} (k : ℕ) (domain : Scenario → Type 0) (all : (s : S
       high_off s e v = cond-false (value_at chooser s) _ _ e
 
 -- what is made where a chooser is true, said of what callers see of the trees
-module _ {T U V : Type 0} (chooser : Node Bool) (a : Node T) (b : Node U) (r : Node V) (first : TreeState Bool) (second : TreeState T) (third : TreeState U)
+module _ {T U V : Type 0} (chooser : TreeNode Bool) (a : TreeNode T) (b : TreeNode U) (r : TreeNode V) (first : TreeState Bool) (second : TreeState T) (third : TreeState U)
     (paths_c : first.paths ≡ paths_of first.faults chooser) (paths_a : second.paths ≡ paths_of second.faults a) (paths_b : third.paths ≡ paths_of third.faults b) (k : ℕ) where
-  pub where_seen : (answers : T → U → V → Type 0) (none : V) → k ≡ first.faults → first.faults ≡ second.faults → first.faults ≡ third.faults → IsGood first.faults chooser → IsGood second.faults a → IsGood third.faults b →
+  pub where_seen : (answers : T → U → V → Type 0) (none : V) → k ≡ first.faults → first.faults ≡ second.faults → first.faults ≡ third.faults → IsGood first.faults chooser → IsGood second.faults a →
+      IsGood third.faults b →
       (room : Space) → IsWhole k room → ((s : Scenario) → HasFew k s → Lies room s) → IsFit room r → IsJoinWhereOf answers none (LiesInBoth (record { asked = room; walked = room })) chooser a b r →
       IsJoinWhere answers none first second third (state k r)
   where_seen answers none is same_a same_b good_c good_a good_b room whole all fit made =
@@ -99,7 +105,8 @@ module _ {T U V : Type 0} (chooser : Node Bool) (a : Node T) (b : Node U) (r : N
       (subst (λ (m : ℕ). IsGood m chooser) (sym is) good_c) (subst (λ (m : ℕ). IsGood m a) (sym (is ∙ same_a)) good_a) (subst (λ (m : ℕ). IsGood m b) (sym (is ∙ same_b)) good_b)
       (room, whole, fit) made)))
 
-  pub where_pass : (test : ℕ → Bool) → (DoForksPass test chooser → DoForksPass test a → DoForksPass test b → DoForksPass test r) → DoPathsPass test first.paths → DoPathsPass test second.paths → DoPathsPass test third.paths →
+  pub where_pass : (test : ℕ → Bool) → (DoForksPass test chooser → DoForksPass test a → DoForksPass test b → DoForksPass test r) → DoPathsPass test first.paths → DoPathsPass test second.paths →
+      DoPathsPass test third.paths →
       DoPathsPass test (paths_of k r)
   where_pass test pass on_c on_a on_b = paths_of_forks test k r (pass
       (forks_of_paths test first.faults chooser (subst (λ (ps : List (Path Bool)). DoPathsPass test ps) paths_c on_c))

@@ -1,11 +1,11 @@
 -- Trees whose leaves are read as numbers.
 use Rattle.std.specs.Prelude.{ℕ, Option, map}
-use Rattle.cpg_tree.specs.declared.node.Node.{Node, Leaf, Fork'}
+use Rattle.cpg_tree.specs.declared.node.TreeNode.{TreeNode, Leaf, Fork'}
 use Rattle.cpg_tree.specs.Later.{time_later}
 use Rattle.cpg_tree.specs.Tree.{Path, TreeState}
 
 -- the same forks with the number of each leaf
-abbrev pub read_by : {T : Type 0} → (T → ℕ) → Node T → Node ℕ
+abbrev pub read_by : {T : Type 0} → (T → ℕ) → TreeNode T → TreeNode ℕ
 read_by number (Leaf x) = Leaf (number x)
 read_by number (Fork' v cut p below above) = Fork' v cut p (read_by number below) (read_by number above)
 

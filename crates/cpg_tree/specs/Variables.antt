@@ -3,17 +3,17 @@ use Rattle.std.specs.Prelude.{ℕ, ◌+◌, ◌≡◌, ◌≢◌, ◌≤◌, Boo
 use Rattle.cpg_base.specs.Graph.{Graph, process_count, condition_count, value_variable}
 use Rattle.cpg_base.specs.Scenario.{number_of_value, Scenario, number_of}
 use Rattle.cpg_base.specs.Variable.{top}
-use Rattle.cpg_tree.specs.declared.node.Node.{Node}
+use Rattle.cpg_tree.specs.declared.node.TreeNode.{TreeNode}
 use Rattle.cpg_tree.specs.Space.{Space}
 use Rattle.cpg_tree.specs.Decision.{value_at, low_at, high_at}
 
 -- no forks on other variables
-pub record ForksOnly {T : Type 0} (v : ℕ) (node : Node T) : Type 0 where
+pub record ForksOnly {T : Type 0} (v : ℕ) (node : TreeNode T) : Type 0 where
   pub low : (s : Scenario) (u : ℕ) → u ≢ v → low_at node s u ≤ 0
   pub high : (k : ℕ) (s : Scenario) (u : ℕ) → u ≢ v → top k u ≤ high_at k node s u
 
 -- the count of a process if it is the first or more
-pub record AreCountsFrom (p first k : ℕ) (node : Node ℕ) : Type 0 where
+pub record AreCountsFrom (p first k : ℕ) (node : TreeNode ℕ) : Type 0 where
   pub value : (s : Scenario) → first ≤ number_of s p → number_of s p ≤ k → value_at node s ≡ number_of s p
   pub only : ForksOnly p node
 
@@ -25,7 +25,7 @@ pub record LeavesCounts (room : Space) (p first k : ℕ) : Type 0 where
   pub left : first + room.left ≡ k
 
 -- the value of a condition
-pub record IsValueNode (v : ℕ) (node : Node Bool) : Type 0 where
+pub record IsValueNode (v : ℕ) (node : TreeNode Bool) : Type 0 where
   pub value : (s : Scenario) → number_of s v ≤ 1 → number_of_value (value_at node s) ≡ number_of s v
   pub only : ForksOnly v node
 

@@ -2,7 +2,7 @@
 ghost use Rattle.std.specs.Prelude.{◌≡◌, ◌++◌, max, min, nat_le, IfOk};
 ghost use Rattle.cpg_tree.specs.Bounds.{AreAbove, AreBelow, bounds_in, span_in};
 
-use crate::node::Node;
+use crate::node::TreeNode;
 use crate::reading::Reading;
 use cpg_base::OutOfMemory;
 
@@ -69,7 +69,7 @@ pub(crate) fn bounds_above(bounds: &[Bound]) -> &[Bound]
     sides.split_at(fork.forks.min(sides.len())).1
 }
 
-impl<T: Copy> Node<T> {
+impl<T: Copy> TreeNode<T> {
     /// Adds a bound of each fork, behind those of its sides; the least and the greatest number.
     #[cycle(push_bounds)]
     #[inline]
@@ -81,7 +81,7 @@ impl<T: Copy> Node<T> {
         ensures bounds { IfOk result (λ _. bounds.new.items ≡ bounds.old.items ++ bounds_in (R.number read.now) self.now) }
         ensures span { IfOk result (λ r. r ≡ span_in (R.number read.now) self.now) }
     {
-        if let Node::Leaf(value) = self {
+        if let TreeNode::Leaf(value) = self {
             return Ok(Span::of(read.number(*value)));
         }
         self.push_fork_bounds(read, bounds)
@@ -99,8 +99,8 @@ impl<T: Copy> Node<T> {
         ensures span { IfOk result (λ r. r ≡ span_in (R.number read.now) self.now) }
     {
         match self {
-            Node::Leaf(value) => Ok(Span::of(read.number(*value))),
-            Node::Fork { sides, .. } => {
+            TreeNode::Leaf(value) => Ok(Span::of(read.number(*value))),
+            TreeNode::Fork { sides, .. } => {
                 let (below, above) = &**sides;
                 let before = bounds.len();
                 let low = below.push_bounds(read, bounds)?;
@@ -119,8 +119,8 @@ impl<T: Copy> Node<T> {
         ensures { result ≡ span_in (R.number read.now) self.now }
     {
         match self {
-            Node::Leaf(value) => Span::of(read.number(*value)),
-            Node::Fork { .. } => match bounds.last() {
+            TreeNode::Leaf(value) => Span::of(read.number(*value)),
+            TreeNode::Fork { .. } => match bounds.last() {
                 Some(bound) => bound.span,
                 None => unreachable!(),
             },

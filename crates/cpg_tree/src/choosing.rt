@@ -8,8 +8,8 @@ ghost use Rattle.cpg_tree.specs.Tree.{DoPathsPass, HasOnePathEach, IsJoinWhere, 
 
 use crate::Tree;
 use crate::asked::Rooms;
-use crate::greater::{Bounded, Greater};
-use crate::node::Node;
+use crate::greater::{BoundedTree, Greater};
+use crate::node::TreeNode;
 use crate::reading::Reading;
 use crate::space::Space;
 use cpg_base::OutOfMemory;
@@ -17,12 +17,12 @@ use std::alloc::Global;
 
 /// Two trees with the bounds of their forks.
 #[derive(Clone, Copy)]
-pub(crate) struct Pair<'a, T, U> {
-    pub(crate) own: Bounded<'a, T>,
-    pub(crate) other: Bounded<'a, U>,
+pub(crate) struct TreePair<'a, T, U> {
+    pub(crate) own: BoundedTree<'a, T>,
+    pub(crate) other: BoundedTree<'a, U>,
 }
 
-impl Node<bool> {
+impl TreeNode<bool> {
     /// In each scenario of two spaces what is made of the greater number of two trees where this one is true, and else one value.
     /// Only what is asked for is narrowed on the way, so that the answer has the forks of the two trees' answer in the whole space.
     pub(crate) fn greater_where<
@@ -36,10 +36,10 @@ impl Node<bool> {
         &self,
         alloc: Global,
         rooms: &mut Rooms,
-        pair: &Pair<'_, T, U>,
+        pair: &TreePair<'_, T, U>,
         how: &Greater<'_, R, S, F>,
         none: V,
-    ) -> Result<Node<V>, OutOfMemory>
+    ) -> Result<TreeNode<V>, OutOfMemory>
         requires callable { F.IsAlwaysCallable how.now.made.now }
         requires equal { (x y : V) → V.eq x y ≡ true → x ≡ y }
         requires own { pair.now.own.bounds.now ≡ bounds_in (R.number how.now.read.now) pair.now.own.node.now }
@@ -53,16 +53,16 @@ impl Node<bool> {
             DoForksPass test pair.now.other.node.now → DoForksPass test r) }
     {
         match self {
-            Node::Leaf(is_on) => {
+            TreeNode::Leaf(is_on) => {
                 if *is_on {
                     let own = pair.own;
                     own.node
                         .greater_by(alloc, rooms, own.bounds, pair.other, how)
                 } else {
-                    Ok(Node::Leaf(none))
+                    Ok(TreeNode::Leaf(none))
                 }
             }
-            Node::Fork {
+            TreeNode::Fork {
                 variable,
                 cut,
                 sides,
@@ -80,7 +80,7 @@ impl Node<bool> {
                 let lows = rooms.ask_above(*variable, *cut);
                 let high = above.greater_where(alloc, rooms, pair, how, none)?;
                 rooms.reopen_below(*variable, lows);
-                Node::fork(alloc, *variable, *cut, low, high)
+                TreeNode::fork(alloc, *variable, *cut, low, high)
             }
         }
     }
@@ -124,12 +124,12 @@ impl Tree<bool> {
         let forks = bounds.len();
         other_node.push_bounds(also, &mut bounds)?;
         let (own_bounds, other_bounds) = bounds.split_at(forks);
-        let pair = Pair {
-            own: Bounded {
+        let pair = TreePair {
+            own: BoundedTree {
                 node,
                 bounds: own_bounds,
             },
-            other: Bounded {
+            other: BoundedTree {
                 node: other_node,
                 bounds: other_bounds,
             },

@@ -9,7 +9,7 @@ ghost use Rattle.cpg_tree.specs.Bounds.{bounds_in};
 
 use crate::asked::{Rooms, Way};
 use crate::bounds::{Bound, bounds_above, bounds_below};
-use crate::node::Node;
+use crate::node::TreeNode;
 use crate::reading::Reading;
 use crate::space::Space;
 use cpg_base::OutOfMemory;
@@ -25,21 +25,21 @@ pub(crate) struct Greater<'a, R, S, F> {
 
 /// A tree with the bounds of its forks.
 #[derive(Clone, Copy)]
-pub(crate) struct Bounded<'a, T> {
-    pub(crate) node: &'a Node<T>,
+pub(crate) struct BoundedTree<'a, T> {
+    pub(crate) node: &'a TreeNode<T>,
     pub(crate) bounds: &'a [Bound],
 }
 
-impl<T: Copy> Node<T> {
+impl<T: Copy> TreeNode<T> {
     /// The part of the tree that a space comes to: without the forks at the top of which it closes a side.
-    fn part<'a>(&'a self, bounds: &'a [Bound], space: &Space) -> Bounded<'a, T>
+    fn part<'a>(&'a self, bounds: &'a [Bound], space: &Space) -> BoundedTree<'a, T>
         ensures same { IsWithin space.now self.now result.node.now }
         ensures pass { (test : ℕ → Bool) → DoForksPass test self.now → DoForksPass test result.node.now }
         ensures bounds { (number : T → ℕ) → bounds.now ≡ bounds_in number self.now → result.bounds.now ≡ bounds_in number result.node.now }
     {
         match self {
-            Node::Leaf(_) => Bounded { node: self, bounds },
-            Node::Fork {
+            TreeNode::Leaf(_) => BoundedTree { node: self, bounds },
+            TreeNode::Fork {
                 variable,
                 cut,
                 sides,
@@ -51,13 +51,13 @@ impl<T: Copy> Node<T> {
                 if !space.is_open_above(*variable, *cut) {
                     return below.part(bounds_below(bounds), space);
                 }
-                Bounded { node: self, bounds }
+                BoundedTree { node: self, bounds }
             }
         }
     }
 
     /// As `part`, without bounds.
-    pub fn part_in(&self, space: &Space) -> &Node<T>
+    pub fn part_in(&self, space: &Space) -> &TreeNode<T>
         ensures value { (s : Scenario) → Lies space.now s → value_at result.now s ≡ value_at self.now s }
         ensures same { IsWithin space.now self.now result.now }
         ensures pass { (test : ℕ → Bool) → DoForksPass test self.now → DoForksPass test result.now }
@@ -72,7 +72,7 @@ impl<T: Copy> Node<T> {
         space: &mut Space,
         value: u64,
         read: &R,
-    ) -> Result<Node<u64>, OutOfMemory>
+    ) -> Result<TreeNode<u64>, OutOfMemory>
         ensures made { IfOk result (IsFillOf (λ x y z. z ≡ max x (R.number read.now y)) space.old value self.now) }
         ensures back { IfOk result (λ _. space.new ≡ space.old) }
         ensures fit { IfOk result (IsFit space.old) }
@@ -87,7 +87,7 @@ impl<T: Copy> Node<T> {
     }
 }
 
-impl<T: Copy> Node<T> {
+impl<T: Copy> TreeNode<T> {
     /// In each scenario of a space what is made of a value or the tree's number, whichever is greater.
     fn made_at_least<V: Copy + Eq, R: Reading<T>, F: Fn(u64) -> V>(
         &self,
@@ -96,7 +96,7 @@ impl<T: Copy> Node<T> {
         value: u64,
         read: &R,
         made: &F,
-    ) -> Result<Node<V>, OutOfMemory>
+    ) -> Result<TreeNode<V>, OutOfMemory>
         requires callable { F.IsAlwaysCallable made.now }
         requires equal { (x y : V) → V.eq x y ≡ true → x ≡ y }
         ensures made { IfOk result (IsFillOf (λ x y z. F.post made.now (max x (R.number read.now y)) z) space.old value self.now) }
@@ -120,9 +120,9 @@ impl<T: Copy> Node<T> {
         alloc: Global,
         rooms: &mut Rooms,
         bounds: &[Bound],
-        other: Bounded<'_, U>,
+        other: BoundedTree<'_, U>,
         how: &Greater<'_, R, S, F>,
-    ) -> Result<Node<V>, OutOfMemory>
+    ) -> Result<TreeNode<V>, OutOfMemory>
         requires callable { F.IsAlwaysCallable how.now.made.now }
         requires equal { (x y : V) → V.eq x y ≡ true → x ≡ y }
         requires own { bounds.now ≡ bounds_in (R.number how.now.read.now) self.now }
@@ -145,7 +145,7 @@ impl<T: Copy> Node<T> {
                 .made_at_least(alloc, &mut rooms.asked, 0, how.other_reading, how.made);
         }
         match self {
-            Node::Leaf(value) => {
+            TreeNode::Leaf(value) => {
                 let number = how.read.number(*value);
                 other.node.made_at_least(
                     alloc,
@@ -155,7 +155,7 @@ impl<T: Copy> Node<T> {
                     how.made,
                 )
             }
-            Node::Fork {
+            TreeNode::Fork {
                 variable,
                 cut,
                 sides,
@@ -185,7 +185,7 @@ impl<T: Copy> Node<T> {
                             how,
                         )?;
                         rooms.reopen_below(*variable, lows);
-                        Node::fork(alloc, *variable, *cut, low, high)
+                        TreeNode::fork(alloc, *variable, *cut, low, high)
                     }
                 }
             }
@@ -197,9 +197,9 @@ impl<T: Copy> Node<T> {
         &self,
         alloc: Global,
         space: &mut Space,
-        other: &Node<U>,
+        other: &TreeNode<U>,
         how: &Greater<'_, R, S, F>,
-    ) -> Result<Node<V>, OutOfMemory>
+    ) -> Result<TreeNode<V>, OutOfMemory>
         requires callable { F.IsAlwaysCallable how.now.made.now }
         requires equal { (x y : V) → V.eq x y ≡ true → x ≡ y }
         ensures made { IfOk result (IsJoinOf (λ x y z. F.post how.now.made.now (max (R.number how.now.read.now x) (S.number how.now.other_reading.now y)) z)
@@ -208,11 +208,11 @@ impl<T: Copy> Node<T> {
         ensures fit { IfOk result (IsFit space.old) }
         ensures pass { IfOk result (λ r. (test : ℕ → Bool) → DoForksPass test self.now → DoForksPass test other.now → DoForksPass test r) }
     {
-        if let Node::Leaf(value) = self {
+        if let TreeNode::Leaf(value) = self {
             let number = how.read.number(*value);
             return other.made_at_least(alloc, space, number, how.other_reading, how.made);
         }
-        if let Node::Leaf(value) = other {
+        if let TreeNode::Leaf(value) = other {
             let number = how.other_reading.number(*value);
             return self.made_at_least(alloc, space, number, how.read, how.made);
         }
@@ -222,7 +222,7 @@ impl<T: Copy> Node<T> {
         let forks = bounds.len();
         other.push_bounds(how.other_reading, &mut bounds)?;
         let (own, others) = bounds.split_at(forks);
-        let other = Bounded {
+        let other = BoundedTree {
             node: other,
             bounds: others,
         };

@@ -13,7 +13,7 @@ mod tally;
 mod tree;
 mod variables;
 
-pub use node::Node;
+pub use node::TreeNode;
 pub use reading::{AsIs, Later, Reading, time_later};
 pub use space::Space;
 pub use tally::{Parting, Tally};

@@ -12,23 +12,23 @@ use std::alloc::Global;
 /// A value, or a fork by the number of a variable: its sides, below and above, are one block of memory.
 #[cycle(node)]
 #[derive(Drop)]
-pub enum Node<T> {
+pub enum TreeNode<T> {
     Leaf(T),
     Fork {
         variable: u8,
         cut: u8,
-        sides: Box<(Node<T>, Node<T>)>,
+        sides: Box<(TreeNode<T>, TreeNode<T>)>,
     },
 }
 
-impl<T: Copy> Node<T> {
+impl<T: Copy> TreeNode<T> {
     /// The value that a scenario comes to.
     pub(crate) fn at(&self, scenario: &Scenario) -> T
         ensures { result ≡ value_at self.now scenario.now }
     {
         match self {
-            Node::Leaf(value) => *value,
-            Node::Fork {
+            TreeNode::Leaf(value) => *value,
+            TreeNode::Fork {
                 variable,
                 cut,
                 sides,
@@ -44,24 +44,24 @@ impl<T: Copy> Node<T> {
     }
 }
 
-impl<T: Copy + Eq> Node<T> {
+impl<T: Copy + Eq> TreeNode<T> {
     /// Whether two trees are equal.
-    fn is_same(&self, other: &Node<T>) -> bool
+    fn is_same(&self, other: &TreeNode<T>) -> bool
         requires { (x y : T) → T.eq x y ≡ true → x ≡ y }
         ensures { OnTrue result (AreSame self.now other.now) }
     {
         match self {
-            Node::Leaf(value) => match other {
-                Node::Leaf(other) => *value == *other,
-                Node::Fork { .. } => false,
+            TreeNode::Leaf(value) => match other {
+                TreeNode::Leaf(other) => *value == *other,
+                TreeNode::Fork { .. } => false,
             },
-            Node::Fork {
+            TreeNode::Fork {
                 variable,
                 cut,
                 sides,
             } => match other {
-                Node::Leaf(_) => false,
-                Node::Fork {
+                TreeNode::Leaf(_) => false,
+                TreeNode::Fork {
                     variable: other_variable,
                     cut: other_cut,
                     sides: others,
@@ -84,7 +84,7 @@ impl<T: Copy + Eq> Node<T> {
         cut: u8,
         other_variable: u8,
         other_cut: u8,
-        other_below: &Node<T>,
+        other_below: &TreeNode<T>,
     ) -> bool
         requires { (x y : T) → T.eq x y ≡ true → x ≡ y }
         ensures { OnTrue result ((other_variable ≡ variable) × (cut < other_cut) × AreSame self.now other_below.now) }
@@ -97,16 +97,16 @@ impl<T: Copy + Eq> Node<T> {
         alloc: Global,
         variable: u8,
         cut: u8,
-        below: Node<T>,
-        above: Node<T>,
-    ) -> Result<Node<T>, OutOfMemory>
+        below: TreeNode<T>,
+        above: TreeNode<T>,
+    ) -> Result<TreeNode<T>, OutOfMemory>
         ensures made { IfOk result (IsForkOf variable cut below above) }
         ensures fit { IfOk result (λ r. (room : Space) → variable < 256 → is_open_below room variable cut ≡ true →
             is_open_above room variable cut ≡ true → IsFit (below_cut room variable cut) below → IsFit (above_cut room variable cut) above → IsFit room r) }
         ensures pass { IfOk result (λ r. (test : ℕ → Bool) → test variable ≡ true → DoForksPass test below → DoForksPass test above → DoForksPass test r) }
     {
         let sides = Box::new(alloc, (below, above))?;
-        Ok(Node::Fork {
+        Ok(TreeNode::Fork {
             variable,
             cut,
             sides,
@@ -116,8 +116,8 @@ impl<T: Copy + Eq> Node<T> {
     /// Whether the tree begins with a fork.
     fn begins_with(&self, variable: u8, cut: u8) -> bool {
         match self {
-            Node::Leaf(_) => false,
-            Node::Fork {
+            TreeNode::Leaf(_) => false,
+            TreeNode::Fork {
                 variable: own,
                 cut: own_cut,
                 ..
@@ -127,13 +127,13 @@ impl<T: Copy + Eq> Node<T> {
 
     /// Whether a look at their tops tells that this tree, below a fork on a variable, isn't equal to the tree above it, nor to
     /// what that has below a fork on the same variable. No clause speaks of it: it only saves time.
-    fn is_apart(&self, variable: u8, above: &Node<T>) -> bool {
+    fn is_apart(&self, variable: u8, above: &TreeNode<T>) -> bool {
         match above {
-            Node::Leaf(high) => match self {
-                Node::Leaf(low) => *low != *high,
-                Node::Fork { .. } => true,
+            TreeNode::Leaf(high) => match self {
+                TreeNode::Leaf(low) => *low != *high,
+                TreeNode::Fork { .. } => true,
             },
-            Node::Fork {
+            TreeNode::Fork {
                 variable: next,
                 cut,
                 ..
@@ -147,9 +147,9 @@ impl<T: Copy + Eq> Node<T> {
         alloc: Global,
         variable: u8,
         cut: u8,
-        below: Node<T>,
-        above: Node<T>,
-    ) -> Result<Node<T>, OutOfMemory>
+        below: TreeNode<T>,
+        above: TreeNode<T>,
+    ) -> Result<TreeNode<T>, OutOfMemory>
         requires { (x y : T) → T.eq x y ≡ true → x ≡ y }
         ensures made { IfOk result (IsForkOf variable cut below above) }
         ensures fit { IfOk result (λ r. (room : Space) → is_open_below room variable cut ≡ true → is_open_above room variable cut ≡ true →
@@ -157,9 +157,9 @@ impl<T: Copy + Eq> Node<T> {
         ensures pass { IfOk result (λ r. (test : ℕ → Bool) → test variable ≡ true → DoForksPass test below → DoForksPass test above → DoForksPass test r) }
     {
         if below.is_apart(variable, &above) {
-            return Node::fork_of(alloc, variable, cut, below, above);
+            return TreeNode::fork_of(alloc, variable, cut, below, above);
         }
-        Node::fork_by_sides(alloc, variable, cut, below, above)
+        TreeNode::fork_by_sides(alloc, variable, cut, below, above)
     }
 
     /// As `fork`, by a look at the whole of both sides.
@@ -168,9 +168,9 @@ impl<T: Copy + Eq> Node<T> {
         alloc: Global,
         variable: u8,
         cut: u8,
-        below: Node<T>,
-        above: Node<T>,
-    ) -> Result<Node<T>, OutOfMemory>
+        below: TreeNode<T>,
+        above: TreeNode<T>,
+    ) -> Result<TreeNode<T>, OutOfMemory>
         requires { (x y : T) → T.eq x y ≡ true → x ≡ y }
         ensures made { IfOk result (IsForkOf variable cut below above) }
         ensures fit { IfOk result (λ r. (room : Space) → is_open_below room variable cut ≡ true → is_open_above room variable cut ≡ true →
@@ -181,26 +181,32 @@ impl<T: Copy + Eq> Node<T> {
             return Ok(below);
         }
         match above {
-            Node::Leaf(value) => Node::fork_of(alloc, variable, cut, below, Node::Leaf(value)),
-            Node::Fork {
+            TreeNode::Leaf(value) => TreeNode::fork_of(
+                alloc,
+                variable,
+                cut,
+                below,
+                TreeNode::Leaf(value),
+            ),
+            TreeNode::Fork {
                 variable: next,
                 cut: farther,
                 mut sides,
             } => {
                 if below.meets(variable, cut, next, farther, &sides.0) {
                     sides.0 = below;
-                    return Ok(Node::Fork {
+                    return Ok(TreeNode::Fork {
                         variable,
                         cut: farther,
                         sides,
                     });
                 }
-                let above = Node::Fork {
+                let above = TreeNode::Fork {
                     variable: next,
                     cut: farther,
                     sides,
                 };
-                Node::fork_of(alloc, variable, cut, below, above)
+                TreeNode::fork_of(alloc, variable, cut, below, above)
             }
         }
     }
@@ -208,15 +214,19 @@ impl<T: Copy + Eq> Node<T> {
     /// This tree for the scenarios of a space.
     #[cycle(within)]
     #[inline]
-    pub(crate) fn within(&self, alloc: Global, space: &mut Space) -> Result<Node<T>, OutOfMemory>
+    pub(crate) fn within(
+        &self,
+        alloc: Global,
+        space: &mut Space,
+    ) -> Result<TreeNode<T>, OutOfMemory>
         requires { (x y : T) → T.eq x y ≡ true → x ≡ y }
         ensures made { IfOk result (IsWithin space.old self.now) }
         ensures back { IfOk result (λ _. space.new ≡ space.old) }
         ensures fit { IfOk result (IsFit space.old) }
         ensures pass { IfOk result (λ r. (test : ℕ → Bool) → DoForksPass test self.now → DoForksPass test r) }
     {
-        if let Node::Leaf(value) = self {
-            return Ok(Node::Leaf(*value));
+        if let TreeNode::Leaf(value) = self {
+            return Ok(TreeNode::Leaf(*value));
         }
         self.fork_within(alloc, space)
     }
@@ -224,7 +234,7 @@ impl<T: Copy + Eq> Node<T> {
     /// As `within`, of a tree that is a fork: a function of its own, since a call of it takes longer than a leaf.
     #[cycle(within)]
     #[inline(never)]
-    fn fork_within(&self, alloc: Global, space: &mut Space) -> Result<Node<T>, OutOfMemory>
+    fn fork_within(&self, alloc: Global, space: &mut Space) -> Result<TreeNode<T>, OutOfMemory>
         requires { (x y : T) → T.eq x y ≡ true → x ≡ y }
         ensures made { IfOk result (IsWithin space.old self.now) }
         ensures back { IfOk result (λ _. space.new ≡ space.old) }
@@ -232,8 +242,8 @@ impl<T: Copy + Eq> Node<T> {
         ensures pass { IfOk result (λ r. (test : ℕ → Bool) → DoForksPass test self.now → DoForksPass test r) }
     {
         match self {
-            Node::Leaf(value) => Ok(Node::Leaf(*value)),
-            Node::Fork {
+            TreeNode::Leaf(value) => Ok(TreeNode::Leaf(*value)),
+            TreeNode::Fork {
                 variable,
                 cut,
                 sides,
@@ -251,13 +261,13 @@ impl<T: Copy + Eq> Node<T> {
                 let least = space.close_below(*variable, *cut);
                 let high = above.within(alloc, space)?;
                 space.reopen_below(*variable, least);
-                Node::fork(alloc, *variable, *cut, low, high)
+                TreeNode::fork(alloc, *variable, *cut, low, high)
             }
         }
     }
 }
 
-impl<T: Copy> Node<T> {
+impl<T: Copy> TreeNode<T> {
     /// The answers of a function to the values.
     #[cycle(map)]
     #[inline]
@@ -265,15 +275,15 @@ impl<T: Copy> Node<T> {
         &self,
         alloc: Global,
         f: &F,
-    ) -> Result<Node<U>, OutOfMemory>
+    ) -> Result<TreeNode<U>, OutOfMemory>
         requires callable { F.IsAlwaysCallable f.now }
         requires equal { (x y : U) → U.eq x y ≡ true → x ≡ y }
         ensures made { IfOk result (IsMapOf (F.post f.now) self.now) }
         ensures fit { IfOk result (λ r. (room : Space) → IsFit room self.now → IsFit room r) }
         ensures pass { IfOk result (λ r. (test : ℕ → Bool) → DoForksPass test self.now → DoForksPass test r) }
     {
-        if let Node::Leaf(value) = self {
-            return Ok(Node::Leaf(f(*value)));
+        if let TreeNode::Leaf(value) = self {
+            return Ok(TreeNode::Leaf(f(*value)));
         }
         self.map_fork(alloc, f)
     }
@@ -285,7 +295,7 @@ impl<T: Copy> Node<T> {
         &self,
         alloc: Global,
         f: &F,
-    ) -> Result<Node<U>, OutOfMemory>
+    ) -> Result<TreeNode<U>, OutOfMemory>
         requires callable { F.IsAlwaysCallable f.now }
         requires equal { (x y : U) → U.eq x y ≡ true → x ≡ y }
         ensures made { IfOk result (IsMapOf (F.post f.now) self.now) }
@@ -293,8 +303,8 @@ impl<T: Copy> Node<T> {
         ensures pass { IfOk result (λ r. (test : ℕ → Bool) → DoForksPass test self.now → DoForksPass test r) }
     {
         match self {
-            Node::Leaf(value) => Ok(Node::Leaf(f(*value))),
-            Node::Fork {
+            TreeNode::Leaf(value) => Ok(TreeNode::Leaf(f(*value))),
+            TreeNode::Fork {
                 variable,
                 cut,
                 sides,
@@ -302,7 +312,7 @@ impl<T: Copy> Node<T> {
                 let (below, above) = &**sides;
                 let low = below.map(alloc, f)?;
                 let high = above.map(alloc, f)?;
-                Node::fork(alloc, *variable, *cut, low, high)
+                TreeNode::fork(alloc, *variable, *cut, low, high)
             }
         }
     }
@@ -316,7 +326,7 @@ impl<T: Copy> Node<T> {
         space: &mut Space,
         value: U,
         f: &F,
-    ) -> Result<Node<V>, OutOfMemory>
+    ) -> Result<TreeNode<V>, OutOfMemory>
         requires callable { F.IsAlwaysCallable f.now }
         requires equal { (x y : V) → V.eq x y ≡ true → x ≡ y }
         ensures made { IfOk result (IsFillOf (F.post f.now) space.old value self.now) }
@@ -324,8 +334,8 @@ impl<T: Copy> Node<T> {
         ensures fit { IfOk result (IsFit space.old) }
         ensures pass { IfOk result (λ r. (test : ℕ → Bool) → DoForksPass test self.now → DoForksPass test r) }
     {
-        if let Node::Leaf(other) = self {
-            return Ok(Node::Leaf(f(value, *other)));
+        if let TreeNode::Leaf(other) = self {
+            return Ok(TreeNode::Leaf(f(value, *other)));
         }
         self.fill_fork(alloc, space, value, f)
     }
@@ -339,7 +349,7 @@ impl<T: Copy> Node<T> {
         space: &mut Space,
         value: U,
         f: &F,
-    ) -> Result<Node<V>, OutOfMemory>
+    ) -> Result<TreeNode<V>, OutOfMemory>
         requires callable { F.IsAlwaysCallable f.now }
         requires equal { (x y : V) → V.eq x y ≡ true → x ≡ y }
         ensures made { IfOk result (IsFillOf (F.post f.now) space.old value self.now) }
@@ -348,8 +358,8 @@ impl<T: Copy> Node<T> {
         ensures pass { IfOk result (λ r. (test : ℕ → Bool) → DoForksPass test self.now → DoForksPass test r) }
     {
         match self {
-            Node::Leaf(other) => Ok(Node::Leaf(f(value, *other))),
-            Node::Fork {
+            TreeNode::Leaf(other) => Ok(TreeNode::Leaf(f(value, *other))),
+            TreeNode::Fork {
                 variable,
                 cut,
                 sides,
@@ -367,7 +377,7 @@ impl<T: Copy> Node<T> {
                 let least = space.close_below(*variable, *cut);
                 let high = above.fill(alloc, space, value, f)?;
                 space.reopen_below(*variable, least);
-                Node::fork(alloc, *variable, *cut, low, high)
+                TreeNode::fork(alloc, *variable, *cut, low, high)
             }
         }
     }
@@ -379,9 +389,9 @@ impl<T: Copy> Node<T> {
         &self,
         alloc: Global,
         space: &mut Space,
-        other: &Node<U>,
+        other: &TreeNode<U>,
         f: &F,
-    ) -> Result<Node<V>, OutOfMemory>
+    ) -> Result<TreeNode<V>, OutOfMemory>
         requires callable { F.IsAlwaysCallable f.now }
         requires equal { (x y : V) → V.eq x y ≡ true → x ≡ y }
         ensures made { IfOk result (IsJoinOf (F.post f.now) space.old self.now other.now) }
@@ -389,7 +399,7 @@ impl<T: Copy> Node<T> {
         ensures fit { IfOk result (IsFit space.old) }
         ensures pass { IfOk result (λ r. (test : ℕ → Bool) → DoForksPass test self.now → DoForksPass test other.now → DoForksPass test r) }
     {
-        if let Node::Leaf(value) = self {
+        if let TreeNode::Leaf(value) = self {
             return other.fill(alloc, space, *value, f);
         }
         self.join_fork(alloc, space, other, f)
@@ -402,9 +412,9 @@ impl<T: Copy> Node<T> {
         &self,
         alloc: Global,
         space: &mut Space,
-        other: &Node<U>,
+        other: &TreeNode<U>,
         f: &F,
-    ) -> Result<Node<V>, OutOfMemory>
+    ) -> Result<TreeNode<V>, OutOfMemory>
         requires callable { F.IsAlwaysCallable f.now }
         requires equal { (x y : V) → V.eq x y ≡ true → x ≡ y }
         ensures made { IfOk result (IsJoinOf (F.post f.now) space.old self.now other.now) }
@@ -415,8 +425,8 @@ impl<T: Copy> Node<T> {
         // so that no leaf goes through the other tree from its top
         let other = other.part_in(space);
         match self {
-            Node::Leaf(value) => other.fill(alloc, space, *value, f),
-            Node::Fork {
+            TreeNode::Leaf(value) => other.fill(alloc, space, *value, f),
+            TreeNode::Fork {
                 variable,
                 cut,
                 sides,
@@ -434,21 +444,21 @@ impl<T: Copy> Node<T> {
                 let least = space.close_below(*variable, *cut);
                 let high = above.join(alloc, space, other, f)?;
                 space.reopen_below(*variable, least);
-                Node::fork(alloc, *variable, *cut, low, high)
+                TreeNode::fork(alloc, *variable, *cut, low, high)
             }
         }
     }
 }
 
-impl Node<bool> {
+impl TreeNode<bool> {
     /// The values of the tree that these pick, for the scenarios of a space.
     pub(crate) fn pick<T: Copy + Eq>(
         &self,
         alloc: Global,
         space: &mut Space,
-        on: &Node<T>,
-        off: &Node<T>,
-    ) -> Result<Node<T>, OutOfMemory>
+        on: &TreeNode<T>,
+        off: &TreeNode<T>,
+    ) -> Result<TreeNode<T>, OutOfMemory>
         requires { (x y : T) → T.eq x y ≡ true → x ≡ y }
         ensures made { IfOk result (IsPickOf space.old self.now on.now off.now) }
         ensures back { IfOk result (λ _. space.new ≡ space.old) }
@@ -460,14 +470,14 @@ impl Node<bool> {
         let on = on.part_in(space);
         let off = off.part_in(space);
         match self {
-            Node::Leaf(is_on) => {
+            TreeNode::Leaf(is_on) => {
                 if *is_on {
                     on.within(alloc, space)
                 } else {
                     off.within(alloc, space)
                 }
             }
-            Node::Fork {
+            TreeNode::Fork {
                 variable,
                 cut,
                 sides,
@@ -485,7 +495,7 @@ impl Node<bool> {
                 let least = space.close_below(*variable, *cut);
                 let high = above.pick(alloc, space, on, off)?;
                 space.reopen_below(*variable, least);
-                Node::fork(alloc, *variable, *cut, low, high)
+                TreeNode::fork(alloc, *variable, *cut, low, high)
             }
         }
     }

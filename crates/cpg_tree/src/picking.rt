@@ -6,22 +6,22 @@ ghost use Rattle.cpg_tree.specs.Results.{IsPickOf};
 ghost use Rattle.cpg_tree.specs.Tree.{DoPathsPass, HasOnePathEach, IsPick, IsTidyPath};
 
 use crate::Tree;
-use crate::node::Node;
+use crate::node::TreeNode;
 use crate::reading::{Later, Reading};
 use crate::space::Space;
 use cpg_base::OutOfMemory;
 use std::alloc::Global;
 
-impl Node<bool> {
+impl TreeNode<bool> {
     /// In each scenario of a space the number of one of two trees: of the first, as it is read, where this one is true.
     fn pick_read<T: Copy, R: Reading<T>>(
         &self,
         alloc: Global,
         space: &mut Space,
-        on: &Node<T>,
-        off: &Node<u64>,
+        on: &TreeNode<T>,
+        off: &TreeNode<u64>,
         read: &R,
-    ) -> Result<Node<u64>, OutOfMemory>
+    ) -> Result<TreeNode<u64>, OutOfMemory>
         ensures made { IfOk result (IsPickOf space.old self.now (read_by (R.number read.now) on.now) off.now) }
         ensures back { IfOk result (λ _. space.new ≡ space.old) }
         ensures fit { IfOk result (IsFit space.old) }
@@ -32,14 +32,14 @@ impl Node<bool> {
         let on = on.part_in(space);
         let off = off.part_in(space);
         match self {
-            Node::Leaf(is_on) => {
+            TreeNode::Leaf(is_on) => {
                 if *is_on {
                     on.at_least(alloc, space, 0, read)
                 } else {
                     off.within(alloc, space)
                 }
             }
-            Node::Fork {
+            TreeNode::Fork {
                 variable,
                 cut,
                 sides,
@@ -57,7 +57,7 @@ impl Node<bool> {
                 let least = space.close_below(*variable, *cut);
                 let high = above.pick_read(alloc, space, on, off, read)?;
                 space.reopen_below(*variable, least);
-                Node::fork(alloc, *variable, *cut, low, high)
+                TreeNode::fork(alloc, *variable, *cut, low, high)
             }
         }
     }

@@ -84,7 +84,7 @@ fn count_at(counts: &[u32], place: usize) -> u32 {
 }
 
 /// The place of the count of a variable's number.
-fn place_of(variable: u8, number: u8) -> usize {
+fn count_index(variable: u8, number: u8) -> usize {
     variable as usize * NUMBERS + number as usize
 }
 
@@ -127,16 +127,16 @@ impl Tally {
     /// One more column, by its literals.
     pub fn add(&mut self, literals: &[Literal]) {
         for literal in literals {
-            raise(&mut self.lows, place_of(literal.variable, literal.low));
-            raise(&mut self.highs, place_of(literal.variable, literal.high));
+            raise(&mut self.lows, count_index(literal.variable, literal.low));
+            raise(&mut self.highs, count_index(literal.variable, literal.high));
         }
     }
 
     /// Takes all counts away that a column's literals have raised.
     pub fn clear(&mut self, literals: &[Literal]) {
         for literal in literals {
-            empty(&mut self.lows, place_of(literal.variable, literal.low));
-            empty(&mut self.highs, place_of(literal.variable, literal.high));
+            empty(&mut self.lows, count_index(literal.variable, literal.low));
+            empty(&mut self.highs, count_index(literal.variable, literal.high));
         }
     }
 
@@ -146,7 +146,7 @@ impl Tally {
         for number in 0..=MOST_FAULTS {
             count = count.saturating_add(count_at(
                 self.lows.as_slice(),
-                place_of(variable, number),
+                count_index(variable, number),
             ));
         }
         count
@@ -158,7 +158,7 @@ impl Tally {
         let mut below: u32 = 0;
         let mut above = self.count_on(variable);
         for most in 0..MOST_FAULTS {
-            let place = place_of(variable, most);
+            let place = count_index(variable, most);
             below = below.saturating_add(count_at(self.highs.as_slice(), place));
             above = above.saturating_sub(count_at(self.lows.as_slice(), place));
             if below > 0 && above > 0 {

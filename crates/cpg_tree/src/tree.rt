@@ -8,7 +8,7 @@ ghost use Rattle.cpg_tree.specs.Paths.{paths_from, paths_of};
 ghost use Rattle.cpg_tree.specs.Tree.{HasOnePathEach, IsTidyPath, DoPathsPass, IsConstant, IsMap, IsJoin, IsPick, IsValueAt};
 
 use crate::greater::Greater;
-use crate::node::Node;
+use crate::node::TreeNode;
 use crate::reading::{AsIs, Later, Reading, time_later};
 use crate::space::Space;
 use cpg_base::{OutOfMemory, Scenario};
@@ -22,7 +22,7 @@ use std::rc::Rc;
 pub struct Tree<T> {
     pub(crate) alloc: Global,
     pub(crate) faults: u8,
-    pub(crate) root: Rc<Node<T>>,
+    pub(crate) root: Rc<TreeNode<T>>,
 }
 
 impl<T> Model for Tree<T> {
@@ -38,15 +38,15 @@ impl<T> Model for Tree<T> {
     ghost invariant = { λ t. IsGood t.faults t.root.value };
 }
 
-impl<T> Node<T> {
+impl<T> TreeNode<T> {
     /// How many leaves there are.
     fn count(&self) -> Option<u64>
         ensures some { IfSome result (λ n. (k : ℕ) (cube : List Literal) → n ≡ length (paths_from k cube self.now)) }
         ensures none { IfNone result ((k : ℕ) (cube : List Literal) → 2 ^ 64 ≤ length (paths_from k cube self.now)) }
     {
         match self {
-            Node::Leaf(_) => Some(1),
-            Node::Fork { sides, .. } => {
+            TreeNode::Leaf(_) => Some(1),
+            TreeNode::Fork { sides, .. } => {
                 let (below, above) = &**sides;
                 let low = below.count()?;
                 let high = above.count()?;
@@ -70,7 +70,7 @@ impl<T> Tree<T> {
     }
 
     /// The decision tree whose paths they are.
-    pub fn root(&self) -> &Node<T>
+    pub fn root(&self) -> &TreeNode<T>
         ensures good { IsGood self.now.faults result.now }
         ensures paths { self.now.paths ≡ paths_of self.now.faults result.now }
     {
@@ -80,7 +80,7 @@ impl<T> Tree<T> {
 
 impl<T: Copy> Tree<T> {
     /// The tree of a root.
-    pub(crate) fn of(alloc: Global, faults: u8, root: Node<T>) -> Result<Tree<T>, OutOfMemory>
+    pub(crate) fn of(alloc: Global, faults: u8, root: TreeNode<T>) -> Result<Tree<T>, OutOfMemory>
         requires { IsGood faults root }
         ensures is { IfOk result (λ t. t ≡ record { faults = faults; paths = paths_of faults root }) }
         ensures each { IfOk result (λ t. HasOnePathEach t.faults t.paths) }
@@ -102,7 +102,7 @@ impl<T: Copy> Tree<T> {
         ensures tidy { IfOk result (λ t. All (IsTidyPath t.faults) t.paths) }
         ensures pass { IfOk result (λ t. (test : ℕ → Bool) → DoPathsPass test t.paths) }
     {
-        Tree::of(alloc, k, Node::Leaf(value))
+        Tree::of(alloc, k, TreeNode::Leaf(value))
     }
 
     /// The value of the path that matches a scenario.
@@ -223,8 +223,8 @@ impl Tree<bool> {
         ensures { OnTrue result (IsConstant true self.now.faults self.now) }
     {
         match &*self.root {
-            Node::Leaf(value) => *value,
-            Node::Fork { .. } => false,
+            TreeNode::Leaf(value) => *value,
+            TreeNode::Fork { .. } => false,
         }
     }
 }
@@ -239,14 +239,14 @@ fn is_time_from(time: Option<u64>, least: u64) -> bool
     least <= time
 }
 
-impl Node<Option<u64>> {
+impl TreeNode<Option<u64>> {
     /// Whether each value is a time of at least this.
     fn is_at_least(&self, least: u64) -> bool
         ensures { OnTrue result (IsAtLeast least self.now) }
     {
         match self {
-            Node::Leaf(time) => is_time_from(*time, least),
-            Node::Fork { sides, .. } => {
+            TreeNode::Leaf(time) => is_time_from(*time, least),
+            TreeNode::Fork { sides, .. } => {
                 let (below, above) = &**sides;
                 if !below.is_at_least(least) {
                     return false;

@@ -7,13 +7,13 @@ ghost use Rattle.cpg_tree.specs.Tree.{HasOnePathEach, IsTidyPath, DoPathsPass, I
 ghost use Rattle.cpg_tree.specs.Variables.{AreCountsFrom, LeavesCounts, IsValueNode};
 
 use crate::Tree;
-use crate::node::Node;
+use crate::node::TreeNode;
 use crate::space::Space;
 use cpg_base::{FIRST_VALUE, OutOfMemory};
 use std::alloc::Global;
 
 /// The count of a process, if it is `first` or more.
-fn counts_from(alloc: Global, process: u8, first: u8, k: u8) -> Result<Node<u8>, OutOfMemory>
+fn counts_from(alloc: Global, process: u8, first: u8, k: u8) -> Result<TreeNode<u8>, OutOfMemory>
     requires process { process < 128 }
     requires first { first ≤ k }
     ensures counts { IfOk result (AreCountsFrom process first k) }
@@ -21,25 +21,25 @@ fn counts_from(alloc: Global, process: u8, first: u8, k: u8) -> Result<Node<u8>,
     ensures pass { IfOk result (λ r. (test : ℕ → Bool) → test process ≡ true → DoForksPass test r) }
 {
     if first == k {
-        return Ok(Node::Leaf(k));
+        return Ok(TreeNode::Leaf(k));
     }
     let above = counts_from(alloc, process, first + 1, k)?;
-    Node::fork(alloc, process, first, Node::Leaf(first), above)
+    TreeNode::fork(alloc, process, first, TreeNode::Leaf(first), above)
 }
 
 /// The value of a condition.
-fn value_node(alloc: Global, condition: u8) -> Result<Node<bool>, OutOfMemory>
+fn value_node(alloc: Global, condition: u8) -> Result<TreeNode<bool>, OutOfMemory>
     requires { condition < 32 }
     ensures value { IfOk result (IsValueNode (128 + condition)) }
     ensures fit { IfOk result (λ r. (k : ℕ) (room : Space) → IsWhole k room → IsFit room r) }
     ensures pass { IfOk result (λ r. (test : ℕ → Bool) → test (128 + condition) ≡ true → DoForksPass test r) }
 {
-    Node::fork(
+    TreeNode::fork(
         alloc,
         FIRST_VALUE + condition,
         0,
-        Node::Leaf(false),
-        Node::Leaf(true),
+        TreeNode::Leaf(false),
+        TreeNode::Leaf(true),
     )
 }
 

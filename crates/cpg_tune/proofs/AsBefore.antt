@@ -55,17 +55,30 @@ retuned_within g parts faults w a few = record {
   few_edges = w.few_edges;
   few_conditions = subst (λ n. n ≤ 32) (sym (conditions_same g parts faults a.one_each)) w.few_conditions;
   slots = w.slots;
-  processes = λ i d l. (let within : i < length g.processes = subst (λ n. i < n) (count_same g parts faults a.one_each) l in subst (IsProcessWithin (length g.nodes)) (sym (each_at g.processes parts i d a.one_each within)) (process_within i d within));
+  processes = λ i d l. (let within : i < length g.processes = subst (λ n. i < n) (count_same g parts faults a.one_each) l in
+      subst (IsProcessWithin (length g.nodes)) (sym (each_at g.processes parts i d a.one_each within)) (process_within i d within));
   edges = subst (λ n. All (IsEdgeWithin n) g.edges) (sym (count_same g parts faults a.one_each)) w.edges;
   node_names = w.node_names;
-  process_names = λ i j d before l. (let within : j < length g.processes = subst (λ n. j < n) (count_same g parts faults a.one_each) l in λ same. w.process_names i j d before within (sym (name_at i d (omega (arith, before, within))) ∙ (same ∙ name_at j d within)));
+  process_names = λ i j d before l. (let within : j < length g.processes = subst (λ n. j < n) (count_same g parts faults a.one_each) l in
+      λ same. w.process_names i j d before within (sym (name_at i d (omega (arith, before, within))) ∙ (same ∙ name_at j d within)));
   own_slots = w.own_slots;
   order = subst (λ n. IfSome g.order (IsOrderWithin n)) (sym (count_same g parts faults a.one_each)) w.order;
 }
   where
     process_within : (i : ℕ) (d : Process) → i < length g.processes → IsProcessWithin (length g.nodes) (in_parts (get_or g.processes i d) (get_or parts i 0))
     process_within i d l = let h = w.processes i d l in
-        record { node = h.node; works = h.works; wcet = h.wcet; divided = a.divided i 0 (omega (arith, l, a.one_each)); parts = a.few i 0 (omega (arith, l, a.one_each)); alpha = h.alpha; chi = h.chi; mu = h.mu; release = h.release; deadline = h.deadline }
+        record {
+          node = h.node;
+          works = h.works;
+          wcet = h.wcet;
+          divided = a.divided i 0 (omega (arith, l, a.one_each));
+          parts = a.few i 0 (omega (arith, l, a.one_each));
+          alpha = h.alpha;
+          chi = h.chi;
+          mu = h.mu;
+          release = h.release;
+          deadline = h.deadline;
+        }
 
     name_at : (i : ℕ) (d : Process) → i < length g.processes → (get_or (in_parts_each g.processes parts) i d).name ≡ (get_or g.processes i d).name
     name_at i d l = ap (λ (p : Process). p.name) (each_at g.processes parts i d a.one_each l)
@@ -104,7 +117,8 @@ best_at g p d l =
     get_or-map f g.processes p (process_at g p) d l ∙ ap f (get_or_default g.processes p _ _ l)
 
 -- one more of the best parts
-pub best_parts_push : (g : Graph) (p best : ℕ) (parts : List ℕ) → p < process_count g → parts ≡ take p (best_parts g) → best ≡ best_of (process_at g p) g.faults → parts ++ best ∷ [] ≡ take (p + 1) (best_parts g)
+pub best_parts_push : (g : Graph) (p best : ℕ) (parts : List ℕ) → p < process_count g → parts ≡ take p (best_parts g) → best ≡ best_of (process_at g p) g.faults →
+    parts ++ best ∷ [] ≡ take (p + 1) (best_parts g)
 best_parts_push g p best parts l is e =
     let long = length-map g.processes (λ (q : Process). best_of q g.faults) in
     ap₂ (λ xs x. xs ++ x ∷ []) is (e ∙ sym (best_at g p 0 l)) ∙ sym (take_more (best_parts g) p 0 (omega (arith, l, long)))

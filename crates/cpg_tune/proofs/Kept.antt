@@ -1,5 +1,6 @@
 -- What the rules read of a graph is as it was with other parts and another fault number.
-use Rattle.std.proofs.Common.{ℕ, zero, suc, ◌+◌, ◌-◌, ◌<◌, ◌≤◌, ◌≡◌, ◌==◌, if◌then◌else◌, Bool, true, false, not, ◌&&◌, ◌||◌, List, [], ◌∷◌, length, get_or, filter, refl, sym, ap, ap₂, ◌∙◌, subst, arith, ltb-true}
+use Rattle.std.proofs.Common.{ℕ, zero, suc, ◌+◌, ◌-◌, ◌<◌, ◌≤◌, ◌≡◌, ◌==◌, if◌then◌else◌, Bool, true, false, not, ◌&&◌, ◌||◌, List, [], ◌∷◌, length, get_or, filter, refl, sym, ap, ap₂, ◌∙◌, subst}
+use Rattle.std.proofs.Common.{arith, ltb-true}
 use Rattle.std.specs.Prelude.{nat_lt, position, unwrap_or, IfSome, IsPermutation, Option, None, Some}
 use Rattle.std.proofs.lemmas.Bool.{both_ways}
 use Rattle.std.specs.List.{list_any, list_all}
@@ -8,7 +9,8 @@ use Rattle.cpg_base.specs.declared.process.Slot.{Slot}
 use Rattle.cpg_base.specs.declared.item.Item.{Item}
 use Rattle.cpg_base.specs.declared.item.Item.TheVariants.{Start, Message, Broadcast}
 use Rattle.cpg_base.specs.Numbers.{numbers_below}
-use Rattle.cpg_base.specs.Graph.{Graph, process_count, edge_count, condition_count, item_count, process_at, edge_at, node_of, source, inputs, is_message, process_of, item_at, is_sent_item, producer_of_item, producer, home}
+use Rattle.cpg_base.specs.Graph.{Graph, process_count, edge_count, condition_count, item_count, process_at, edge_at, node_of, source, inputs, is_message, process_of, item_at, is_sent_item}
+use Rattle.cpg_base.specs.Graph.{producer_of_item, producer, home}
 use Rattle.cpg_base.specs.Activity.{is_active, takes, value_of, activation_by, activation_within, activation, active, live}
 use Rattle.cpg_base.specs.WellFormed.{HasSingleJoins, HasSenderSlots}
 use Rattle.cpg_base.proofs.Inputs.{same_activation_by}
@@ -70,7 +72,8 @@ module _ (g : Graph) (parts : List ℕ) (faults : ℕ) (one_each : length parts 
   within_same zero values p = refl
   within_same (suc depth) values p =
       ap (λ join. activation_by join (inputs g p) (λ e. is_active (activation_within depth h values (source g e)) && takes (edge_at g e).when (value_of h values (source g e)))) (join_same p)
-      ∙ same_activation_by (process_at g p).join (inputs g p) _ _ (λ e among. ap₂ (λ a value. is_active a && takes (edge_at g e).when value) (within_same depth values (source g e)) (value_same values (source g e)))
+      ∙ same_activation_by (process_at g p).join (inputs g p) _ _
+      (λ e among. ap₂ (λ a value. is_active a && takes (edge_at g e).when value) (within_same depth values (source g e)) (value_same values (source g e)))
 
   activation_same : (values : List Bool) (p : ℕ) → activation h values p ≡ activation g values p
   activation_same values p = ap (λ n. activation_within n h values p) processes_same ∙ within_same (process_count g) values p

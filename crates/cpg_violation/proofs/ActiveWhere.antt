@@ -32,7 +32,8 @@ value_holds s c b = ap (λ n. nat_le (number_of_value b) n && nat_le n (number_o
 
 -- ---- the steps
 
-of_arms : (v m : Bool) (wanted : Bool) (off on : Activation) → ((same_bool false v && (m && same_bool wanted (is_active off))) || (same_bool true v && (m && same_bool wanted (is_active on)))) ≡ (m && same_bool wanted (is_active (cond v on off)))
+of_arms : (v m : Bool) (wanted : Bool) (off on : Activation) → ((same_bool false v && (m && same_bool wanted (is_active off))) || (same_bool true v && (m && same_bool wanted (is_active on)))) ≡
+    (m && same_bool wanted (is_active (cond v on off)))
 of_arms true m wanted off on = refl
 of_arms false m wanted off on = or-false (m && same_bool wanted (is_active off))
 
@@ -45,7 +46,8 @@ never true m n x e = ap (λ b. (b && n) && x) e
 never false m n x e = refl
 
 module _ (g : Graph) (order : List ℕ) (by : List (List Literal)) (wanted : Bool) (cube : List Literal) where
-  pub at_leaf : (a : Activation) (o : Option Scenario) → same_bool wanted (is_active a) ≡ true → IsFirst g order (is_left by cube) o → IsFirst g order (λ s. is_left by cube s && comes_to (Leaf a) wanted s) o
+  pub at_leaf : (a : Activation) (o : Option Scenario) → same_bool wanted (is_active a) ≡ true → IsFirst g order (is_left by cube) o →
+      IsFirst g order (λ s. is_left by cube s && comes_to (Leaf a) wanted s) o
   at_leaf a o e f = first_same g order (is_left by cube) (λ s. is_left by cube s && comes_to (Leaf a) wanted s) o (λ s _. with_true (is_left by cube s) (same_bool wanted (is_active a)) e) f
 
   pub at_other_leaf : (a : Activation) → same_bool wanted (is_active a) ≡ false → IsFirst g order (λ s. is_left by cube s && comes_to (Leaf a) wanted s) None
@@ -64,10 +66,12 @@ module _ (g : Graph) (order : List ℕ) (by : List (List Literal)) (wanted : Boo
       (first_or g order _ _ a b f h)
 
   module _ (l : Literal) (tree : Guard) where
-    pub where_holds : (part : List Literal) (o : Option Scenario) → ((s : Scenario) → matches part s ≡ (holds s l && matches cube s)) → IsFirst g order (λ s. is_left by part s && comes_to tree wanted s) o
+    pub where_holds : (part : List Literal) (o : Option Scenario) → ((s : Scenario) → matches part s ≡ (holds s l && matches cube s)) →
+        IsFirst g order (λ s. is_left by part s && comes_to tree wanted s) o
         → IsFirst g order (λ s. holds s l && (is_left by cube s && comes_to tree wanted s)) o
     where_holds part o both f = first_same g order (λ s. is_left by part s && comes_to tree wanted s) (λ s. holds s l && (is_left by cube s && comes_to tree wanted s)) o
-        (λ s _. ap (λ m. (m && not (list_any (λ b. matches b s) by)) && comes_to tree wanted s) (both s) ∙ moved (holds s l) (matches cube s) (not (list_any (λ b. matches b s) by)) (comes_to tree wanted s)) f
+        (λ s _. ap (λ m. (m && not (list_any (λ b. matches b s) by)) && comes_to tree wanted s) (both s) ∙
+        moved (holds s l) (matches cube s) (not (list_any (λ b. matches b s) by)) (comes_to tree wanted s)) f
 
     pub where_never : ((s : Scenario) → (holds s l && matches cube s) ≡ false) → IsFirst g order (λ s. holds s l && (is_left by cube s && comes_to tree wanted s)) None
     where_never none = λ s _. never (holds s l) (matches cube s) (not (list_any (λ b. matches b s) by)) (comes_to tree wanted s) (none s)

@@ -24,7 +24,8 @@ module _ (columns : List Column) (cube : List Literal) (places : List ℕ) where
         (λ (q : get_or places k d ≡ i). subst (λ j. Contains (kept ++ get_or places k d ∷ []) j) q (Contains-push kept (get_or places k d)))
         (Contains-push_cases (take k places) (get_or places k d) i (subst (λ xs. Contains xs i) (take_more places k d within) c))
 
-    pub meets_skip : ((s : Scenario) → get_or places k d < length columns → (matches cube s && matches (column_at columns (get_or places k d)).cube s) ≡ false) → MeetsFirst k kept → MeetsFirst (k + 1) kept
+    pub meets_skip : ((s : Scenario) → get_or places k d < length columns → (matches cube s && matches (column_at columns (get_or places k d)).cube s) ≡ false) → MeetsFirst k kept →
+        MeetsFirst (k + 1) kept
     meets_skip off h s i c l m e = ⊎_elim
         (λ (b : Contains (take k places) i). h s i b l m e)
         (λ (q : get_or places k d ≡ i). absurd (both_ways (matches cube s && matches (column_at columns (get_or places k d)).cube s)

@@ -21,7 +21,8 @@ pub any_filter : {X : Type 0} (test keep : X → Bool) (xs : List X) → list_an
 any_filter test keep [] = refl
 any_filter test keep (x ∷ xs) = go (keep x) (any_filter test keep xs)
   where
-    go : (b : Bool) → list_any test (filter keep xs) ≡ list_any (λ x. keep x && test x) xs → list_any test (cond b (x ∷ filter keep xs) (filter keep xs)) ≡ ((b && test x) || list_any (λ x. keep x && test x) xs)
+    go : (b : Bool) → list_any test (filter keep xs) ≡ list_any (λ x. keep x && test x) xs →
+        list_any test (cond b (x ∷ filter keep xs) (filter keep xs)) ≡ ((b && test x) || list_any (λ x. keep x && test x) xs)
     go true ih = ap (λ r. test x || r) ih
     go false ih = ih
 

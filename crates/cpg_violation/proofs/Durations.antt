@@ -10,7 +10,8 @@ use Rattle.cpg_cube.proofs.Boxes.{number_within, top_of_count}
 
 pub duration_grows : (g : Graph) (p m n : ℕ) → m ≤ n → duration g p m ≤ duration g p n
 duration_grows g p m n h =
-    let more : m * ((process_at g p).mu + div_ceil (process_at g p).wcet (process_at g p).parts + (process_at g p).alpha) ≤ n * ((process_at g p).mu + div_ceil (process_at g p).wcet (process_at g p).parts + (process_at g p).alpha) =
+    let more : m * ((process_at g p).mu + div_ceil (process_at g p).wcet (process_at g p).parts + (process_at g p).alpha) ≤ n *
+    ((process_at g p).mu + div_ceil (process_at g p).wcet (process_at g p).parts + (process_at g p).alpha) =
     mul-le-mul_right ((process_at g p).mu + div_ceil (process_at g p).wcet (process_at g p).parts + (process_at g p).alpha) h in
     omega arith
 

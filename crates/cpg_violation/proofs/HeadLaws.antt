@@ -21,7 +21,12 @@ same_but_extras g h k = rw (k.faults, k.nodes, k.processes.processes, k.edges) r
 -- tables under it are tables under the graph's own head
 pub tables_of_graph : (g : Graph) (h : Head) (tables : List NodeTable) → IsHeadFor g h → AreTablesOf h tables → AreTablesOf (head_of g) tables
 tables_of_graph g h tables k are = subst (λ (head : Head). AreTablesOf head tables) (same_but_extras g h k)
-    (record { count = are.count; each = λ node l. let t = are.each node l in record { faults = t.faults; first_broadcast = t.first_broadcast; own = t.own; starts = t.starts; sends = t.sends; hears = t.hears; lawful = t.lawful }; few = are.few })
+    (record {
+      count = are.count;
+      each = λ node l. let t = are.each node l in
+          record { faults = t.faults; first_broadcast = t.first_broadcast; own = t.own; starts = t.starts; sends = t.sends; hears = t.hears; lawful = t.lawful };
+      few = are.few;
+    })
 
 -- and a node hears by it what it hears in the graph
 pub hears_of_graph : (g : Graph) (h : Head) → IsHeadFor g h → IsWithinLimits g → (node : ℕ) → node < length g.nodes → hears_of h node ≡ heard_by g node

@@ -6,12 +6,17 @@ use Rattle.std.proofs.lemmas.List.Elements.{All-weaker, All-more}
 use Rattle.cpg_cube.specs.Column.{Column}
 
 -- a walk takes one element more
-pub fold_more : {X : Type 0} (f : ℕ → X → ℕ) (value next : ℕ) (xs : List X) (i : ℕ) (d x : X) → i < length xs → x ≡ get_or xs i d → next ≡ f value x → fold f next (drop (i + 1) xs) ≡ fold f value (drop i xs)
+pub fold_more : {X : Type 0} (f : ℕ → X → ℕ) (value next : ℕ) (xs : List X) (i : ℕ) (d x : X) → i < length xs → x ≡ get_or xs i d → next ≡ f value x →
+    fold f next (drop (i + 1) xs) ≡ fold f value (drop i xs)
 fold_more f value next xs i d x l is by = ap (λ v. fold f v (drop (i + 1) xs)) (by ∙ ap (f value) is) ∙ sym (ap (fold f value) (drop_more xs i d l))
 
 -- times that none is before or after
-pub not_before_more : (columns : List Column) (k : ℕ) (c : Column) (first less : ℕ) → k < length columns → c ≡ get_or columns k c → All (λ (d : Column). first ≤ d.time) (take k columns) → less ≤ first → less ≤ c.time → All (λ (d : Column). less ≤ d.time) (take (k + 1) columns)
-not_before_more columns k c first less l is before a b = All-more (λ (d : Column). less ≤ d.time) columns k c l (All-weaker (λ (d : Column). first ≤ d.time) (λ (d : Column). less ≤ d.time) (λ d m. omega arith) (take k columns) before) (subst (λ (d : Column). less ≤ d.time) is b)
+pub not_before_more : (columns : List Column) (k : ℕ) (c : Column) (first less : ℕ) → k < length columns → c ≡ get_or columns k c → All (λ (d : Column). first ≤ d.time) (take k columns) →
+    less ≤ first → less ≤ c.time → All (λ (d : Column). less ≤ d.time) (take (k + 1) columns)
+not_before_more columns k c first less l is before a b = All-more (λ (d : Column). less ≤ d.time) columns k c l
+    (All-weaker (λ (d : Column). first ≤ d.time) (λ (d : Column). less ≤ d.time) (λ d m. omega arith) (take k columns) before) (subst (λ (d : Column). less ≤ d.time) is b)
 
-pub not_after_more : (columns : List Column) (k : ℕ) (c : Column) (last more : ℕ) → k < length columns → c ≡ get_or columns k c → All (λ (d : Column). d.time ≤ last) (take k columns) → last ≤ more → c.time ≤ more → All (λ (d : Column). d.time ≤ more) (take (k + 1) columns)
-not_after_more columns k c last more l is before a b = All-more (λ (d : Column). d.time ≤ more) columns k c l (All-weaker (λ (d : Column). d.time ≤ last) (λ (d : Column). d.time ≤ more) (λ d m. omega arith) (take k columns) before) (subst (λ (d : Column). d.time ≤ more) is b)
+pub not_after_more : (columns : List Column) (k : ℕ) (c : Column) (last more : ℕ) → k < length columns → c ≡ get_or columns k c → All (λ (d : Column). d.time ≤ last) (take k columns) → last ≤ more →
+    c.time ≤ more → All (λ (d : Column). d.time ≤ more) (take (k + 1) columns)
+not_after_more columns k c last more l is before a b = All-more (λ (d : Column). d.time ≤ more) columns k c l
+    (All-weaker (λ (d : Column). d.time ≤ last) (λ (d : Column). d.time ≤ more) (λ d m. omega arith) (take k columns) before) (subst (λ (d : Column). d.time ≤ more) is b)

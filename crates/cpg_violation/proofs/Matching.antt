@@ -42,7 +42,8 @@ module _ (g : Graph) (tables : List NodeTable) (s : Scenario) (law : IsScenario 
     literal_active d k m l c =
         let at = ap (λ (c : Column). matches c.cube s) k.2 ∙ m in
         let none = (or_parts _ _ (at_rule Rule.Activity rules.0 k.0 d k.1 at)).1 in
-        not-false _ (from_any_false (λ (l : Literal). not (active g s.values (process_of_variable g l.variable))) d.cube l (sym (ap (λ (c : Column). list_any (λ (l : Literal). not (active g s.values (process_of_variable g l.variable))) c.cube) k.2) ∙ none) c)
+        not-false _ (from_any_false (λ (l : Literal). not (active g s.values (process_of_variable g l.variable))) d.cube l
+        (sym (ap (λ (c : Column). list_any (λ (l : Literal). not (active g s.values (process_of_variable g l.variable))) c.cube) k.2) ∙ none) c)
 
     -- an active item has one
     pub match_where : item_active g s.values (item_at g x) ≡ true → (d : Column) × Contains (columns_of tables x) d × (matches d.cube s ≡ true)

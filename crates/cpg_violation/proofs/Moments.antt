@@ -14,7 +14,8 @@ use Rattle.cpg_table.specs.Valid.{ends_of, is_by, breaks_inputs_of}
 
 module _ (tables : List NodeTable) where
   pub in_at : (x : ℕ) (s : Scenario) (d : Column) → Contains (columns_of tables x) d → matches d.cube s ≡ true → Contains (at tables x s) d.time
-  in_at x s d h m = Contains-map (λ (c : Column). c.time) (filter (λ (c : Column). matches c.cube s) (columns_of tables x)) d (Contains-filter (λ (c : Column). matches c.cube s) (columns_of tables x) d m h)
+  in_at x s d h m = Contains-map (λ (c : Column). c.time) (filter (λ (c : Column). matches c.cube s) (columns_of tables x)) d
+      (Contains-filter (λ (c : Column). matches c.cube s) (columns_of tables x) d m h)
 
   pub at_parts : (x : ℕ) (s : Scenario) (time : ℕ) → Contains (at tables x s) time → (d : Column) × Contains (columns_of tables x) d × (matches d.cube s ≡ true) × (d.time ≡ time)
   at_parts x s time h =

@@ -1,5 +1,6 @@
 -- Which places a cut parts where; and what is found at places among which a column is that passes a test.
-use Rattle.std.proofs.Common.{ℕ, ◌+◌, ◌<◌, ◌≤◌, ◌≡◌, Bool, true, false, not, ◌&&◌, cond, List, [], ◌∷◌, ◌++◌, length, get_or, take, Contains, arith, refl, sym, ap, ◌∙◌, subst, ⊎_elim, true≢false, lt-ltb, ltb-true}
+use Rattle.std.proofs.Common.{ℕ, ◌+◌, ◌<◌, ◌≤◌, ◌≡◌, Bool, true, false, not, ◌&&◌, cond, List, [], ◌∷◌, ◌++◌, length, get_or, take, Contains, arith, refl, sym, ap, ◌∙◌, subst, ⊎_elim, true≢false}
+use Rattle.std.proofs.Common.{lt-ltb, ltb-true}
 use Rattle.std.specs.Prelude.{nat_le, nat_lt, slice_get, Some}
 use Rattle.std.specs.List.{list_any}
 use Rattle.std.proofs.lemmas.Bool.{and_from, and_parts}
@@ -20,7 +21,8 @@ not_itself false true e f = true≢false e
 not_itself false false e f = true≢false (sym f)
 
 -- the side of a cut to which a scenario comes
-pub side_of : (b : Bool) (below above found : List ℕ) (i : ℕ) → (b ≡ true → Contains below i → Contains found i) → (b ≡ false → Contains above i → Contains found i) → Contains (cond b below above) i → Contains found i
+pub side_of : (b : Bool) (below above found : List ℕ) (i : ℕ) → (b ≡ true → Contains below i → Contains found i) → (b ≡ false → Contains above i → Contains found i) →
+    Contains (cond b below above) i → Contains found i
 side_of true below above found i h k c = h refl c
 side_of false below above found i h k c = k refl c
 
@@ -49,7 +51,8 @@ module _ (columns : List Column) (v most : ℕ) (below : Bool) (places kept : Li
       → KeepsFirst columns v most below places kept k k kept → KeepsFirst columns v most below places kept k (k + 1) kept
   keeps_skip off h s i c l m e = ⊎_elim
       (λ (b : Contains (take k places) i). h s i b l m e)
-      (λ (q : get_or places k d ≡ i). absurd (not_itself below (nat_le (number_of s v) most) e (off s (subst (λ j. j < length columns) (sym q) l) (subst (λ j. matches (column_at columns j).cube s ≡ true) (sym q) m))))
+      (λ (q : get_or places k d ≡ i). absurd (not_itself below (nat_le (number_of s v) most) e
+      (off s (subst (λ j. j < length columns) (sym q) l) (subst (λ j. matches (column_at columns j).cube s ≡ true) (sym q) m))))
       (Contains-push_cases (take k places) (get_or places k d) i (subst (λ xs. Contains xs i) (take_more places k d within) c))
 
 -- what a cut's sides find, the cut finds
@@ -69,7 +72,8 @@ any_at test columns places among = same_truth (list_any test columns) (list_any 
     let i : ℕ = found.1.0 in
     let at : column_at columns i ≡ found.0 = get_or_default columns i _ found.0 found.1.1 ∙ found.1.2 in
     let passes : test (column_at columns i) ≡ true = ap test at ∙ found.2 in
-    list_any_true (λ i. nat_lt i (length columns) && test (column_at columns i)) places i (among i found.1.1 passes) (and_from (nat_lt i (length columns)) (test (column_at columns i)) (lt-ltb i (length columns) found.1.1) passes))
+    list_any_true (λ i. nat_lt i (length columns) && test (column_at columns i)) places i (among i found.1.1 passes)
+    (and_from (nat_lt i (length columns)) (test (column_at columns i)) (lt-ltb i (length columns) found.1.1) passes))
     (λ e. let found = list_any_parts (λ i. nat_lt i (length columns) && test (column_at columns i)) places e in
     let parts = and_parts (nat_lt found.0 (length columns)) (test (column_at columns found.0)) found.2 in
     list_any_true test columns (column_at columns found.0) (Contains-get_or columns found.0 _ (ltb-true _ _ parts.0)) parts.1)

@@ -52,7 +52,8 @@ pub record AreSoFar (g : Graph) (tables : List NodeTable) (rule : Rule) (x : ℕ
 pub first_none : (g : Graph) (tables : List NodeTable) (rule : Rule) → AreSoFar g tables rule 0 []
 first_none g tables rule = record { long = refl; sure = none_sure g tables rule }
 
-pub one_more : (g : Graph) (tables : List NodeTable) (rule : Rule) (x : ℕ) (marks : List Bool) (b : Bool) → AreSoFar g tables rule x marks → OnTrue b (IsSure g tables rule x) → AreSoFar g tables rule (x + 1) (marks ++ b ∷ [])
+pub one_more : (g : Graph) (tables : List NodeTable) (rule : Rule) (x : ℕ) (marks : List Bool) (b : Bool) → AreSoFar g tables rule x marks → OnTrue b (IsSure g tables rule x) →
+    AreSoFar g tables rule (x + 1) (marks ++ b ∷ [])
 one_more g tables rule x marks b before here = record {
   long = omega (arith, length-append marks (b ∷ []), before.long);
   sure = λ y l e. marked_push (λ y. y < item_count g → IsSure g tables rule y) x marks before.long (λ z f k. before.sure z k f) b (of_true b here (λ h k. h)) y e l;

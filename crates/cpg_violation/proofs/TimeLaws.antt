@@ -35,7 +35,8 @@ module _ (g : Graph) (tables : List NodeTable) (x : ℕ) where
   loose_sure loose = sure_of g tables Rule.Frozen x refl (λ s c earlier law k m. ap (λ b. b && differs_from c.time (find (is_possible g) (columns_of tables x))) loose)
 
   pub frozen_sure : (time : ℕ) → All (λ (c : Column). c.time ≡ time) (columns_of tables x) → IsSure g tables Rule.Frozen x
-  frozen_sure time all = sure_of g tables Rule.Frozen x refl (λ s c earlier law k m. ap (λ b. is_frozen g x && b) (same c k (find (is_possible g) (columns_of tables x)) refl) ∙ and-false (is_frozen g x))
+  frozen_sure time all = sure_of g tables Rule.Frozen x refl
+      (λ s c earlier law k m. ap (λ b. is_frozen g x && b) (same c k (find (is_possible g) (columns_of tables x)) refl) ∙ and-false (is_frozen g x))
     where
       same : (c : Column) → Contains (columns_of tables x) c → (o : Option Column) → find (is_possible g) (columns_of tables x) ≡ o → differs_from c.time o ≡ false
       same c k None e = refl
@@ -49,5 +50,7 @@ module _ (g : Graph) (tables : List NodeTable) (x : ℕ) where
 
   pub due_sure : All (λ (c : Column). (s : Scenario) → IsScenario g s → matches c.cube s ≡ true → c.time + duration g x (fault_of s x) ≤ due g x) (columns_of tables x) → IsSure g tables Rule.Due x
   due_sure all = sure_of g tables Rule.Due x refl (λ s c earlier law k m.
-      ap (λ b. nat_lt x (process_count g) && b) (le-ltb (due g x) (c.time + duration g x (fault_of s x)) (All-contains (λ (c : Column). (s : Scenario) → IsScenario g s → matches c.cube s ≡ true → c.time + duration g x (fault_of s x) ≤ due g x) (columns_of tables x) c all k s law m))
+      ap (λ b. nat_lt x (process_count g) && b)
+      (le-ltb (due g x) (c.time + duration g x (fault_of s x))
+      (All-contains (λ (c : Column). (s : Scenario) → IsScenario g s → matches c.cube s ≡ true → c.time + duration g x (fault_of s x) ≤ due g x) (columns_of tables x) c all k s law m))
       ∙ and-false (nat_lt x (process_count g)))

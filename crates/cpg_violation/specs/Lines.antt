@@ -4,7 +4,7 @@ use Rattle.std.specs.List.{fold}
 use Rattle.cpg_table.specs.Table.{NodeTable, columns_of}
 use Rattle.cpg_cube.specs.Column.{Column}
 use Rattle.cpg_violation.specs.Sieves.{IsSieveOf}
-use Rattle.cpg_violation.specs.declared.lines.Line.{Line}
+use Rattle.cpg_violation.specs.declared.lines.SievedLine.{SievedLine}
 
 -- the least time of columns; the greatest number if there is none
 abbrev pub first_time : List Column → ℕ
@@ -15,13 +15,13 @@ abbrev pub last_time : List Column → ℕ
 last_time columns = fold (λ time d. max time d.time) 0 columns
 
 -- these columns, with a sieve of them, and times that none is before or after
-pub record IsLine (columns : List Column) (line : Line) : Type 0 where
+pub record IsLine (columns : List Column) (line : SievedLine) : Type 0 where
   pub all : line.columns.now ≡ columns
   pub sieve : IsSieveOf columns line.sieve
   pub first : All (λ d. line.first ≤ d.time) columns
   pub last : All (λ d. d.time ≤ line.last) columns
 
 -- the lines of the first items
-pub record AreLines (tables : List NodeTable) (items : ℕ) (lines : List Line) : Type 0 where
+pub record AreLines (tables : List NodeTable) (items : ℕ) (lines : List SievedLine) : Type 0 where
   pub count : length lines ≡ items
-  pub each : (x : ℕ) (d : Line) → x < items → IsLine (columns_of tables x) (get_or lines x d)
+  pub each : (x : ℕ) (d : SievedLine) → x < items → IsLine (columns_of tables x) (get_or lines x d)

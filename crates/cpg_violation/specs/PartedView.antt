@@ -1,8 +1,8 @@
 -- The parted places that a node is.
-use Rattle.cpg_violation.specs.declared.sieve.Node.{Node}
-use Rattle.cpg_violation.specs.declared.sieve.Node.TheVariants.{Leaf as LeafNode, Cut as CutNode}
+use Rattle.cpg_violation.specs.declared.sieve.SieveNode.{SieveNode}
+use Rattle.cpg_violation.specs.declared.sieve.SieveNode.TheVariants.{Leaf as LeafNode, Cut as CutNode}
 use Rattle.cpg_violation.specs.Parted.{Parted, Leaf, Cut}
 
-abbrev pub parted_of : Node → Parted
+abbrev pub parted_of : SieveNode → Parted
 parted_of (LeafNode places) = Leaf places.items
 parted_of (CutNode v most below above) = Cut v most below.value above.value

@@ -12,7 +12,7 @@ use std::alloc::Global;
 
 /// The columns of an item, with a sieve of them, and the time of the first and of the last.
 #[derive(Drop)]
-pub struct Line<'a> {
+pub struct SievedLine<'a> {
     pub columns: &'a [Entry],
     pub sieve: Sieve,
     /// No column is at an earlier time.
@@ -46,12 +46,12 @@ pub fn last_time(columns: &[Entry]) -> u64
 }
 
 /// The line of these columns.
-fn line_of<'a>(alloc: Global, columns: &'a [Entry]) -> Result<Line<'a>, OutOfMemory>
+fn line_of<'a>(alloc: Global, columns: &'a [Entry]) -> Result<SievedLine<'a>, OutOfMemory>
     requires { length columns.now ≤ MOST_LOAD }
     ensures { IfOk result (IsLine columns.now) }
 {
     let sieve = Sieve::of(alloc, columns)?;
-    Ok(Line {
+    Ok(SievedLine {
         columns,
         sieve,
         first: first_time(columns),
@@ -64,7 +64,7 @@ pub fn lines_of<'a>(
     alloc: Global,
     problem: &Problem,
     tables: &'a Tables,
-) -> Result<Vec<Line<'a>>, OutOfMemory>
+) -> Result<Vec<SievedLine<'a>>, OutOfMemory>
     ensures { IfOk result (λ lines. AreLines tables.now.nodes (item_count problem.now) lines.items) }
 {
     let count = problem.item_count();

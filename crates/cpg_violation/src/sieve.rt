@@ -28,12 +28,12 @@ const SAMPLE: usize = 8;
 #[cycle(sieve)]
 #[derive(Drop)]
 pub struct Sieve {
-    node: Node,
+    node: SieveNode,
 }
 
 #[cycle(sieve)]
 #[derive(Drop)]
-enum Node {
+enum SieveNode {
     Leaf(Vec<u32>),
     Cut {
         variable: u8,
@@ -259,7 +259,7 @@ fn part(
 
 /// The places on both sides of a cut.
 #[derive(Drop)]
-struct Sides {
+struct SieveSides {
     cut: Cut,
     low: Vec<u32>,
     high: Vec<u32>,
@@ -271,7 +271,7 @@ fn sides_at(
     columns: &[Entry],
     places: &[u32],
     cut: Cut,
-) -> Result<Option<Sides>, OutOfMemory>
+) -> Result<Option<SieveSides>, OutOfMemory>
     ensures { IfOk result (λ r. IfSome r (ArePartsOf columns.now places.now)) }
 {
     let low = part(alloc, columns, places, cut, true)?;
@@ -279,7 +279,7 @@ fn sides_at(
     if !is_parted(places.len(), low.len(), high.len()) {
         return Ok(None);
     }
-    Ok(Some(Sides { cut, low, high }))
+    Ok(Some(SieveSides { cut, low, high }))
 }
 
 /// The sides of the cut that some of these places say, if it parts all of them with few on both sides.
@@ -287,7 +287,7 @@ fn sampled_sides(
     alloc: Global,
     columns: &[Entry],
     places: &[u32],
-) -> Result<Option<Sides>, OutOfMemory>
+) -> Result<Option<SieveSides>, OutOfMemory>
     ensures { IfOk result (λ r. IfSome r (ArePartsOf columns.now places.now)) }
 {
     let Some(cut) = sampled_cut(alloc, columns, places)? else {
@@ -303,7 +303,7 @@ fn tallied_sides(
     columns: &[Entry],
     places: &[u32],
     tally: &mut Tally,
-) -> Result<Option<Sides>, OutOfMemory>
+) -> Result<Option<SieveSides>, OutOfMemory>
     ensures { IfOk result (λ r. IfSome r (ArePartsOf columns.now places.now)) }
 {
     tally.keep(alloc)?;
@@ -320,7 +320,7 @@ fn sides_of(
     columns: &[Entry],
     places: &[u32],
     tally: &mut Tally,
-) -> Result<Option<Sides>, OutOfMemory>
+) -> Result<Option<SieveSides>, OutOfMemory>
     ensures { IfOk result (λ r. IfSome r (ArePartsOf columns.now places.now)) }
 {
     if places.len() <= FEW {
@@ -346,12 +346,12 @@ fn sifted(
 {
     if depth == 0 {
         return Ok(Sieve {
-            node: Node::Leaf(places),
+            node: SieveNode::Leaf(places),
         });
     }
     let Some(sides) = sides_of(alloc, columns, places.as_slice(), tally)? else {
         return Ok(Sieve {
-            node: Node::Leaf(places),
+            node: SieveNode::Leaf(places),
         });
     };
     let cut = sides.cut;
@@ -360,7 +360,7 @@ fn sifted(
     let below = Box::new(alloc, below)?;
     let above = Box::new(alloc, above)?;
     Ok(Sieve {
-        node: Node::Cut {
+        node: SieveNode::Cut {
             variable: cut.variable,
             most: cut.most,
             below,
@@ -440,11 +440,11 @@ impl Sieve {
         ensures all { IfOk result (λ _. (s : Scenario) (i : ℕ) → matches cube.now s ≡ true → Contains (places_in self.now s) i → Contains found.new.items i) }
     {
         match &self.node {
-            Node::Leaf(places) => {
+            SieveNode::Leaf(places) => {
                 found.extend_from_slice(places.as_slice())?;
                 Ok(())
             }
-            Node::Cut {
+            SieveNode::Cut {
                 variable,
                 most,
                 below,

@@ -78,7 +78,8 @@ look_two x y rest true false e d text =
     let x_is : x ≡ 45 = eqb-true x 45 e in
     let word_is : x ∷ y ∷ rest ≡ 45 ∷ y ∷ rest = ap (λ (k : ℕ). k ∷ y ∷ rest) x_is in
     let flag = first_flag y rest _ refl (subst IsUtf8 word_is text) in
-    short (y ∷ rest) flag.0 e (rw (e, d) refl) (rw x_is (ap (bytes_eq (codes "--turns")) (before_minus (y ∷ rest)) ∙ other_second y rest (y == 61) refl (not_minus y d))) (rw (e, d) refl) (rw (e, d) refl) flag.1
+    short (y ∷ rest) flag.0 e (rw (e, d) refl) (rw x_is (ap (bytes_eq (codes "--turns")) (before_minus (y ∷ rest)) ∙ other_second y rest (y == 61) refl (not_minus y d))) (rw (e, d) refl)
+    (rw (e, d) refl) flag.1
 
 pub look : (w : Text) → IsUtf8 w → Look w
 look [] text = plain refl refl refl refl

@@ -282,7 +282,13 @@ hyper_refuses ps [] h = cc
 hyper_refuses ps (t ∷ ts) h = refl
 
 pub forms_refuse : EachRefuses forms
-forms_refuse = (one_word_refuses Show, (one_word_refuses Compile, (two_words_refuses Check, (play_refuses, (two_words_refuses Node, (trial_refuses, (three_words_refuses Live, (hyper_refuses, (one_word_refuses Tune, (three_words_refuses Audit, tt))))))))))
+forms_refuse = (
+  one_word_refuses Show,
+  (
+    one_word_refuses Compile,
+    (two_words_refuses Check, (play_refuses, (two_words_refuses Node, (trial_refuses, (three_words_refuses Live, (hyper_refuses, (one_word_refuses Tune, (three_words_refuses Audit, tt)))))))),
+  ),
+)
 
 -- ---- a name that is none of theirs
 

@@ -12,4 +12,5 @@ spread_faults-requires-clause-scenarios c =
     (all_lawful_faults c.args.problem.now c.loop-process.process (omega (arith, c.loop-process-test.true, ap length c.processes.ensures.processes)))
 
 pub loop-process-preserved : goal.loop-process-preserved
-loop-process-preserved c = faults_more c.args.problem.now c.loop-process.process c.as_slice.result.now c.in_ok-list.list.items (c.as_slice.ensures.value ∙ c.loop-process.invariant) c.in_ok-list.ensures
+loop-process-preserved c = faults_more c.args.problem.now c.loop-process.process c.as_slice.result.now c.in_ok-list.list.items
+    (c.as_slice.ensures.value ∙ c.loop-process.invariant) c.in_ok-list.ensures

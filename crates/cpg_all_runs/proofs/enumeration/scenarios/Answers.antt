@@ -13,10 +13,12 @@ spread_values-requires c = record {
 }
 
 pub loop-condition-preserved : goal.loop-condition-preserved
-loop-condition-preserved c = values_more c.args.problem.now c.loop-condition.condition c.as_slice.result.now c.in_ok-list-2.list.items (c.as_slice.ensures.value ∙ c.loop-condition.invariant) c.in_ok-list-2.ensures
+loop-condition-preserved c = values_more c.args.problem.now c.loop-condition.condition c.as_slice.result.now c.in_ok-list-2.list.items
+    (c.as_slice.ensures.value ∙ c.loop-condition.invariant) c.in_ok-list-2.ensures
 
 pub returns : goal.returns
 returns c =
     let e = c.loop-condition.auto.condition-end in
-    subst (AreScenarios c.args.problem.now) (sym (c.loop-condition.invariant ∙ ap (with_values_below c.args.problem.now) (omega (arith, c.loop-condition-test.false, c.conditions-condition-end.ensures.count, e))))
+    subst (AreScenarios c.args.problem.now) (sym
+    (c.loop-condition.invariant ∙ ap (with_values_below c.args.problem.now) (omega (arith, c.loop-condition-test.false, c.conditions-condition-end.ensures.count, e))))
     (are_scenarios c.args.problem.now)

@@ -31,7 +31,8 @@ returns c = λ order frozen topological are.
     let t = c.index-runs-at.result in
     let by = c.most_exceeding-process.result in
     let read = c.in_ok-numbers.ensures ∙ ap (λ h. map (excess_in_run h) runs) c.problem.ensures.problem in
-    subst (λ n. IsExcess g urgency order frozen n c.in_ok-scenario.scenario by) (sym (c.index.ensures ∙ get_or_default numbers at c.index.result.now 0 (omega (arith, first.there, ap length read, length-map runs (excess_in_run g), c.requires.count))))
+    subst (λ n. IsExcess g urgency order frozen n c.in_ok-scenario.scenario by)
+    (sym (c.index.ensures ∙ get_or_default numbers at c.index.result.now 0 (omega (arith, first.there, ap length read, length-map runs (excess_in_run g), c.requires.count))))
     (is_excess g order topological urgency frozen list c.requires.scenarios runs are numbers at first c.in_ok-scenario.scenario t
     (λ d. c.in_ok-scenario.ensures ∙ c.index-scenarios-at.is ∙ get_or_default list at c.index-scenarios-at.result d first.there)
     (λ d. c.index-runs-at.is ∙ get_or_default runs at t d (omega (arith, first.there, c.requires.count)))

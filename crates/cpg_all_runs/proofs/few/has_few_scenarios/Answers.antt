@@ -23,7 +23,8 @@ pub returns : goal.returns
 returns c =
     let g = c.args.problem.now in
     let same : c.pow.result * c.ways-ways.result ≡ length (scenarios g) =
-    ap₂ ◌*◌ (c.pow.ensures ∙ ap (λ n. 2 ^ n) c.conditions-conditions.ensures.count) (c.ways-ways.ensures ∙ ap₂ ways (ap length c.processes.ensures.processes) c.faults.ensures.faults) ∙ sym (length-scenarios g) in (
+    ap₂ ◌*◌ (c.pow.ensures ∙ ap (λ n. 2 ^ n) c.conditions-conditions.ensures.count) (c.ways-ways.ensures ∙ ap₂ ways (ap length c.processes.ensures.processes) c.faults.ensures.faults) ∙
+    sym (length-scenarios g) in (
       λ few. omega (arith, same, leb-true (c.pow.result * c.ways-ways.result) MOST_SCENARIOS few),
       λ few. le-leb (c.pow.result * c.ways-ways.result) MOST_SCENARIOS (omega (arith, same, few)),
     )

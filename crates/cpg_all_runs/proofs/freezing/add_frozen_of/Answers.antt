@@ -7,15 +7,18 @@ use Rattle.cpg_bus.proofs.Queued.{in_queue}
 use Rattle.cpg_all_runs.proofs.freezing.add_frozen_of.Goals as goal
 
 -- one more of those after the first
-one_more : (f : ℕ → Bool) (before items : List ℕ) (first i x : ℕ) → i < length items → x ≡ get_or items i 0 → (before ++ filter f (first ∷ take i items)) ++ filter f (x ∷ []) ≡ before ++ filter f (first ∷ take (i + 1) items)
+one_more : (f : ℕ → Bool) (before items : List ℕ) (first i x : ℕ) → i < length items → x ≡ get_or items i 0 →
+    (before ++ filter f (first ∷ take i items)) ++ filter f (x ∷ []) ≡ before ++ filter f (first ∷ take (i + 1) items)
 one_more f before items first i x l is =
     append_assoc before (filter f (first ∷ take i items)) (filter f (x ∷ []))
-    ∙ ap (λ ys. before ++ ys) (sym (filter-append f (first ∷ take i items) (x ∷ [])) ∙ ap (λ y. filter f (first ∷ (take i items ++ y ∷ []))) is ∙ ap (λ ys. filter f (first ∷ ys)) (sym (take_more items i 0 l)))
+    ∙ ap (λ ys. before ++ ys) (sym (filter-append f (first ∷ take i items) (x ∷ [])) ∙ ap (λ y. filter f (first ∷ (take i items ++ y ∷ []))) is ∙
+    ap (λ ys. filter f (first ∷ ys)) (sym (take_more items i 0 l)))
 
 pub add_if_frozen-requires-in-loop-item : goal.add_if_frozen-requires-in-loop-item
 add_if_frozen-requires-in-loop-item c =
     let x = get_or c.queue-item-items.result.now c.loop-item.item-index 0 in
-    (in_queue c.args.problem.now c.args.process x (subst (λ xs. Contains xs x) c.queue-item-items.ensures (Contains-get_or c.queue-item-items.result.now c.loop-item.item-index 0 c.loop-item-test.true))).within
+    (in_queue c.args.problem.now c.args.process x
+    (subst (λ xs. Contains xs x) c.queue-item-items.ensures (Contains-get_or c.queue-item-items.result.now c.loop-item.item-index 0 c.loop-item-test.true))).within
 
 pub loop-item-preserved : goal.loop-item-preserved
 loop-item-preserved c =

@@ -31,11 +31,13 @@ returns c = λ order frozen topological are.
     let t = c.index-runs-at.result in
     let by = c.first_ending-process.result in
     let read = c.in_ok-numbers.ensures in
-    subst (λ n. IsWorst g urgency order frozen n c.in_ok-scenario.scenario by) (sym (c.index.ensures ∙ get_or_default numbers at c.index.result.now 0 (omega (arith, first.there, ap length read, length-map runs (λ u. u.finish), c.requires.count))))
+    subst (λ n. IsWorst g urgency order frozen n c.in_ok-scenario.scenario by)
+    (sym (c.index.ensures ∙ get_or_default numbers at c.index.result.now 0 (omega (arith, first.there, ap length read, length-map runs (λ u. u.finish), c.requires.count))))
     (is_worst g order topological urgency frozen list c.requires.scenarios runs are numbers at first c.in_ok-scenario.scenario t
     (λ d. c.in_ok-scenario.ensures ∙ c.index-scenarios-at.is ∙ get_or_default list at c.index-scenarios-at.result d first.there)
     (λ d. c.index-runs-at.is ∙ get_or_default runs at t d (omega (arith, first.there, c.requires.count)))
     by read
     (subst (λ n. IfSome by (λ p. IsFirstEnding t n p)) c.finish.ensures c.first_ending-process.ensures.found)
     (subst (λ n. IfNone by ((q : ℕ) → q < process_count g → get_or t.ends q None ≢ Some n)) c.finish.ensures
-    (subst (λ m. IfNone by ((q : ℕ) → q < m → get_or t.ends q None ≢ Some c.finish.result)) (ap length c.processes.ensures.processes ∙ ap process_count c.problem-2.ensures.problem) c.first_ending-process.ensures.none)))
+    (subst (λ m. IfNone by ((q : ℕ) → q < m → get_or t.ends q None ≢ Some c.finish.result))
+    (ap length c.processes.ensures.processes ∙ ap process_count c.problem-2.ensures.problem) c.first_ending-process.ensures.none)))

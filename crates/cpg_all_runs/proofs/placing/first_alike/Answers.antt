@@ -19,8 +19,8 @@ loop-at-preserved c =
     c.in_ok-numbers.ensures ∙ ap (λ (h : Graph). active_numbers h s) c.problem-problem.ensures.problem
     ∙ ap (active_numbers g) (c.index-scenarios-at.is ∙ get_or_default list at s (zero_scenario g) c.loop-at-test.true) in
     record {
-      places = places_more (numbers_at g list) at c.loop-at.places.entries c.place_of.new.places.entries numbers c.in_ok-place_of.field-0 c.loop-at.invariant.places is c.in_ok-place_of.ensures;
-      firsts = firsts_more (numbers_at g list) at c.loop-at.places.entries c.place_of.new.places.entries numbers c.in_ok-place_of.field-0 c.loop-at.invariant.places is c.in_ok-place_of.ensures
+      places = places_more (numbers_at g list) at c.loop-at.places.entries c.kept_place.new.places.entries numbers c.in_ok-kept_place.field-0 c.loop-at.invariant.places is c.in_ok-kept_place.ensures;
+      firsts = firsts_more (numbers_at g list) at c.loop-at.places.entries c.kept_place.new.places.entries numbers c.in_ok-kept_place.field-0 c.loop-at.invariant.places is c.in_ok-kept_place.ensures
           c.loop-at.firsts.items c.push.new.self.items c.loop-at.invariant.firsts c.in_ok-push.ensures.items;
     }
 

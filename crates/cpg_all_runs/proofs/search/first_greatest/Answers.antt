@@ -12,8 +12,10 @@ loop-next-init c = starts_it c.args.problem.now c.args.urgency.now c.args.scenar
 pub loop-next-preserved : goal.loop-next-preserved
 loop-next-preserved c =
     let list = c.args.scenarios.now in
-    let at_next : (d : Scenario) → get_or list c.loop-next.next d ≡ c.index-scenarios-next.result = λ d. get_or_default list c.loop-next.next d c.index-scenarios-next.result c.loop-next-test.true ∙ sym c.index-scenarios-next.is in
-    let at_at : (d : Scenario) → get_or list c.loop-next.at d ≡ c.index-scenarios-at.result = λ d. get_or_default list c.loop-next.at d c.index-scenarios-at.result (omega (arith, c.loop-next.invariant.there, c.loop-next-test.true)) ∙ sym c.index-scenarios-at.is in
+    let at_next : (d : Scenario) → get_or list c.loop-next.next d ≡ c.index-scenarios-next.result = λ d. get_or_default list c.loop-next.next d c.index-scenarios-next.result c.loop-next-test.true ∙
+    sym c.index-scenarios-next.is in
+    let at_at : (d : Scenario) → get_or list c.loop-next.at d ≡ c.index-scenarios-at.result =
+    λ d. get_or_default list c.loop-next.at d c.index-scenarios-at.result (omega (arith, c.loop-next.invariant.there, c.loop-next-test.true)) ∙ sym c.index-scenarios-at.is in
     elim c.if-goes_first.branch [
       | then-goes_first w ↦ rw w.at-is
           (takes_it c.args.problem.now c.args.urgency.now c.loop-next.next list c.args.numbers.now c.loop-next.at c.loop-next.invariant

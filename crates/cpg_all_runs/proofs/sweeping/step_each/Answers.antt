@@ -24,4 +24,5 @@ loop-at-preserved c =
     (c.index-scenarios-at.is ∙ get_or_default list c.loop-at.at c.index-scenarios-at.result d c.loop-at-test.true) c.in_ok-step.ensures.along) refl
 
 pub returns : goal.returns
-returns c = stepped_all c.args.setting.now.problem.now c.args.setting.now.order.now c.args.frozen.now c.args.place c.args.scenarios.now c.loop-at.at c.loop-at.found.items c.loop-at.invariant (omega (arith, c.loop-at-test.false, c.loop-at.auto.at-end))
+returns c = stepped_all c.args.setting.now.problem.now c.args.setting.now.order.now c.args.frozen.now c.args.place c.args.scenarios.now c.loop-at.at c.loop-at.found.items c.loop-at.invariant
+    (omega (arith, c.loop-at-test.false, c.loop-at.auto.at-end))

@@ -26,7 +26,8 @@ stop-requires g c = files_named None (files_of c.in-Ok.command) _ _ c.in-Err-rea
 
 pub returns-in-Ok-read_inputs-clause-lawful : goal.returns-in-Ok-read_inputs-clause-lawful
 returns-in-Ok-read_inputs-clause-lawful g c =
-    c.finish.ensures.lawful (map string_bytes c.args.words.now) (g.S.Shelf.state c.args.shelf.now) (record { command = c.in-Ok.command; words = c.in-Ok.ensures.command; has = c.in-Ok-read_inputs.ensures.inputs })
+    c.finish.ensures.lawful (map string_bytes c.args.words.now) (g.S.Shelf.state c.args.shelf.now)
+    (record { command = c.in-Ok.command; words = c.in-Ok.ensures.command; has = c.in-Ok-read_inputs.ensures.inputs })
 
 pub returns-in-Err-read_inputs-clause-lawful : goal.returns-in-Err-read_inputs-clause-lawful
 returns-in-Err-read_inputs-clause-lawful g c =

@@ -39,8 +39,10 @@ pub uncovered-requires-clause-list : goal.uncovered-requires-clause-list
 uncovered-requires-clause-list c =
     let g = c.args.admitted.now.graph in
     let by = rw c.as_slice.ensures.value at c.in_ok-push_cubes.ensures in
-    let kept : All (IsKnown g) (map seen c.in_ok-by.by.items) = rw c.problem-problem.ensures.problem at (All-map (IsKnown c.problem-problem.result.now) seen c.in_ok-by.by.items c.in_ok-by.ensures.known) in
-    let cubes : All (IsKnown g) (map seen c.push_cubes.new.by.items) = subst (All (IsKnown g)) (sym by) (idle_known g (map seen c.in_ok-by.by.items) c.in_ok-idle.idle.items kept c.in_ok-idle.ensures.known) in
+    let kept : All (IsKnown g) (map seen c.in_ok-by.by.items) = rw c.problem-problem.ensures.problem at
+    (All-map (IsKnown c.problem-problem.result.now) seen c.in_ok-by.by.items c.in_ok-by.ensures.known) in
+    let cubes : All (IsKnown g) (map seen c.push_cubes.new.by.items) = subst (All (IsKnown g)) (sym by)
+    (idle_known g (map seen c.in_ok-by.by.items) c.in_ok-idle.idle.items kept c.in_ok-idle.ensures.known) in
     rw (c.problem-problem.ensures.problem, c.as_slice-2.ensures.value) (all_unmapped (IsKnown g) seen c.push_cubes.new.by.items cubes)
 
 pub returns-clause-least : goal.returns-clause-least
@@ -61,7 +63,8 @@ returns-clause-least c =
     left_of_whole c.in_ok-by.by.items c.push_cubes.new.by.items idle all c.in_ok-cube.cube s by (rw c.problem-problem.ensures.problem at (c.in_ok-by.ensures.same s lies)) (λ off.
     c.in_ok-cube.ensures.matches s (c.in_ok-by.ensures.space s lies off)) in
     let first = rw (c.problem-problem.ensures.problem, c.order-order.ensures.order, c.as_slice-2.ensures.value) at c.in_ok-found.ensures.first in
-    least_gives g order nodes setting log c.requires.log c.in_ok-idle.idle.items told (all ++ idle) refl c.in_ok-found.found (first_same g order (is_left (map seen c.push_cubes.new.by.items) c.in_ok-cube.cube) (is_left (all ++ idle) []) c.in_ok-found.found same first)
+    least_gives g order nodes setting log c.requires.log c.in_ok-idle.idle.items told (all ++ idle) refl c.in_ok-found.found
+    (first_same g order (is_left (map seen c.push_cubes.new.by.items) c.in_ok-cube.cube) (is_left (all ++ idle) []) c.in_ok-found.found same first)
 
 pub returns-clause-none : goal.returns-clause-none
 returns-clause-none c =
@@ -81,4 +84,5 @@ returns-clause-none c =
     left_of_whole c.in_ok-by.by.items c.push_cubes.new.by.items idle all c.in_ok-cube.cube s by (rw c.problem-problem.ensures.problem at (c.in_ok-by.ensures.same s lies)) (λ off.
     c.in_ok-cube.ensures.matches s (c.in_ok-by.ensures.space s lies off)) in
     let first = rw (c.problem-problem.ensures.problem, c.order-order.ensures.order, c.as_slice-2.ensures.value) at c.in_ok-found.ensures.first in
-    none_gives g order nodes setting log c.requires.log c.in_ok-idle.idle.items told (all ++ idle) refl c.in_ok-found.found (first_same g order (is_left (map seen c.push_cubes.new.by.items) c.in_ok-cube.cube) (is_left (all ++ idle) []) c.in_ok-found.found same first)
+    none_gives g order nodes setting log c.requires.log c.in_ok-idle.idle.items told (all ++ idle) refl c.in_ok-found.found
+    (first_same g order (is_left (map seen c.push_cubes.new.by.items) c.in_ok-cube.cube) (is_left (all ++ idle) []) c.in_ok-found.found same first)

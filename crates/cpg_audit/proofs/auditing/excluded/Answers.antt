@@ -10,24 +10,24 @@ use Rattle.cpg_cube.specs.declared.literal.Literal.{Literal}
 use Rattle.cpg_cube.proofs.Mapped.{any_map}
 use Rattle.cpg_cover.proofs.Kept.{all_unmapped}
 use Rattle.cpg_audit.specs.Excluded.{excluded_of}
-use Rattle.cpg_audit.specs.declared.log_order.Timed.{Timed}
+use Rattle.cpg_audit.specs.declared.log_order.TimedItem.{TimedItem}
 use Rattle.cpg_audit.proofs.GivesLaws.{excluded_known}
 use Rattle.cpg_audit.proofs.NarrowingLaws.{any_in_order, any_within, flat_more}
 use Rattle.cpg_audit.proofs.auditing.excluded.Goals as goal
 
-abbrev item : Timed → ℕ
+abbrev item : TimedItem → ℕ
 item t = t.item
 
 -- what an index past the end would show
-abbrev blank : Timed
+abbrev blank : TimedItem
 blank = record { time = 0; item = 0 }
 
 pub loop-timed-preserved : goal.loop-timed-preserved
 loop-timed-preserved c =
     let f : ℕ → List (List Literal) = excluded_of c.args.tables.now.nodes c.args.log.now in
-    let xs : List Timed = c.as_slice-timed-items.result.now in
+    let xs : List TimedItem = c.as_slice-timed-items.result.now in
     let i : ℕ = c.loop-timed.timed-index in
-    let x : Timed = get_or xs i blank in
+    let x : TimedItem = get_or xs i blank in
     let one : map (λ (b : Bor (List Literal)). b.now) c.in_ok-by.by.items ≡ f x.item = rw (c.until.ensures, c.time_of.ensures, c.columns_of-columns.ensures.columns) at c.in_ok-by.ensures in
     let inv = c.loop-timed.invariant in
     let kept = c.take_off_all.new.kept.items in
@@ -44,13 +44,15 @@ loop-timed-preserved c =
           c.narrow.ensures s (rw c.deref.ensures.value window) (c.in_ok-take_off_all.ensures.space s (inv.left s lies) off);
       known =
           let cubes : All (IsKnown c.args.problem.now) (f x.item) = excluded_known c.args.problem.now c.args.tables.now.nodes c.args.log.now x.item (c.requires x.item) in
-          c.in_ok-take_off_all.ensures.known c.args.problem.now (rw c.as_slice.ensures.value (all_unmapped (IsKnown c.args.problem.now) (λ (b : Bor (List Literal)). b.now) c.in_ok-by.by.items (subst (All (IsKnown c.args.problem.now)) (sym one) cubes))) inv.known;
+          c.in_ok-take_off_all.ensures.known c.args.problem.now
+          (rw c.as_slice.ensures.value (all_unmapped (IsKnown c.args.problem.now) (λ (b : Bor (List Literal)). b.now) c.in_ok-by.by.items
+          (subst (All (IsKnown c.args.problem.now)) (sym one) cubes))) inv.known;
     }
 
 pub returns-clause-same : goal.returns-clause-same
 returns-clause-same c s lies =
     let f : ℕ → List (List Literal) = excluded_of c.args.tables.now.nodes c.args.log.now in
-    let xs : List Timed = c.as_slice-timed-items.result.now in
+    let xs : List TimedItem = c.as_slice-timed-items.result.now in
     c.loop-timed.invariant.same s lies
     ∙ ap (λ ts. list_any (λ b. matches b s) (flat_map f (map item ts))) (take_all c.loop-timed.timed-index xs (omega arith) ∙ c.as_slice-timed-items.ensures.value)
     ∙ any_in_order (λ b. matches b s) f (numbers_below (item_count c.args.problem.now)) (map item c.in_ok-ordered.ordered.items) c.in_ok-ordered.ensures

@@ -13,7 +13,8 @@ loop-act-preserved c =
     let old = c.loop-act.all.items in
     let columns = c.in_ok-columns.columns.items in
     record {
-      known = subst (All (λ (d : Column). IsKnown g d.cube)) (sym c.in_ok-append.ensures.items) (All-append (λ (d : Column). IsKnown g d.cube) old columns c.loop-act.invariant.known c.in_ok-columns.ensures.known);
+      known = subst (All (λ (d : Column). IsKnown g d.cube)) (sym c.in_ok-append.ensures.items)
+          (All-append (λ (d : Column). IsKnown g d.cube) old columns c.loop-act.invariant.known c.in_ok-columns.ensures.known);
       idle = λ s law. ap (list_any (λ (d : Column). matches d.cube s)) c.in_ok-append.ensures.items
           ∙ idle_more g s c.args.acts.now c.loop-act.act-index _ c.loop-act-test.true old columns (c.loop-act.invariant.idle s law) (c.in_ok-columns.ensures.idle s law);
     }

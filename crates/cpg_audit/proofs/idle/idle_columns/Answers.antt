@@ -3,7 +3,7 @@ use Rattle.std.proofs.lemmas.List.Elements.{All-weaker}
 use Rattle.cpg_base.specs.Graph.{Graph}
 use Rattle.cpg_cube.specs.Column.{Column}
 use Rattle.cpg_cube.specs.Fit.{IsKnown}
-use Rattle.cpg_paths.specs.Columns.{IsTidyColumn}
+use Rattle.cpg_tree_columns.specs.Columns.{IsTidyColumn}
 use Rattle.cpg_tree.specs.Variables.{is_variable}
 use Rattle.cpg_tree.proofs.Passing.{known_from}
 use Rattle.cpg_audit.proofs.IdleLaws.{idle_columns}
@@ -21,5 +21,6 @@ returns-clause-known c =
     c.in_ok-columns.columns.items c.in_ok-columns.ensures.tidy
 
 pub returns-clause-idle : goal.returns-clause-idle
-returns-clause-idle c = idle_columns c.args.admitted.now.graph c.args.item c.in_ok-active.active c.in_ok-active.ensures.tree c.in_ok-active.ensures.active c.in_ok-idle.idle c.in_ok-idle.ensures.is c.in_ok-idle.ensures.each
+returns-clause-idle c = idle_columns c.args.admitted.now.graph c.args.item c.in_ok-active.active c.in_ok-active.ensures.tree c.in_ok-active.ensures.active c.in_ok-idle.idle c.in_ok-idle.ensures.is
+    c.in_ok-idle.ensures.each
     c.in_ok-columns.columns.items c.in_ok-columns.ensures.all

@@ -5,15 +5,15 @@ use Rattle.std.proofs.lemmas.List.Sorted.{IsPermutation-map}
 use Rattle.cpg_base.specs.Graph.{item_count}
 use Rattle.cpg_base.specs.Numbers.{numbers_below}
 use Rattle.cpg_base.proofs.Lists.{below_push}
-use Rattle.cpg_audit.specs.declared.log_order.Timed.{Timed}
+use Rattle.cpg_audit.specs.declared.log_order.TimedItem.{TimedItem}
 use Rattle.cpg_audit.proofs.log_order.in_log_order.Goals as goal
 
-abbrev item : Timed → ℕ
+abbrev item : TimedItem → ℕ
 item t = t.item
 
 pub loop-item-preserved : goal.loop-item-preserved
 loop-item-preserved c =
-    let timed : Timed = record { time = c.unwrap_or-time.result; item = c.loop-item.item } in
+    let timed : TimedItem = record { time = c.unwrap_or-time.result; item = c.loop-item.item } in
     ap (map item) c.in_ok-push.ensures.items ∙ map-append item c.loop-item.ordered.items (timed ∷ []) ∙ ap (λ xs. xs ++ c.loop-item.item ∷ []) c.loop-item.invariant ∙ sym (below_push c.loop-item.item)
 
 pub returns : goal.returns

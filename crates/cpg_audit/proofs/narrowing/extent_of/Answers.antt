@@ -35,4 +35,5 @@ pub returns-then-is_apart : goal.returns-then-is_apart
 returns-then-is_apart c s lies = unmatched s c.args.literals.now c.loop-literal.literal-index blank (omega arith) (search rules)
 
 pub returns-in-Some : goal.returns-in-Some
-returns-in-Some c = subst (λ (ls : List Literal). (s : Scenario) → Lies c.args.space.now s → matches ls s ≡ holds s c.in-Some.literal) (take_all c.loop-literal.literal-index c.args.literals.now (omega arith)) (rw c.in-Some.is at c.loop-literal.invariant.some)
+returns-in-Some c = subst (λ (ls : List Literal). (s : Scenario) → Lies c.args.space.now s → matches ls s ≡ holds s c.in-Some.literal)
+    (take_all c.loop-literal.literal-index c.args.literals.now (omega arith)) (rw c.in-Some.is at c.loop-literal.invariant.some)

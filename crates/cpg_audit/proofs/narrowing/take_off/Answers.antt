@@ -14,7 +14,8 @@ returns-clause-same c s leaves = rw c.in_ok-push.ensures.items (pushed c.args.ke
 
 pub returns-clause-space : goal.returns-clause-space
 returns-clause-space c s leaves off =
-    let parts = or_parts (list_any (λ b. matches b.now s) c.args.kept.now.items) (matches c.args.cube.now s) (sym (pushed c.args.kept.now.items c.args.cube s) ∙ rw c.in_ok-push.ensures.items at off) in
+    let parts = or_parts (list_any (λ b. matches b.now s) c.args.kept.now.items) (matches c.args.cube.now s)
+    (sym (pushed c.args.kept.now.items c.args.cube s) ∙ rw c.in_ok-push.ensures.items at off) in
     elim c.match-extent_of.branch [
       | in-Where w ↦ rw w.space-is (w.exclude.ensures s (leaves parts.0) (sym (rw c.literals.ensures.literals at w.in-Where.ensures s (leaves parts.0)) ∙ parts.1))
       | in-Unknown w ↦ rw w.space-is (leaves parts.0)

@@ -19,7 +19,9 @@ loop-place-preserved c =
           ∙ before_place (λ b. matches b.now s) by c.loop-place.place c.index-by-place.result held c.loop-place-test.true inv.within c.index-by-place.is;
       left = λ s leaves. c.in_ok-take_off.ensures.space s (inv.left s leaves);
       grows = search rules;
-      known = λ g all first. c.in_ok-take_off.ensures.known g (subst (λ (b : Bor (List Literal)). IsKnown g b.now) (sym c.index-by-place.is) (all (c.loop-place.place - 1) c.index-by-place.result (omega (arith, c.loop-place-test.true, inv.within)))) (inv.known g all first);
+      known = λ g all first. c.in_ok-take_off.ensures.known g
+          (subst (λ (b : Bor (List Literal)). IsKnown g b.now) (sym c.index-by-place.is) (all (c.loop-place.place - 1) c.index-by-place.result (omega (arith, c.loop-place-test.true, inv.within))))
+          (inv.known g all first);
     }
 
 pub returns-clause-same : goal.returns-clause-same

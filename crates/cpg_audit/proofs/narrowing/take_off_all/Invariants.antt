@@ -10,7 +10,8 @@ use Rattle.cpg_audit.proofs.narrowing.take_off_all.Given as goal
 abbrev pub invariant-loop-place : goal.invariant-loop-place
 invariant-loop-place l = record {
   within : l.place ≤ length l.by;
-  same : (s : Scenario) → Leaves l.fn.space l.fn.kept.items s → list_any (λ b. matches b.now s) l.kept.items ≡ (list_any (λ b. matches b.now s) l.fn.kept.items || list_any (λ b. matches b.now s) (drop l.place l.by));
+  same : (s : Scenario) → Leaves l.fn.space l.fn.kept.items s → list_any (λ b. matches b.now s) l.kept.items ≡
+      (list_any (λ b. matches b.now s) l.fn.kept.items || list_any (λ b. matches b.now s) (drop l.place l.by));
   left : (s : Scenario) → Leaves l.fn.space l.fn.kept.items s → Leaves l.space l.kept.items s;
   grows : length l.fn.kept.items ≤ length l.kept.items;
   known : (g : Graph) → All (λ b. IsKnown g b.now) l.by → All (λ b. IsKnown g b.now) l.fn.kept.items → All (λ b. IsKnown g b.now) l.kept.items;

@@ -13,7 +13,8 @@ loop-place-preserved c =
     record {
       each = λ g known can old. c.in_ok-add_column.ensures.each g known can (c.loop-place.invariant.each g known can old);
       told = λ g b s. row_more (is_telling_at g t.telling c.args.time b t.line.now.columns.now s) places c.loop-place.place-index 0 c.loop-place-test.true
-          (do_tell g c.args.time b c.args.arrivals.now.items s) (do_tell g c.args.time b c.loop-place.arrivals.items s) (do_tell g c.args.time b c.add_column.new.arrivals.items s) (c.loop-place.invariant.told g b s)
+          (do_tell g c.args.time b c.args.arrivals.now.items s) (do_tell g c.args.time b c.loop-place.arrivals.items s) (do_tell g c.args.time b c.add_column.new.arrivals.items s)
+          (c.loop-place.invariant.told g b s)
           (c.in_ok-add_column.ensures.told g b s);
     }
 

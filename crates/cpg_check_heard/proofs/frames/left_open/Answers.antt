@@ -1,7 +1,7 @@
 use Rattle.std.proofs.Common.{All, sym, subst}
 use Rattle.std.proofs.lemmas.List.Elements.{All-push}
 use Rattle.cpg_base.specs.Graph.{IsVariable}
-use Rattle.cpg_check_heard.specs.declared.bound.Bound.{Bound}
+use Rattle.cpg_check_heard.specs.declared.bound.LiteralBound.{LiteralBound}
 use Rattle.cpg_check_heard.specs.Bounds.{variable_of}
 use Rattle.cpg_check_heard.proofs.Framed.{kept_more, left_more}
 use Rattle.cpg_check_heard.proofs.frames.left_open.Goals as goal
@@ -15,8 +15,9 @@ loop-bound-preserved-then-tells_one_whole c = record {
 
 pub loop-bound-preserved : goal.loop-bound-preserved
 loop-bound-preserved c =
-    let P = λ (b : Bound). IsVariable c.args.problem.now (variable_of b) in
+    let P = λ (b : LiteralBound). IsVariable c.args.problem.now (variable_of b) in
     record {
       known = subst (All P) (sym c.in_ok-push.ensures.items) (All-push P c.loop-bound.left.items _ c.loop-bound.invariant.known (c.requires.bounds c.loop-bound.bound-index _ c.loop-bound-test.true));
-      left = λ s test law m off. kept_more test c.args.bounds.now c.loop-bound.bound-index _ c.loop-bound-test.true c.loop-bound.left.items (c.loop-bound.invariant.left s test law m off) c.push.new.self.items c.in_ok-push.ensures.items;
+      left = λ s test law m off. kept_more test c.args.bounds.now c.loop-bound.bound-index _ c.loop-bound-test.true c.loop-bound.left.items
+          (c.loop-bound.invariant.left s test law m off) c.push.new.self.items c.in_ok-push.ensures.items;
     }

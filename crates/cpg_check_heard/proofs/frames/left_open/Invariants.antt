@@ -3,14 +3,15 @@ use Rattle.std.specs.List.{list_any}
 use Rattle.cpg_base.specs.Graph.{IsVariable}
 use Rattle.cpg_base.specs.Scenario.{Scenario, IsScenario}
 use Rattle.cpg_cube.specs.Cube.{matches}
-use Rattle.cpg_check_heard.specs.declared.bound.Bound.{Bound}
+use Rattle.cpg_check_heard.specs.declared.bound.LiteralBound.{LiteralBound}
 use Rattle.cpg_check_heard.specs.Arrivals.{do_tell}
 use Rattle.cpg_check_heard.specs.Bounds.{variable_of}
 use Rattle.cpg_check_heard.proofs.frames.left_open.Given as goal
 
 abbrev pub invariant-loop-bound : goal.invariant-loop-bound
 invariant-loop-bound l = record {
-  known : All (λ (b : Bound). IsVariable l.problem (variable_of b)) l.left.items;
-  left : (s : Scenario) (test : Bound → Bool) → IsScenario l.problem s → matches l.column.cube s ≡ true → ((b : Bound) → IsVariable l.problem (variable_of b) → do_tell l.problem l.column.time b l.arrivals s ≡ true → test b ≡ false)
+  known : All (λ (b : LiteralBound). IsVariable l.problem (variable_of b)) l.left.items;
+  left : (s : Scenario) (test : LiteralBound → Bool) → IsScenario l.problem s → matches l.column.cube s ≡ true →
+      ((b : LiteralBound) → IsVariable l.problem (variable_of b) → do_tell l.problem l.column.time b l.arrivals s ≡ true → test b ≡ false)
       → list_any test l.left.items ≡ list_any test (take l.bound-index l.bounds);
 }

@@ -18,7 +18,8 @@ use Rattle.cpg_check_heard.proofs.heard.check_heard.Goals as goal
 
 pub first_unheard-requires-clause-hearing : goal.first_unheard-requires-clause-hearing
 first_unheard-requires-clause-hearing c =
-    let are : AreTablesOf (head_of c.args.admitted.now.graph) c.args.tables.now.nodes = tables_of_graph c.args.admitted.now.graph c.args.tables.now.head c.args.tables.now.nodes c.requires.head c.columns_of-columns.ensures.lawful in
+    let are : AreTablesOf (head_of c.args.admitted.now.graph) c.args.tables.now.nodes = tables_of_graph c.args.admitted.now.graph c.args.tables.now.head c.args.tables.now.nodes c.requires.head
+    c.columns_of-columns.ensures.lawful in
     record { admitted = c.problem-problem.ensures.admitted; head = c.requires.head; tables = are; rules = c.requires.rules; tellers = c.in_ok-tellers.ensures c.args.tables.now.nodes c.requires.lines }
 
 pub first_unheard-requires-clause-active : goal.first_unheard-requires-clause-active
@@ -32,7 +33,8 @@ first_unheard-requires-clause-active c =
 
 pub first_unheard-requires-clause-columns : goal.first_unheard-requires-clause-columns
 first_unheard-requires-clause-columns c =
-    let are : AreTablesOf (head_of c.args.admitted.now.graph) c.args.tables.now.nodes = tables_of_graph c.args.admitted.now.graph c.args.tables.now.head c.args.tables.now.nodes c.requires.head c.columns_of-columns.ensures.lawful in
+    let are : AreTablesOf (head_of c.args.admitted.now.graph) c.args.tables.now.nodes = tables_of_graph c.args.admitted.now.graph c.args.tables.now.head c.args.tables.now.nodes c.requires.head
+    c.columns_of-columns.ensures.lawful in
     rw c.columns_of-columns.ensures.columns (columns_known c.problem-problem.ensures.admitted c.args.tables.now.nodes are c.loop-item.item)
 
 pub first_unheard-requires-clause-few : goal.first_unheard-requires-clause-few
@@ -41,7 +43,8 @@ first_unheard-requires-clause-few c = rw c.columns_of-columns.ensures.columns (c
 pub returns-in-Some-clause-first : goal.returns-in-Some-clause-first
 returns-in-Some-clause-first c =
     let g = c.args.admitted.now.graph in
-    let first : IsFirstColumn g c.args.admitted.now.order (is_unheard g c.args.tables.now.nodes c.loop-item.item (columns_of c.args.tables.now.nodes c.loop-item.item)) (c.in-Some.column, c.in-Some.scenario) =
+    let first : IsFirstColumn g c.args.admitted.now.order (is_unheard g c.args.tables.now.nodes c.loop-item.item (columns_of c.args.tables.now.nodes c.loop-item.item))
+    (c.in-Some.column, c.in-Some.scenario) =
     rw (← c.columns_of-columns.ensures.columns) (rw c.in-Some.is at c.in_ok-unheard.ensures.first) in
     first_violation Rule.Heard g c.args.tables.now.nodes c.loop-item.item (λ y s. refl) c.number.result c.number.ensures c.args.admitted.now.order c.in-Some.column c.in-Some.scenario
     (omega (arith, c.loop-item-test.true, c.item_count-item-end.ensures, ap item_count c.problem-problem.ensures.problem)) c.loop-item.invariant first

@@ -17,7 +17,8 @@ pub ranks-requires-clause-items : goal.ranks-requires-clause-items
 ranks-requires-clause-items c =
     let g = c.args.hearing.now.admitted.now.graph in
     let inside : c.home-node.result < length g.nodes = rw c.problem-problem.ensures.problem at c.home-node.ensures.within in
-    let are : c.hears-hears.result.now ≡ heard_by g c.home-node.result = c.hears-hears.ensures ∙ ap (λ (i : ItemLists). i.hears) c.in_ok-items.ensures ∙ ap (λ h. hears_of h c.home-node.result) c.head.ensures.head
+    let are : c.hears-hears.result.now ≡ heard_by g c.home-node.result = c.hears-hears.ensures ∙ ap (λ (i : ItemLists). i.hears) c.in_ok-items.ensures ∙
+    ap (λ h. hears_of h c.home-node.result) c.head.ensures.head
     ∙ hears_of_graph g c.args.hearing.now.tables.now.head c.requires.hearing.head c.requires.hearing.admitted.limits c.home-node.result inside in
     subst (All (Contains (heard_by g c.home-node.result))) (sym are) (All-contains_itself (heard_by g c.home-node.result))
 

@@ -15,7 +15,8 @@ loop-place-preserved c =
       told = λ s i. row_more (is_telling_at g c.args.teller.now.telling c.args.time c.args.bound c.args.teller.now.line.now.columns.now s) places c.loop-place.place-index 0 c.loop-place-test.true
           (list_any (λ b. matches b s) c.args.told.now.items) (list_any (λ b. matches b s) c.loop-place.told.items) (list_any (λ b. matches b s) c.add.new.told.items) (c.loop-place.invariant.told s i)
           (ap (list_any (λ b. matches b s)) c.in_ok-add.ensures
-          ∙ told_add g (λ t. is_telling_at g c.args.teller.now.telling c.args.time c.args.bound c.args.teller.now.line.now.columns.now t (get_or places c.loop-place.place-index 0)) c.loop-place.told.items c.in_ok-part.part c.in_ok-part.ensures.part s i);
+          ∙ told_add g (λ t. is_telling_at g c.args.teller.now.telling c.args.time c.args.bound c.args.teller.now.line.now.columns.now t (get_or places c.loop-place.place-index 0))
+          c.loop-place.told.items c.in_ok-part.part c.in_ok-part.ensures.part s i);
     }
 
 pub returns-clause-told : goal.returns-clause-told

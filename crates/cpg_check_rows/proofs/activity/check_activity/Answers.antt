@@ -15,7 +15,8 @@ use Rattle.cpg_check_rows.proofs.activity.check_activity.Goals as goal
 
 pub first_idle-requires-clause-columns : goal.first_idle-requires-clause-columns
 first_idle-requires-clause-columns c =
-    let are : AreTablesOf (head_of c.args.admitted.now.graph) c.args.tables.now.nodes = tables_of_graph c.args.admitted.now.graph c.args.tables.now.head c.args.tables.now.nodes c.requires.head c.columns_of-columns.ensures.lawful in
+    let are : AreTablesOf (head_of c.args.admitted.now.graph) c.args.tables.now.nodes = tables_of_graph c.args.admitted.now.graph c.args.tables.now.head c.args.tables.now.nodes c.requires.head
+    c.columns_of-columns.ensures.lawful in
     rw c.columns_of-columns.ensures.columns (columns_known c.problem.ensures.admitted c.args.tables.now.nodes are c.loop-item.item)
 
 pub first_idle-requires-clause-few : goal.first_idle-requires-clause-few

@@ -15,5 +15,6 @@ returns c =
     let g = c.args.admitted.now.graph in
     let cube = c.args.column.now.cube in
     rw (c.earlier.ensures, c.order.ensures.order, c.problem.ensures.problem)
-    (first_either g c.args.admitted.now.order (matches cube) (λ s. not (item_active g s.values (item_at g c.args.item))) (λ s. list_any (λ l. not (active g s.values (process_of_variable g l.variable))) cube)
+    (first_either g c.args.admitted.now.order (matches cube) (λ s. not (item_active g s.values (item_at g c.args.item)))
+    (λ s. list_any (λ l. not (active g s.values (process_of_variable g l.variable))) cube)
     c.in_ok-inactive.inactive c.in_ok-unrun.unrun c.in_ok-inactive.ensures c.in_ok-unrun.ensures)

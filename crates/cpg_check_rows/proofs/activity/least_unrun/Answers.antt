@@ -19,7 +19,8 @@ loop-literal-preserved c =
     let process = c.process_of_variable-process.ensures.process in
     let next = rw (process, c.problem-problem.ensures.problem, literals) at c.in_ok-next.ensures in
     rw (c.earlier-found.ensures, c.problem-problem.ensures.problem, c.order-order.ensures.order)
-    (first_any_more g c.args.admitted.now.order (matches cube) (λ s l. not (active g s.values (process_of_variable g l.variable))) cube c.loop-literal.literal-index (record { variable = 0; low = 0; high = 0 }) within
+    (first_any_more g c.args.admitted.now.order (matches cube) (λ s l. not (active g s.values (process_of_variable g l.variable))) cube c.loop-literal.literal-index
+    (record { variable = 0; low = 0; high = 0 }) within
     c.loop-literal.found c.in_ok-next.next c.loop-literal.invariant next)
 
 pub returns : goal.returns

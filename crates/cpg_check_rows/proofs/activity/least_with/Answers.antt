@@ -13,4 +13,5 @@ least-requires c =
     record { known = subst (IsKnown g) (with-is c.args.literal c.args.cube.now c.in-Some.part some) (known-narrowed g c.args.literal c.args.cube.now c.requires.literal c.requires.cube) }
 
 pub returns : goal.returns
-returns c = λ order. with_part c.args.problem.now order c.args.cube.now c.args.literal c.in-Some.part c.in_ok-found.found (rw c.in-Some.is at c.in_ok-part.ensures.both) (c.in_ok-found.ensures.first order)
+returns c = λ order. with_part c.args.problem.now order c.args.cube.now c.args.literal c.in-Some.part c.in_ok-found.found (rw c.in-Some.is at c.in_ok-part.ensures.both)
+    (c.in_ok-found.ensures.first order)

@@ -48,4 +48,5 @@ pub returns-clause-none : goal.returns-clause-none
 returns-clause-none c =
     let g = c.args.admitted.now.graph in
     let are : AreTablesOf (head_of g) c.args.tables.now.nodes = tables_of_graph g c.args.tables.now.head c.args.tables.now.nodes c.requires c.head.ensures.lawful in
-    hears_hold g c.problem-problem.ensures.admitted.limits c.args.tables.now.nodes are (λ x l. c.loop-item.invariant x (omega (arith, l, c.loop-item-test.false, c.item_count-item-end.ensures, ap item_count c.problem-problem.ensures.problem)))
+    hears_hold g c.problem-problem.ensures.admitted.limits c.args.tables.now.nodes are
+    (λ x l. c.loop-item.invariant x (omega (arith, l, c.loop-item-test.false, c.item_count-item-end.ensures, ap item_count c.problem-problem.ensures.problem)))

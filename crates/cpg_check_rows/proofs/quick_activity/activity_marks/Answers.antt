@@ -7,7 +7,8 @@ use Rattle.cpg_violation.proofs.SureLaws.{one_more}
 use Rattle.cpg_check_rows.proofs.quick_activity.activity_marks.Goals as goal
 
 pub loop-item-preserved : goal.loop-item-preserved
-loop-item-preserved c = rw c.in_ok-push.ensures.items (one_more c.args.admitted.now.graph c.args.tables.now.nodes Rule.Activity c.loop-item.item c.loop-item.marks.items c.is_sure-sure.result c.loop-item.invariant c.is_sure-sure.ensures)
+loop-item-preserved c = rw c.in_ok-push.ensures.items
+    (one_more c.args.admitted.now.graph c.args.tables.now.nodes Rule.Activity c.loop-item.item c.loop-item.marks.items c.is_sure-sure.result c.loop-item.invariant c.is_sure-sure.ensures)
 
 pub is_sure-sure-requires-clause-everywhere : goal.is_sure-sure-requires-clause-everywhere
 is_sure-sure-requires-clause-everywhere c s law =
@@ -20,4 +21,5 @@ returns c = c.loop-item.invariant.sure
 
 pub is_sure-sure-requires-clause-all : goal.is_sure-sure-requires-clause-all
 is_sure-sure-requires-clause-all c = of_true c.are_all-all.result c.are_all-all.ensures
-    (λ all p l. c.in_ok-always.ensures p l (subst (λ marks. get_or marks p false ≡ true) c.as_slice.ensures.value (all p (omega (arith, l, ap length c.processes.ensures.processes, ap process_count c.problem.ensures.problem)))))
+    (λ all p l. c.in_ok-always.ensures p l (subst (λ marks. get_or marks p false ≡ true) c.as_slice.ensures.value
+    (all p (omega (arith, l, ap length c.processes.ensures.processes, ap process_count c.problem.ensures.problem)))))

@@ -14,7 +14,8 @@ use Rattle.cpg_check_rows.proofs.quick_activity.is_sure.Goals as goal
 
 pub are_lawful-requires-clause-columns : goal.are_lawful-requires-clause-columns
 are_lawful-requires-clause-columns c =
-    let are : AreTablesOf (head_of c.args.admitted.now.graph) c.args.tables.now.nodes = tables_of_graph c.args.admitted.now.graph c.args.tables.now.head c.args.tables.now.nodes c.requires.head c.columns_of-columns.ensures.lawful in
+    let are : AreTablesOf (head_of c.args.admitted.now.graph) c.args.tables.now.nodes = tables_of_graph c.args.admitted.now.graph c.args.tables.now.head c.args.tables.now.nodes c.requires.head
+    c.columns_of-columns.ensures.lawful in
     rw c.columns_of-columns.ensures.columns (columns_known c.problem-problem.ensures.admitted c.args.tables.now.nodes are c.args.item)
 
 pub returns-then-is_plain : goal.returns-then-is_plain
@@ -22,7 +23,8 @@ returns-then-is_plain c =
     let g = c.args.admitted.now.graph in
     let a = c.problem-problem.ensures.admitted in
     let are : AreTablesOf (head_of g) c.args.tables.now.nodes = tables_of_graph g c.args.tables.now.head c.args.tables.now.nodes c.requires.head c.columns_of-columns.ensures.lawful in
-    always_sure g c.args.tables.now.nodes c.args.item a.limits.few_processes (OnTrue_at c.if-is_plain.true c.is_plain.ensures.all) (columns_known a c.args.tables.now.nodes are c.args.item) (OnTrue_at c.if-is_plain.true c.is_plain.ensures.item)
+    always_sure g c.args.tables.now.nodes c.args.item a.limits.few_processes (OnTrue_at c.if-is_plain.true c.is_plain.ensures.all) (columns_known a c.args.tables.now.nodes are c.args.item)
+    (OnTrue_at c.if-is_plain.true c.is_plain.ensures.item)
 
 pub returns : goal.returns
 returns c =

@@ -1,7 +1,7 @@
 use Rattle.std.proofs.Common.{List}
 use Rattle.cpg_table.specs.Table.{NodeTable}
 use Rattle.cpg_table.specs.declared.rule.Rule.{Rule}
-use Rattle.cpg_places.specs.Trees.{AreRowTrees}
+use Rattle.cpg_row_trees.specs.Trees.{AreRowTrees}
 use Rattle.cpg_violation.proofs.SureLaws.{AreSoFar}
 use Rattle.cpg_check_rows.proofs.quick_present.present_marks.Given as goal
 

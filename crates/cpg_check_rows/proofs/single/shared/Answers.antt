@@ -6,11 +6,13 @@ use Rattle.cpg_cover.proofs.AlongLaws.{lawful_if_some}
 use Rattle.cpg_check_rows.proofs.single.shared.Goals as goal
 
 pub earlier-found-requires-clause-second : goal.earlier-found-requires-clause-second
-earlier-found-requires-clause-second c = lawful_if_some c.args.problem.now c.args.order.now (λ s. matches c.args.cube.now s && is_at c.args.columns.now s (get_or c.args.places.now c.loop-place.place-index 0)) c.in_ok-next.next (c.in_ok-next.ensures.first c.args.order.now)
+earlier-found-requires-clause-second c = lawful_if_some c.args.problem.now c.args.order.now
+    (λ s. matches c.args.cube.now s && is_at c.args.columns.now s (get_or c.args.places.now c.loop-place.place-index 0)) c.in_ok-next.next (c.in_ok-next.ensures.first c.args.order.now)
 
 pub loop-place-preserved : goal.loop-place-preserved
 loop-place-preserved c = record {
-  first = rw c.earlier-found.ensures (first_any_more c.args.problem.now c.args.order.now (matches c.args.cube.now) (is_at c.args.columns.now) c.args.places.now c.loop-place.place-index 0 c.loop-place-test.true
+  first = rw c.earlier-found.ensures (first_any_more c.args.problem.now c.args.order.now (matches c.args.cube.now)
+      (is_at c.args.columns.now) c.args.places.now c.loop-place.place-index 0 c.loop-place-test.true
       c.loop-place.found c.in_ok-next.next c.loop-place.invariant.first (c.in_ok-next.ensures.first c.args.order.now));
   room = c.in_ok-next.ensures.room;
 }

@@ -19,7 +19,8 @@ first_double-requires-clause-order c = rw (c.order-order.ensures.order, c.proble
 
 pub first_double-requires-clause-columns : goal.first_double-requires-clause-columns
 first_double-requires-clause-columns c =
-    let are : AreTablesOf (head_of c.args.admitted.now.graph) c.args.tables.now.nodes = tables_of_graph c.args.admitted.now.graph c.args.tables.now.head c.args.tables.now.nodes c.requires.head c.columns_of-columns.ensures.lawful in
+    let are : AreTablesOf (head_of c.args.admitted.now.graph) c.args.tables.now.nodes = tables_of_graph c.args.admitted.now.graph c.args.tables.now.head c.args.tables.now.nodes c.requires.head
+    c.columns_of-columns.ensures.lawful in
     rw (c.problem-problem.ensures.problem, c.columns_of-columns.ensures.columns) (columns_known c.order-order.ensures.admitted c.args.tables.now.nodes are c.loop-item.item)
 
 pub first_double-requires-clause-few : goal.first_double-requires-clause-few

@@ -19,4 +19,5 @@ returns c =
     let both : (s : Scenario) → matches c.in-Some.part s ≡ (matches c.args.column.now.cube s && matches c.in_ok-asked.asked s) = rw c.in-Some.is at c.in_ok-part.ensures.both in
     let asked : (s : Scenario) → matches c.in_ok-asked.asked s ≡ is_asked g c.args.edge s = rw (← c.problem-problem.ensures.problem) c.in_ok-asked.ensures.passed in
     let found = rw (c.source-process.ensures.source, c.problem-problem.ensures.problem) at c.in_ok-found-2.ensures in
-    lacks_source g c.args.admitted.now.order c.args.tables.now.nodes c.args.column.now c.args.edge c.in_ok-found-2.found off c.in-Some.part (λ s. both s ∙ ap (λ b. matches c.args.column.now.cube s && b) (asked s)) found
+    lacks_source g c.args.admitted.now.order c.args.tables.now.nodes c.args.column.now c.args.edge c.in_ok-found-2.found off c.in-Some.part
+    (λ s. both s ∙ ap (λ b. matches c.args.column.now.cube s && b) (asked s)) found

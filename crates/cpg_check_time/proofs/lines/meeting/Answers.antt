@@ -24,16 +24,21 @@ pub loop-place-preserved : goal.loop-place-preserved
 loop-place-preserved c =
     let columns = c.args.line.now.columns.now in
     let places = c.deref-place-items.result.now in
-    let none : length columns ≤ get_or places c.loop-place.place-index 0 → map at c.push_column.new.found.items ≡ map at c.loop-place.found.items = λ h. ap (map at) (c.in_ok-push_column.ensures.none h) in
+    let none : length columns ≤ get_or places c.loop-place.place-index 0 → map at c.push_column.new.found.items ≡ map at c.loop-place.found.items =
+    λ h. ap (map at) (c.in_ok-push_column.ensures.none h) in
     record {
-      among = among_more columns places c.loop-place.place-index 0 c.loop-place-test.true (map at c.loop-place.found.items) (map at c.push_column.new.found.items) c.in_ok-push_column.ensures.there none c.loop-place.invariant.among;
-      all = found_more columns places c.loop-place.place-index 0 c.loop-place-test.true (map at c.loop-place.found.items) (map at c.push_column.new.found.items) c.in_ok-push_column.ensures.there none c.loop-place.invariant.all;
+      among = among_more columns places c.loop-place.place-index 0 c.loop-place-test.true (map at c.loop-place.found.items)
+          (map at c.push_column.new.found.items) c.in_ok-push_column.ensures.there none c.loop-place.invariant.among;
+      all = found_more columns places c.loop-place.place-index 0 c.loop-place-test.true (map at c.loop-place.found.items)
+          (map at c.push_column.new.found.items) c.in_ok-push_column.ensures.there none c.loop-place.invariant.all;
     }
 
 pub returns-clause-same : goal.returns-clause-same
 returns-clause-same c =
     let columns = c.args.line.now.columns.now in
     let places = c.deref-place-items.result.now in
-    let all : AreFound columns (map at c.loop-place.found.items) places = subst (AreFound columns (map at c.loop-place.found.items)) (take_all c.loop-place.place-index places c.loop-place-test.false) c.loop-place.invariant.all in
-    let candidates : (s : Scenario) (i : ℕ) → i < length columns → matches (column_at columns i).cube s ≡ true → matches c.args.cube.now s ≡ true → Contains places i = rw c.deref-place-items.ensures.value c.in_ok-places.ensures in
+    let all : AreFound columns (map at c.loop-place.found.items) places = subst (AreFound columns (map at c.loop-place.found.items))
+    (take_all c.loop-place.place-index places c.loop-place-test.false) c.loop-place.invariant.all in
+    let candidates : (s : Scenario) (i : ℕ) → i < length columns → matches (column_at columns i).cube s ≡ true → matches c.args.cube.now s ≡ true → Contains places i =
+    rw c.deref-place-items.ensures.value c.in_ok-places.ensures in
     same_found columns (map at c.loop-place.found.items) places c.args.cube.now c.loop-place.invariant.among all candidates

@@ -11,9 +11,12 @@ earlier-found-requires-clause-order g c = rw (c.order-order.ensures.order, c.pro
 
 pub loop-other-preserved : goal.loop-other-preserved
 loop-other-preserved g c = rw (c.earlier-found.ensures, c.problem-problem.ensures.problem, c.order-order.ensures.order)
-    (first_below c.args.admitted.now.graph c.args.admitted.now.order (g.P.Pairs.clash c.args.admitted.now.graph c.args.tables.now.nodes c.args.item c.args.column.now) c.loop-other.other c.loop-other.found c.in_ok-next.next c.loop-other.invariant c.in_ok-next.ensures)
+    (first_below c.args.admitted.now.graph c.args.admitted.now.order (g.P.ColumnPairs.clash c.args.admitted.now.graph c.args.tables.now.nodes c.args.item c.args.column.now) c.loop-other.other
+    c.loop-other.found c.in_ok-next.next c.loop-other.invariant c.in_ok-next.ensures)
 
 pub returns : goal.returns
 returns g c =
     let same : c.loop-other.other ≡ c.args.item = omega (arith, c.loop-other.auto.other-end, c.loop-other-test.false) in
-    subst (λ n. IsFirst c.args.admitted.now.graph c.args.admitted.now.order (λ s. list_any (λ y. g.P.Pairs.clash c.args.admitted.now.graph c.args.tables.now.nodes c.args.item c.args.column.now y s) (numbers_below n)) c.loop-other.found) same c.loop-other.invariant
+    subst (λ n. IsFirst c.args.admitted.now.graph c.args.admitted.now.order
+    (λ s. list_any (λ y. g.P.ColumnPairs.clash c.args.admitted.now.graph c.args.tables.now.nodes c.args.item c.args.column.now y s) (numbers_below n)) c.loop-other.found) same
+    c.loop-other.invariant

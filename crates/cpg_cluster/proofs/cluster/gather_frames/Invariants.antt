@@ -5,6 +5,7 @@ use Rattle.cpg_cluster.proofs.cluster.gather_frames.Given as goal
 
 abbrev pub invariant-loop-place : goal.invariant-loop-place
 invariant-loop-place l = record {
-  frames : l.frames.items ++ frames_by l.problem l.scenario.values l.members l.time (drop l.place l.rows) (drop l.place l.senders) ≡ frames_by l.problem l.scenario.values l.members l.time l.rows l.senders;
+  frames : l.frames.items ++ frames_by l.problem l.scenario.values l.members l.time (drop l.place l.rows)
+      (drop l.place l.senders) ≡ frames_by l.problem l.scenario.values l.members l.time l.rows l.senders;
   room : vec_capacity l.frames ≡ vec_capacity l.fn.frames;
 }

@@ -13,7 +13,8 @@ overflow_mul-next c =
 
 pub overflow_add-next : goal.overflow_add-next
 overflow_add-next c =
-    let f = fits_more c.args.high (c.args.width - c.loop-done.done) (c.args.width - 1 - c.loop-done.done) c.loop-done.number (omega arith) c.loop-done.invariant.small (omega arith) in omega (arith, f, c.type_inv.bytes 0)
+    let f = fits_more c.args.high (c.args.width - c.loop-done.done) (c.args.width - 1 - c.loop-done.done) c.loop-done.number (omega arith) c.loop-done.invariant.small (omega arith) in
+    omega (arith, f, c.type_inv.bytes 0)
 
 pub returns-then-high-after-clause-gives : goal.returns-then-high-after-clause-gives
 returns-then-high-after-clause-gives c =
@@ -33,10 +34,13 @@ pub loop-done-preserved : goal.loop-done-preserved
 loop-done-preserved c =
     let k : c.args.width - c.loop-done.done ≡ suc (c.args.width - (c.loop-done.done + 1)) = omega arith in
     let m : c.args.width - 1 - c.loop-done.done ≡ c.args.width - (c.loop-done.done + 1) = omega arith in
-    let lo = reaches_shift c.args.low (c.args.width - (c.loop-done.done + 1)) (c.loop-done.number * 256 + get_or c.loop-done.rest.now 0 0) (subst (λ (w : ℕ). c.args.low / 2 ^ (8 * w) ≤ c.loop-done.number * 256 + get_or c.loop-done.rest.now 0 0) m c.if-next-low.false) in
-    let le = within_shift c.args.high (c.args.width - (c.loop-done.done + 1)) (c.loop-done.number * 256 + get_or c.loop-done.rest.now 0 0) (subst (λ (w : ℕ). c.loop-done.number * 256 + get_or c.loop-done.rest.now 0 0 ≤ c.args.high / 2 ^ (8 * w)) m c.if-high-after.false) in
+    let lo = reaches_shift c.args.low (c.args.width - (c.loop-done.done + 1)) (c.loop-done.number * 256 + get_or c.loop-done.rest.now 0 0)
+    (subst (λ (w : ℕ). c.args.low / 2 ^ (8 * w) ≤ c.loop-done.number * 256 + get_or c.loop-done.rest.now 0 0) m c.if-next-low.false) in
+    let le = within_shift c.args.high (c.args.width - (c.loop-done.done + 1)) (c.loop-done.number * 256 + get_or c.loop-done.rest.now 0 0)
+    (subst (λ (w : ℕ). c.loop-done.number * 256 + get_or c.loop-done.rest.now 0 0 ≤ c.args.high / 2 ^ (8 * w)) m c.if-high-after.false) in
     record {
-      same = sym (digit_goes_on c.args.low c.args.high (c.args.width - c.loop-done.done) (c.args.width - (c.loop-done.done + 1)) c.loop-done.number c.loop-done.rest.now k c.in-len1-up.len_at_least (search rules) lo le) ∙ c.loop-done.invariant.same;
+      same = sym (digit_goes_on c.args.low c.args.high (c.args.width - c.loop-done.done) (c.args.width - (c.loop-done.done + 1)) c.loop-done.number c.loop-done.rest.now k c.in-len1-up.len_at_least
+          (search rules) lo le) ∙ c.loop-done.invariant.same;
       small = le;
     }
 

@@ -11,4 +11,5 @@ is_not n true f h e = cc
 is_not n false f h e = let k : IsTrue false = h e in cc
 
 pub returns-else-begins_none : goal.returns-else-begins_none
-returns-else-begins_none c = rw (own_some c.args.bytes.now (omega (arith, c.type_inv.bytes 0)) (is_not _ c.begins_none.result c.if-begins_none.false c.begins_none.ensures.1)) c.long_of-else-begins_none.ensures
+returns-else-begins_none c = rw (own_some c.args.bytes.now (omega (arith, c.type_inv.bytes 0)) (is_not _ c.begins_none.result c.if-begins_none.false c.begins_none.ensures.1))
+    c.long_of-else-begins_none.ensures

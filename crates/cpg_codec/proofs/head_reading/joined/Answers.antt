@@ -15,7 +15,8 @@ returns-then-parts-ne2 c =
 pub unreachable-requires-in-None : goal.unreachable-requires-in-None
 unreachable-requires-in-None c =
     let p = c.args.parts in
-    c.in-None.ensures.refused (rw c.in-Some.ensures.head (made_extras p.version p.faults p.nodes.items p.processes.items p.extras.items p.edges.items c.if-parts-ne2.false c.requires.kept c.requires.lawful))
+    c.in-None.ensures.refused (rw c.in-Some.ensures.head
+    (made_extras p.version p.faults p.nodes.items p.processes.items p.extras.items p.edges.items c.if-parts-ne2.false c.requires.kept c.requires.lawful))
 
 pub returns : goal.returns
 returns c =

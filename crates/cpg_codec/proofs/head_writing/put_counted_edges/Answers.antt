@@ -12,4 +12,5 @@ returns-in_err-put_short-clause-put g c =
     Puts-first _ _ _ _ (to_be_bytes w16 (length c.args.edges.now)) (flat_map edge_bytes c.args.edges.now) c.from_residual.result p.0 p.1 c.in_err-put_short.ensures.put
 
 pub returns-clause-put : goal.returns-clause-put
-returns-clause-put g c = Puts-then _ _ _ _ _ _ (to_be_bytes w16 (length c.args.edges.now)) (flat_map edge_bytes c.args.edges.now) c.put_edges.result c.in_ok-put_short.ensures.put c.put_edges.ensures.put
+returns-clause-put g c = Puts-then _ _ _ _ _ _ (to_be_bytes w16 (length c.args.edges.now)) (flat_map edge_bytes c.args.edges.now) c.put_edges.result c.in_ok-put_short.ensures.put
+    c.put_edges.ensures.put

@@ -13,4 +13,5 @@ loop-from-preserved g c = record {
 pub returns-in_err-put-clause-put : goal.returns-in_err-put-clause-put
 returns-in_err-put-clause-put g c =
     let p = err_from_is_err_and c.from_residual.result c.from_residual.ensures.1 in
-    Puts-failed _ _ _ _ _ c.from_residual.result p.0 p.1 (puts_fail edge_bytes _ _ _ _ _ (c.args.edges.now) (c.loop-from.from-index) ((0, 0)) c.loop-from-test.true c.loop-from.invariant.put c.in_err-put.ensures.put)
+    Puts-failed _ _ _ _ _ c.from_residual.result p.0 p.1
+    (puts_fail edge_bytes _ _ _ _ _ (c.args.edges.now) (c.loop-from.from-index) ((0, 0)) c.loop-from-test.true c.loop-from.invariant.put c.in_err-put.ensures.put)

@@ -11,4 +11,5 @@ returns-in_err-put_long-clause-put g c =
 
 pub returns-clause-put : goal.returns-clause-put
 returns-clause-put g c =
-    rw c.in-Some.is (Puts-then _ _ _ _ _ _ (to_be_bytes w64 c.in-Some.extra.release) (to_be_bytes w64 (own_number c.in-Some.extra.deadline)) c.put_long-2.result c.in_ok-put_long.ensures.put (rw c.own_number.ensures at c.put_long-2.ensures.put))
+    rw c.in-Some.is (Puts-then _ _ _ _ _ _ (to_be_bytes w64 c.in-Some.extra.release) (to_be_bytes w64 (own_number c.in-Some.extra.deadline)) c.put_long-2.result c.in_ok-put_long.ensures.put
+    (rw c.own_number.ensures at c.put_long-2.ensures.put))

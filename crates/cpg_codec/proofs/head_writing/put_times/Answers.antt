@@ -13,4 +13,5 @@ loop-time-preserved g c = record {
 pub returns-in_err-put_long-clause-put : goal.returns-in_err-put_long-clause-put
 returns-in_err-put_long-clause-put g c =
     let p = err_from_is_err_and c.from_residual.result c.from_residual.ensures.1 in
-    Puts-failed _ _ _ _ _ c.from_residual.result p.0 p.1 (puts_fail (to_be_bytes w64) _ _ _ _ _ (c.args.times.now) (c.loop-time.time-index) (0) c.loop-time-test.true c.loop-time.invariant.put c.in_err-put_long.ensures.put)
+    Puts-failed _ _ _ _ _ c.from_residual.result p.0 p.1
+    (puts_fail (to_be_bytes w64) _ _ _ _ _ (c.args.times.now) (c.loop-time.time-index) (0) c.loop-time-test.true c.loop-time.invariant.put c.in_err-put_long.ensures.put)

@@ -4,10 +4,10 @@ use Rattle.std.proofs.lemmas.List.{take_more, take_all}
 use Rattle.std.proofs.lemmas.List.Elements.{All-push}
 use Rattle.cpg_cube.specs.declared.literal.Literal.{Literal}
 use Rattle.cpg_table.specs.Lawful.{IsCountLiteral}
-use Rattle.cpg_table.specs.declared.space.Space.{Space}
+use Rattle.cpg_table.specs.declared.space.VariableSpace.{VariableSpace}
 use Rattle.cpg_codec.proofs.lawful_literals.are_parts.Goals as goal
 
-abbrev IsPartOf : Space → Literal → Type 0
+abbrev IsPartOf : VariableSpace → Literal → Type 0
 IsPartOf s l = l.variable < s.processes → IsCountLiteral s l
 
 pub loop-literal-preserved : goal.loop-literal-preserved

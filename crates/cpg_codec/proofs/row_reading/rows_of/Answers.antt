@@ -23,8 +23,10 @@ pub loop-item-preserved : goal.loop-item-preserved
 loop-item-preserved c =
     let q = c.in_ok-row.row in
     let g = goes_on step (row_at c.args.space.now) c.loop-item.rows.items
-    (drop c.loop-item.item-index c.args.items.now) (get_or c.args.items.now c.loop-item.item-index 0) (drop (c.loop-item.item-index + 1) c.args.items.now) c.loop-item.total c.loop-item.unread q c.next_row.new.unread
-    (rows_at c.args.space.now c.args.items.now c.args.before c.args.unread.now) (drop_more c.args.items.now c.loop-item.item-index c.loop-item-test.true) c.in_ok-row.ensures.gives c.loop-item.invariant.so_far in
+    (drop c.loop-item.item-index c.args.items.now) (get_or c.args.items.now c.loop-item.item-index 0)
+    (drop (c.loop-item.item-index + 1) c.args.items.now) c.loop-item.total c.loop-item.unread q c.next_row.new.unread
+    (rows_at c.args.space.now c.args.items.now c.args.before c.args.unread.now) (drop_more c.args.items.now c.loop-item.item-index c.loop-item-test.true) c.in_ok-row.ensures.gives
+    c.loop-item.invariant.so_far in
     record {
       so_far = rw (c.in_ok-push.ensures.items, c.in_ok-row.ensures.total.0) g;
       total = rw (c.in_ok-push.ensures.items, columns_push c.loop-item.rows.items q) (omega (arith, c.in_ok-row.ensures.total.0, c.loop-item.invariant.total));

@@ -6,11 +6,14 @@ use Rattle.cpg_codec.proofs.row_writing.put_each.Goals as goal
 
 pub loop-literal-preserved : goal.loop-literal-preserved
 loop-literal-preserved g c = record {
-  put = puts_more literal_bytes _ _ _ _ _ _ (c.args.literals.now) (c.loop-literal.literal-index) (record { variable = 0; low = 0; high = 0 }) c.loop-literal-test.true c.loop-literal.invariant.put c.in_ok-put.ensures.put;
+  put = puts_more literal_bytes _ _ _ _ _ _ (c.args.literals.now) (c.loop-literal.literal-index)
+      (record { variable = 0; low = 0; high = 0 }) c.loop-literal-test.true c.loop-literal.invariant.put c.in_ok-put.ensures.put;
   later = omega (arith, c.loop-literal.invariant.later, c.put.ensures.cause.later);
 }
 
 pub returns-in_err-put-clause-put : goal.returns-in_err-put-clause-put
 returns-in_err-put-clause-put g c =
     let p = err_from_is_err_and c.from_residual.result c.from_residual.ensures.1 in
-    Puts-failed _ _ _ _ _ c.from_residual.result p.0 p.1 (puts_fail literal_bytes _ _ _ _ _ (c.args.literals.now) (c.loop-literal.literal-index) (record { variable = 0; low = 0; high = 0 }) c.loop-literal-test.true c.loop-literal.invariant.put c.in_err-put.ensures.put)
+    Puts-failed _ _ _ _ _ c.from_residual.result p.0 p.1
+    (puts_fail literal_bytes _ _ _ _ _ (c.args.literals.now) (c.loop-literal.literal-index)
+    (record { variable = 0; low = 0; high = 0 }) c.loop-literal-test.true c.loop-literal.invariant.put c.in_err-put.ensures.put)

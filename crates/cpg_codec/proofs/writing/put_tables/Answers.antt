@@ -10,4 +10,5 @@ returns-in_err-put_head-clause-put g c =
     Puts-first _ _ _ _ (head_bytes c.args.tables.now.head) (flat_map table_bytes c.args.tables.now.nodes) c.from_residual.result p.0 p.1 (rw c.head.ensures.head at c.in_err-put_head.ensures.put)
 
 pub returns-clause-put : goal.returns-clause-put
-returns-clause-put g c = Puts-then _ _ _ _ _ _ (head_bytes c.args.tables.now.head) (flat_map table_bytes c.args.tables.now.nodes) c.put_nodes.result (rw c.head.ensures.head at c.in_ok-put_head.ensures.put) c.put_nodes.ensures.put
+returns-clause-put g c = Puts-then _ _ _ _ _ _ (head_bytes c.args.tables.now.head) (flat_map table_bytes c.args.tables.now.nodes) c.put_nodes.result
+    (rw c.head.ensures.head at c.in_ok-put_head.ensures.put) c.put_nodes.ensures.put

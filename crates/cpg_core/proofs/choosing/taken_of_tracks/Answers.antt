@@ -12,7 +12,8 @@ returns-then-are_same c =
     let urgency = c.args.admitted.now.order in
     let a = c.first_order-first_order.ensures.admitted in
     let top : IsTopological g (first_order g urgency) = rw c.first_order-first_order.ensures.order at c.first_order-first_order.ensures.topological in
-    subst (IsTaken g urgency) (sym c.first.ensures) (first_same g a.well_formed urgency a.topological top c.requires.narrow c.args.first.excess c.args.first.worst c.requires.first c.requires.ungiven c.args.order c.requires.track
+    subst (IsTaken g urgency) (sym c.first.ensures)
+    (first_same g a.well_formed urgency a.topological top c.requires.narrow c.args.first.excess c.args.first.worst c.requires.first c.requires.ungiven c.args.order c.requires.track
     ((rw c.if-are_same.true at c.are_same.ensures) ∙ c.first_order-first_order.ensures.order))
 
 pub returns-in-Some : goal.returns-in-Some
@@ -22,7 +23,8 @@ returns-in-Some c =
     let a = c.first_order-first_order.ensures.admitted in
     let top : IsTopological g (first_order g urgency) = rw c.first_order-first_order.ensures.order at c.first_order-first_order.ensures.topological in
     let least : IsLeastWide g c.args.order c.in-Some.field-0 = rw c.in-Some.is at c.in_ok-too_wide.ensures.some in
-    subst (IsTaken g urgency) (sym c.first-in-Some.ensures) (first_wide g a.well_formed urgency a.topological top c.requires.narrow c.args.first.excess c.args.first.worst c.requires.first c.args.order c.requires.track c.in-Some.field-0 least.wide)
+    subst (IsTaken g urgency) (sym c.first-in-Some.ensures)
+    (first_wide g a.well_formed urgency a.topological top c.requires.narrow c.args.first.excess c.args.first.worst c.requires.first c.args.order c.requires.track c.in-Some.field-0 least.wide)
 
 pub returns-then-is_better : goal.returns-then-is_better
 returns-then-is_better c =
@@ -41,5 +43,6 @@ returns c =
     let a = c.first_order-first_order.ensures.admitted in
     let top : IsTopological g (first_order g urgency) = rw c.first_order-first_order.ensures.order at c.first_order-first_order.ensures.topological in
     let narrow : IsNarrow g c.args.order = rw c.in_default.is at c.in_ok-too_wide.ensures.none in
-    subst (IsTaken g urgency) (sym c.first-2.ensures) (first_better g a.well_formed urgency a.topological top c.requires.narrow c.args.first.excess c.args.first.worst c.requires.first c.args.order c.requires.track c.requires.topological narrow
+    subst (IsTaken g urgency) (sym c.first-2.ensures)
+    (first_better g a.well_formed urgency a.topological top c.requires.narrow c.args.first.excess c.args.first.worst c.requires.first c.args.order c.requires.track c.requires.topological narrow
     c.in_ok-figures.figures.excess c.in_ok-figures.figures.worst c.in_ok-figures.ensures (λ better. both_ways c.is_better.result c.if-is_better.false (c.is_better.ensures.1 better)))

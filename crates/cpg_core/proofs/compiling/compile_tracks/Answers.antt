@@ -23,6 +23,7 @@ returns c =
     let urgency = c.args.admitted.now.order in
     let a = c.first_order-order.ensures.admitted in
     let top : IsTopological g (first_order g urgency) = rw c.first_order-order.ensures.order at c.first_order-order.ensures.topological in
-    let zero = tracked_in_time g a.well_formed urgency a.topological top c.args.order c.requires.topological c.in_ok-grown.grown c.in_ok-grown.ensures 0 c.requires.in_time.0 c.requires.in_time.1 refl in
+    let zero = tracked_in_time g a.well_formed urgency a.topological top c.args.order c.requires.topological c.in_ok-grown.grown c.in_ok-grown.ensures 0 c.requires.in_time.0 c.requires.in_time.1
+    refl in
     made g a.well_formed urgency a.topological top c.requires.first a.joins a.urgency c.in_ok-grown.grown c.in_ok-compiled.compiled c.in_ok-compiled.ensures zero
     (subst (IsCompileOrder g urgency) (sym c.in_ok-grown.ensures.same) c.requires.taken)

@@ -7,7 +7,8 @@ use Rattle.cpg_core.proofs.Compilations.{late_times, late_run, late_end, late_pr
 use Rattle.cpg_core.proofs.compiling.late.Goals as goal
 
 pub unreachable-requires : goal.unreachable-requires
-unreachable-requires c = some_shown c.args.admitted.now.graph c.args.admitted.now.order (first_order c.args.admitted.now.graph c.args.admitted.now.order) c.args.first c.requires.grown c.requires.late c.in_default.is
+unreachable-requires c = some_shown c.args.admitted.now.graph c.args.admitted.now.order (first_order c.args.admitted.now.graph c.args.admitted.now.order) c.args.first c.requires.grown c.requires.late
+    c.in_default.is
 
 pub due-requires : goal.due-requires
 due-requires c =

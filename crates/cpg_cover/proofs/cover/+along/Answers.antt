@@ -17,7 +17,8 @@ use Rattle.cpg_cube.proofs.CubeLaws.{with-is}
 use Rattle.cpg_cube.proofs.Mapped.{any_map}
 use Rattle.cpg_cube.proofs.Narrow.{known-narrowed}
 use Rattle.cpg_cover.proofs.cover.+along.Goals as goal
-use Rattle.cpg_cover.proofs.cover.+along.Goals.{least_by_number-in-Some-2+in_ok-late+in-Heap-1, least_by_number-then-not-late+in_ok-next, least_by_number-else-not-late, least_by_number-in-Some-2+in_ok-late+in-Inline-1, least_by_number-in_default-2}
+use Rattle.cpg_cover.proofs.cover.+along.Goals.{least_by_number-in-Some-2+in_ok-late+in-Heap-1, least_by_number-then-not-late+in_ok-next, least_by_number-else-not-late}
+use Rattle.cpg_cover.proofs.cover.+along.Goals.{least_by_number-in-Some-2+in_ok-late+in-Inline-1, least_by_number-in_default-2}
 
 -- what the list's references point to
 abbrev seen : Bor (List Literal) → List Literal
@@ -38,7 +39,8 @@ least_along-returns-in_default-place_of_match t c =
     let cube = c.args.cube.now in
     let least = c.in-Some.least in
     let first : IsFirst g order (matches cube) (Some least) = rw c.in-Some.is at (c.in_ok-least.ensures.first order) in
-    let none : list_any (λ b. matches b least) (map seen c.args.by.items) ≡ false = any_map (λ b. matches b least) seen c.args.by.items ∙ rw c.as_slice.ensures.value at c.in_default-place_of_match.ensures.none in
+    let none : list_any (λ b. matches b least) (map seen c.args.by.items) ≡ false = any_map (λ b. matches b least) seen c.args.by.items ∙
+    rw c.as_slice.ensures.value at c.in_default-place_of_match.ensures.none in
     left_at_once g order (map seen c.args.by.items) cube least first none
 
 pub least_along-returns-then-covered : goal.least_along-returns-then-covered
@@ -83,7 +85,8 @@ least_by_number-loop-number-preserved t c =
           let is = sym (with-is l cube w.in-Some-2.part some) in
           elim w.if-not-late.branch [
             | least_by_number-then-not-late+in_ok-next w' ↦ rw (w.found-is, w'.found-is, w'.earlier-found.ensures)
-                (with_part g order by cube v m found w'.in_ok-next.next inv (subst (λ (d : List Literal). IsFirst g order (is_left by d) w'.in_ok-next.next) is (rw w'.as_slice-list.ensures.value at w'.in_ok-next.ensures)))
+                (with_part g order by cube v m found w'.in_ok-next.next inv
+                (subst (λ (d : List Literal). IsFirst g order (is_left by d) w'.in_ok-next.next) is (rw w'.as_slice-list.ensures.value at w'.in_ok-next.ensures)))
             | least_by_number-else-not-late w' ↦ rw (w.found-is, w'.found-is)
                 (late_part g order by cube v m found (subst (λ (d : List Literal). IsLate g order d found) is (OnTrue_at (search rules) w.in_ok-late.ensures)) inv)
           ]
@@ -92,7 +95,8 @@ least_by_number-loop-number-preserved t c =
           let is = sym (with-is l cube w.in-Some-2.part some) in
           elim w.if-not-late.branch [
             | least_by_number-then-not-late+in_ok-next w' ↦ rw (w.found-is, w'.found-is, w'.earlier-found.ensures)
-                (with_part g order by cube v m found w'.in_ok-next.next inv (subst (λ (d : List Literal). IsFirst g order (is_left by d) w'.in_ok-next.next) is (rw w'.as_slice-list.ensures.value at w'.in_ok-next.ensures)))
+                (with_part g order by cube v m found w'.in_ok-next.next inv
+                (subst (λ (d : List Literal). IsFirst g order (is_left by d) w'.in_ok-next.next) is (rw w'.as_slice-list.ensures.value at w'.in_ok-next.ensures)))
             | least_by_number-else-not-late w' ↦ rw (w.found-is, w'.found-is)
                 (late_part g order by cube v m found (subst (λ (d : List Literal). IsLate g order d found) is (OnTrue_at (search rules) w.in_ok-late.ensures)) inv)
           ]

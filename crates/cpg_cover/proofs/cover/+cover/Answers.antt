@@ -38,7 +38,8 @@ left_of-returns-in_default-place_of_match t c =
     let cube = c.args.cube.now in
     let least = c.in-Some.least in
     let first : IsFirst g order (matches cube) (Some least) = rw c.in-Some.is at (c.in_ok-least.ensures.first order) in
-    let none : list_any (λ b. matches b least) (map seen c.args.by.items) ≡ false = any_map (λ b. matches b least) seen c.args.by.items ∙ rw c.as_slice.ensures.value at c.in_default-place_of_match.ensures.none in
+    let none : list_any (λ b. matches b least) (map seen c.args.by.items) ≡ false = any_map (λ b. matches b least) seen c.args.by.items ∙
+    rw c.as_slice.ensures.value at c.in_default-place_of_match.ensures.none in
     left_at_once g order (map seen c.args.by.items) cube least first none
 
 pub left_of-left_outside-requires : goal.left_of-left_outside-requires
@@ -51,9 +52,11 @@ left_of-left_outside-requires t c =
     let few : length cutting ≤ 256 = c.in_ok-cutting.ensures.few in
     let ranked : IsPermutation cutting c.in_ok-literals.literals.items = rw c.as_slice-2.ensures.value at c.in_ok-literals.ensures in
     let long = length_permutation cutting c.in_ok-literals.literals.items ranked in
-    let known : IsKnown g c.as_slice-4.result.now = rw c.as_slice-4.ensures.value (All-permutation (λ (l : Literal). IsVariable g l.variable) cutting c.in_ok-literals.literals.items ranked c.in_ok-cutting.ensures.known) in
+    let known : IsKnown g c.as_slice-4.result.now =
+    rw c.as_slice-4.ensures.value (All-permutation (λ (l : Literal). IsVariable g l.variable) cutting c.in_ok-literals.literals.items ranked c.in_ok-cutting.ensures.known) in
     let literals : length c.as_slice-4.result.now ≤ 256 = rw c.as_slice-4.ensures.value (omega arith) in
-    let list : All (λ (b : Bor (List Literal)). IsKnown g b.now) c.as_slice-5.result.now = rw (c.as_slice-5.ensures.value, c.remove-first.ensures.items) (all_removed (λ (b : Bor (List Literal)). IsKnown g b.now) c.args.by.items c.in-Some-place_of_match.place c.requires.list) in
+    let list : All (λ (b : Bor (List Literal)). IsKnown g b.now) c.as_slice-5.result.now = rw (c.as_slice-5.ensures.value, c.remove-first.ensures.items)
+    (all_removed (λ (b : Bor (List Literal)). IsKnown g b.now) c.args.by.items c.in-Some-place_of_match.place c.requires.list) in
     (search rules, (c.requires.order, (c.requires.cube, (known, (literals, list)))))
 
 pub left_of-returns : goal.left_of-returns
@@ -63,7 +66,8 @@ left_of-returns t c =
     let first = c.remove-first.result.now in
     let is_first : first ≡ seen (get_or c.args.by.items c.in-Some-place_of_match.place c.remove-first.result) = ap seen c.remove-first.ensures.value in
     let ranked : IsPermutation c.in_ok-cutting.cutting.items c.in_ok-literals.literals.items = rw c.as_slice-2.ensures.value at c.in_ok-literals.ensures in
-    let cut : (s : Scenario) → IsScenario g s → matches c.args.cube.now s ≡ true → matches c.in_ok-cutting.cutting.items s ≡ matches first s = rw c.literals.ensures.literals at c.in_ok-cutting.ensures.same in
+    let cut : (s : Scenario) → IsScenario g s → matches c.args.cube.now s ≡ true → matches c.in_ok-cutting.cutting.items s ≡ matches first s =
+    rw c.literals.ensures.literals at c.in_ok-cutting.ensures.same in
     left_by_taken g c.args.order.now seen c.args.by.items c.in-Some-place_of_match.place c.remove-first.result c.in_ok-literals.literals.items c.args.cube.now c.in_ok-found.found within
     (λ s i t. sym (matches_permutation c.in_ok-cutting.cutting.items c.in_ok-literals.literals.items s ranked) ∙ cut s i t ∙ ap (λ b. matches b s) is_first)
     (rw (c.as_slice-5.ensures.value, c.remove-first.ensures.items, c.as_slice-4.ensures.value) at c.in_ok-found.ensures)
@@ -85,7 +89,8 @@ left_of_part-left_of-requires t c =
     let g = c.args.problem.now in
     let some : with_literal c.in-Some.literal c.args.cube.now ≡ Some c.in-Some-2.part = search rules in
     let known : IsVariable g c.in-Some.literal.variable = rw c.in-Some.is at c.requires.literal in
-    let part : IsKnown g c.in-Some-2.part = subst (IsKnown g) (with-is c.in-Some.literal c.args.cube.now c.in-Some-2.part some) (known-narrowed g c.in-Some.literal c.args.cube.now known c.requires.cube) in
+    let part : IsKnown g c.in-Some-2.part = subst (IsKnown g) (with-is c.in-Some.literal c.args.cube.now c.in-Some-2.part some)
+    (known-narrowed g c.in-Some.literal c.args.cube.now known c.requires.cube) in
     (search rules, (c.requires.order, (part, c.in_ok-kept.ensures.known)))
 
 -- of the last literal, nothing is left within it
@@ -101,7 +106,8 @@ left_outside-returns-then-is_empty t c =
     let split : c.args.literals.now ≡ l ∷ [] = c.in-Some.ensures.cases.0 ∙ ap (λ ls. l ∷ ls) last in
     let known : IsVariable g l.variable = All-head (λ (m : Literal). IsVariable g m.variable) l [] (rw split at c.requires.literals) in
     let below = first_below g few order by l cube c.in_ok-low.low (rw c.below.ensures at c.in_ok-low.ensures.part) (rw c.below.ensures at c.in_ok-low.ensures.none) in
-    let above = first_above g few order by l cube c.in_ok-high.high known (rw (c.above.ensures, c.faults-k.ensures.faults) at c.in_ok-high.ensures.part) (rw (c.above.ensures, c.faults-k.ensures.faults) at c.in_ok-high.ensures.none) in
+    let above = first_above g few order by l cube c.in_ok-high.high known (rw (c.above.ensures, c.faults-k.ensures.faults) at c.in_ok-high.ensures.part)
+    (rw (c.above.ensures, c.faults-k.ensures.faults) at c.in_ok-high.ensures.none) in
     rw (split, c.earlier-beside.ensures, ← earlier_none g order (earlier g order c.in_ok-low.low c.in_ok-high.high))
     (outside_one g few order by l [] cube c.in_ok-low.low c.in_ok-high.high None below above (outside_none g few order by (narrowed_by l cube)))
 
@@ -119,7 +125,8 @@ left_outside-returns-in_default-2 t c =
     let known : IsVariable g l.variable = All-head (λ (m : Literal). IsVariable g m.variable) l ls (rw split at c.requires.literals) in
     let none : with_literal l cube ≡ None = search rules in
     let below = first_below g few order by l cube c.in_ok-low.low (rw c.below.ensures at c.in_ok-low.ensures.part) (rw c.below.ensures at c.in_ok-low.ensures.none) in
-    let above = first_above g few order by l cube c.in_ok-high.high known (rw (c.above.ensures, c.faults-k.ensures.faults) at c.in_ok-high.ensures.part) (rw (c.above.ensures, c.faults-k.ensures.faults) at c.in_ok-high.ensures.none) in
+    let above = first_above g few order by l cube c.in_ok-high.high known (rw (c.above.ensures, c.faults-k.ensures.faults) at c.in_ok-high.ensures.part)
+    (rw (c.above.ensures, c.faults-k.ensures.faults) at c.in_ok-high.ensures.none) in
     rw (split, c.earlier-beside.ensures, ← earlier_none g order (earlier g order c.in_ok-low.low c.in_ok-high.high))
     (outside_one g few order by l ls cube c.in_ok-low.low c.in_ok-high.high None below above (within_none g order by l cube ls none))
 
@@ -159,7 +166,9 @@ left_outside-returns t c =
     let known : IsVariable g l.variable = All-head (λ (m : Literal). IsVariable g m.variable) l ls (rw split at c.requires.literals) in
     let some : with_literal l cube ≡ Some c.in-Some-2.within = search rules in
     let below = first_below g few order by l cube c.in_ok-low.low (rw c.below.ensures at c.in_ok-low.ensures.part) (rw c.below.ensures at c.in_ok-low.ensures.none) in
-    let above = first_above g few order by l cube c.in_ok-high.high known (rw (c.above.ensures, c.faults-k.ensures.faults) at c.in_ok-high.ensures.part) (rw (c.above.ensures, c.faults-k.ensures.faults) at c.in_ok-high.ensures.none) in
-    let within = within_kept g order by l cube c.in-Some-2.within some (map seen c.in_ok-kept.kept.items) c.in_ok-kept.ensures.same ls c.in_ok-found.found (rw c.as_slice.ensures.value at c.in_ok-found.ensures) in
+    let above = first_above g few order by l cube c.in_ok-high.high known (rw (c.above.ensures, c.faults-k.ensures.faults) at c.in_ok-high.ensures.part)
+    (rw (c.above.ensures, c.faults-k.ensures.faults) at c.in_ok-high.ensures.none) in
+    let within = within_kept g order by l cube c.in-Some-2.within some (map seen c.in_ok-kept.kept.items) c.in_ok-kept.ensures.same ls c.in_ok-found.found
+    (rw c.as_slice.ensures.value at c.in_ok-found.ensures) in
     rw (split, c.earlier.ensures, c.earlier-beside.ensures)
     (outside_one g few order by l ls cube c.in_ok-low.low c.in_ok-high.high c.in_ok-found.found below above within)

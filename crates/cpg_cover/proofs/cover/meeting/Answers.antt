@@ -20,7 +20,8 @@ returns-in_default-clause-same c s i =
     let a = c.args.cube.now in
     let is : IsCube g a = record { rising = c.literals.ensures.rising; known = c.requires.cube } in
     let none : budget_left (is_open g.faults) asked_of_literal g.faults a ≡ None = search rules in
-    left_same (λ (b : Bor (List Literal)). b.now) c.new-kept.result.items c.args.by.now a s (λ t. absurd (both_ways (matches a s) (unmatched g c.faults-k.ensures.within a is (met_from_none g.faults a none) s i) t))
+    left_same (λ (b : Bor (List Literal)). b.now) c.new-kept.result.items c.args.by.now a s
+    (λ t. absurd (both_ways (matches a s) (unmatched g c.faults-k.ensures.within a is (met_from_none g.faults a none) s i) t))
 
 pub loop-other-preserved : goal.loop-other-preserved
 loop-other-preserved c =
@@ -54,4 +55,5 @@ loop-other-preserved c =
     ]
 
 pub returns-clause-same : goal.returns-clause-same
-returns-clause-same c s i = left_same (λ (b : Bor (List Literal)). b.now) c.loop-other.kept.items c.args.by.now c.args.cube.now s (λ t. c.loop-other.invariant.same s i t ∙ ap (list_any (λ b. matches b.now s)) (take_all c.loop-other.other-index c.args.by.now (omega arith)))
+returns-clause-same c s i = left_same (λ (b : Bor (List Literal)). b.now) c.loop-other.kept.items c.args.by.now c.args.cube.now s
+    (λ t. c.loop-other.invariant.same s i t ∙ ap (list_any (λ b. matches b.now s)) (take_all c.loop-other.other-index c.args.by.now (omega arith)))

@@ -44,5 +44,6 @@ fewest_with-returns t c =
     let b = c.min-most.ensures in
     let d = c.saturating_add-few.ensures in
     let e = c.min-2.ensures in
-    count_from cubes c.in_ok-more.more.items c.args.variable c.args.bound.room c.args.without most c.in_ok-with.with c.min-2.result c.requires.count c.requires.without (omega arith) (omega arith) (omega arith)
+    count_from cubes c.in_ok-more.more.items c.args.variable c.args.bound.room c.args.without most c.in_ok-with.with c.min-2.result c.requires.count c.requires.without (omega arith) (omega arith)
+    (omega arith)
     on (rw c.as_slice.ensures.value at c.in_ok-with.ensures) (omega arith) (omega arith)

@@ -42,7 +42,8 @@ pub returns-clause-narrowed : goal.returns-clause-narrowed
 returns-clause-narrowed c =
     let e : position (from_variable c.args.literal.variable) c.args.literals.now.items ≡ Some c.in-Some.place = search rules in
     let xs = c.args.literals.now.items in
-    c.in_ok-insert.ensures.ok ∙ sym (narrowed-in c.args.literal xs c.in-Some.place blank (place_found c.args.literal.variable xs c.in-Some.place e) (rw c.as_slice-2.ensures at c.if-other-literal.false))
+    c.in_ok-insert.ensures.ok ∙ sym (narrowed-in c.args.literal xs c.in-Some.place blank (place_found c.args.literal.variable xs c.in-Some.place e)
+    (rw c.as_slice-2.ensures at c.if-other-literal.false))
 
 pub returns-clause-undo : goal.returns-clause-undo
 returns-clause-undo c =

@@ -33,7 +33,8 @@ returns-clause-permutation g c =
     let after = c.sort_unstable_by.new.self.items in
     let columns = c.args.columns.items in
     IfOk-weaker _ (λ r. r.items ≡ map column after) (λ r. IsPermutation columns r.items)
-    (λ r e. subst (IsPermutation columns) (sym e) (subst (λ (xs : List g.row.T.Denot). IsPermutation xs (map column after)) c.in_ok-ranked.ensures.columns (IsPermutation-map column before after c.sort_unstable_by.ensures.permutation)))
+    (λ r e. subst (IsPermutation columns) (sym e)
+    (subst (λ (xs : List g.row.T.Denot). IsPermutation xs (map column after)) c.in_ok-ranked.ensures.columns (IsPermutation-map column before after c.sort_unstable_by.ensures.permutation)))
     (search rules)
 
 pub returns-clause-by_lows : goal.returns-clause-by_lows

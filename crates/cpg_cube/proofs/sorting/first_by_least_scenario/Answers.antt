@@ -30,4 +30,5 @@ returns-clause-first g c =
     let variables = c.as_slice.result.now in
     let few : length order ≤ 128 = omega (arith, length_order (process_count problem) order c.requires, c.processes-processes.ensures.within.few_processes) in
     let along : variables ≡ variables_along problem order = c.as_slice.ensures.value ∙ c.in_ok-variables.ensures ∙ ap (variables_along problem) c.processes.ensures.processes in
-    IfSome_then c.in_ok-place.place {P = IsFirstByKeys g.T.Cubed.cubed variables (length columns) columns} {Q = IsFirstByLows g.T.Cubed.cubed problem order columns} c.in_ok-place.ensures.first (first_by_lows g.T.Cubed.cubed columns problem order variables few along)
+    IfSome_then c.in_ok-place.place {P = IsFirstByKeys g.T.Cubed.cubed variables (length columns) columns} {Q = IsFirstByLows g.T.Cubed.cubed problem order columns} c.in_ok-place.ensures.first
+    (first_by_lows g.T.Cubed.cubed columns problem order variables few along)

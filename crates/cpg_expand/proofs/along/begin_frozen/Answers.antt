@@ -21,10 +21,12 @@ guard_of-requires c =
     omega arith
 
 pub active-requires-clause-few : goal.active-requires-clause-few
-active-requires-clause-few c = few_here c.args.admitted.now.graph c.args.admitted.now.order c.args.admitted.now.guards c.guards-guards.ensures.admitted c.problem-problem.result.now c.problem-problem.ensures.problem
+active-requires-clause-few c = few_here c.args.admitted.now.graph c.args.admitted.now.order c.args.admitted.now.guards c.guards-guards.ensures.admitted c.problem-problem.result.now
+    c.problem-problem.ensures.problem
 
 pub active-requires-clause-tests : goal.active-requires-clause-tests
-active-requires-clause-tests c = tests_here c.args.admitted.now.graph c.args.admitted.now.order c.args.admitted.now.guards c.guards-guards.ensures.admitted c.problem-problem.result.now c.problem-problem.ensures.problem
+active-requires-clause-tests c = tests_here c.args.admitted.now.graph c.args.admitted.now.order c.args.admitted.now.guards c.guards-guards.ensures.admitted c.problem-problem.result.now
+    c.problem-problem.ensures.problem
     c.guards-guards.result.now c.guards-guards.ensures.guards c.guard_of.result.now c.guard_of.ensures.below
 
 pub latest_start-requires-clause-along : goal.latest_start-requires-clause-along

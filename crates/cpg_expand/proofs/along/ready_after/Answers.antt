@@ -16,7 +16,8 @@ use Rattle.cpg_expand.proofs.along.ready_after.Goals as goal
 
 pub returns-then-is_true-clause-ready : goal.returns-then-is_true-clause-ready
 returns-then-is_true-clause-ready c waited =
-    ready_everywhere c.args.admitted.now.graph c.args.forest.now (node_of c.args.admitted.now.graph c.args.process) (tree_of c.args.admitted.now.guards c.args.process) c.args.active.now c.args.end.now c.if-is_true.ensures
+    ready_everywhere c.args.admitted.now.graph c.args.forest.now (node_of c.args.admitted.now.graph c.args.process)
+    (tree_of c.args.admitted.now.guards c.args.process) c.args.active.now c.args.end.now c.if-is_true.ensures
 
 pub returns-clause-ready : goal.returns-clause-ready
 returns-clause-ready c waited =
@@ -44,6 +45,8 @@ returns-in_err-heard-clause-fault c =
     let guard = tree_of c.args.admitted.now.guards p in
     let is : found ≡ guard = c.guard_of-guard.ensures.tree ∙ ap (λ (x : Guards). tree_of x p) c.guards.ensures.guards in
     let same = c.problem-problem.ensures.problem in
-    let waited : IsWaitedFor g order (place order p + 1) (node_of g p) = subst (λ (k : Graph). IsWaitedFor k order (place order p + 1) (node_of k p)) same (c.is_waited_for.ensures.by c.if-not-is_waited_for.false) in
+    let waited : IsWaitedFor g order (place order p + 1) (node_of g p) = subst (λ (k : Graph). IsWaitedFor k order (place order p + 1) (node_of k p)) same
+    (c.is_waited_for.ensures.by c.if-not-is_waited_for.false) in
     handed_as (IsLargeWait h f c.node_of-node.result found) (IsLargeFrozen g order p f guard) f.wide c.from_residual-in_err-heard.result c.in_err-heard.field-0.0 c.from_residual-in_err-heard.ensures.1
-    (λ x. (waited, subst (λ (k : Graph). IsLargeWait k f (node_of k p) guard) same (subst (IsLargeWait h f (node_of h p)) is (subst (λ n. IsLargeWait h f n found) c.node_of-node.ensures.node x)))) c.in_err-heard.ensures.fault
+    (λ x. (waited, subst (λ (k : Graph). IsLargeWait k f (node_of k p) guard) same (subst (IsLargeWait h f (node_of h p)) is (subst (λ n. IsLargeWait h f n found) c.node_of-node.ensures.node x))))
+    c.in_err-heard.ensures.fault

@@ -18,5 +18,6 @@ pub returns-clause-asked : goal.returns-clause-asked
 returns-clause-asked c =
     let g = c.args.span.now.problem.now in
     let span = c.args.span.now in
-    let all : c.loop-other.other ≡ process_count g = omega (arith, c.loop-other-test.false, c.loop-other.auto.other-end, ap length c.processes.ensures.processes, c.processes.ensures.within.few_processes) in
+    let all : c.loop-other.other ≡ process_count g =
+    omega (arith, c.loop-other-test.false, c.loop-other.auto.other-end, ap length c.processes.ensures.processes, c.processes.ensures.within.few_processes) in
     subst (λ n. IsAskedTree g span.order.now span.guards.now span.node span.from c.args.to c.args.condition n c.loop-other.asked) all c.loop-other.invariant.1

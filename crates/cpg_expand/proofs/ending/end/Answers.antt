@@ -7,7 +7,8 @@ use Rattle.cpg_expand.proofs.ending.end.Goals as goal
 
 pub returns-clause-tree : goal.returns-clause-tree
 returns-clause-tree c = same_tree c.args.problem.now c.args.start.now c.in_ok-end.end c.requires.start.faults c.in_ok-end.ensures.is.faults c.in_ok-end.ensures.each
-    (c.in_ok-end.ensures.pass (is_variable c.args.problem.now) c.requires.start.known (c.in_ok-faults.ensures.pass (is_variable c.args.problem.now) (count_passes c.args.problem.now c.args.process c.requires.process)))
+    (c.in_ok-end.ensures.pass (is_variable c.args.problem.now) c.requires.start.known
+    (c.in_ok-faults.ensures.pass (is_variable c.args.problem.now) (count_passes c.args.problem.now c.args.process c.requires.process)))
 
 pub returns-clause-end : goal.returns-clause-end
 returns-clause-end c = end_told c.args.problem.now c.args.process c.args.start.now c.in_ok-end.end c.in_ok-faults.faults c.requires.start

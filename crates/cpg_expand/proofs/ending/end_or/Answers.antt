@@ -13,4 +13,5 @@ returns-clause-ready c =
     let g = c.args.problem.now in
     let end = c.args.end.now in
     let each = each_of g end.faults end c.requires.end.faults c.requires.end in
-    ready_told g c.args.active.now end c.args.wait.now (later_by 0 end) c.in_ok-ready.ready c.requires.active c.requires.end c.requires.wait (later_map 0 end each) (later_each 0 end each) (later_pass 0 end (is_variable g) c.requires.end.known) c.in_ok-ready.ensures.is
+    ready_told g c.args.active.now end c.args.wait.now (later_by 0 end) c.in_ok-ready.ready c.requires.active c.requires.end c.requires.wait (later_map 0 end each) (later_each 0 end each)
+    (later_pass 0 end (is_variable g) c.requires.end.known) c.in_ok-ready.ensures.is

@@ -18,4 +18,5 @@ returns-in_err-few_free c =
     let f = c.args.forest.now in
     handed_as (HasLargeFree g order (c.place.result + 1) c.node_of-node.result f) (IsLargeLeft g order p f) f.wide
     c.from_residual-in_err-few_free.result c.in_err-few_free.field-0.0 c.from_residual-in_err-few_free.ensures.1
-    (λ x. inr (subst (λ i. HasLargeFree g order (i + 1) (node_of g p) f) c.place.ensures.place (subst (λ n. HasLargeFree g order (c.place.result + 1) n f) c.node_of-node.ensures.node x))) c.in_err-few_free.ensures
+    (λ x. inr (subst (λ i. HasLargeFree g order (i + 1) (node_of g p) f) c.place.ensures.place (subst (λ n. HasLargeFree g order (c.place.result + 1) n f) c.node_of-node.ensures.node x)))
+    c.in_err-few_free.ensures

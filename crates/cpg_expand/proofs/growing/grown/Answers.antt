@@ -31,14 +31,16 @@ loop-process-preserved c =
     let k = c.loop-process.process-index in
     record {
       wide = c.in_ok-step.ensures.wide ∙ c.loop-process.invariant.wide;
-      grown = next_grown c.args.admitted.now.graph c.args.order.now c.requires.topological c.processes-process-items.ensures.order k (get_or c.processes-process-items.result.now k 0) (omega (arith, ap length same, c.loop-process-test.true)) (ap (λ xs. get_or xs k 0) same)
+      grown = next_grown c.args.admitted.now.graph c.args.order.now c.requires.topological c.processes-process-items.ensures.order k (get_or c.processes-process-items.result.now k 0)
+          (omega (arith, ap length same, c.loop-process-test.true)) (ap (λ xs. get_or xs k 0) same)
           c.loop-process.forest c.step.new.forest c.loop-process.frozen c.step.new.frozen c.loop-process.invariant.grown c.in_ok-step.ensures.grown;
     }
 
 pub returns-clause-grown : goal.returns-clause-grown
 returns-clause-grown c =
     all_grown c.args.admitted.now.graph c.args.order.now c.requires.topological c.loop-process.process-index
-    (omega (arith, ap length c.processes-process-items.ensures.processes, c.loop-process-test.false, c.loop-process.auto.process-index-end)) c.loop-process.frozen c.loop-process.forest c.loop-process.invariant.grown
+    (omega (arith, ap length c.processes-process-items.ensures.processes, c.loop-process-test.false, c.loop-process.auto.process-index-end)) c.loop-process.frozen c.loop-process.forest
+    c.loop-process.invariant.grown
 
 pub step-requires-clause-order : goal.step-requires-clause-order
 step-requires-clause-order c = length_order (process_count c.args.admitted.now.graph) c.args.order.now c.requires.topological.all
@@ -69,7 +71,8 @@ returns-in_err-step-clause-fault c =
     let long = length_order (process_count g) order c.requires.topological.all in
     let below : p < process_count g = omega (arith, ap (λ xs. get_or xs k 0) same, within, long) in
     handed_as (IsLargeBegun g order guards p f) (HasLargeTree g urgency order) c.args.wide c.from_residual-in_err-step.result fault c.from_residual-in_err-step.ensures.1
-    (λ x. large_begun g urgency guards c.problem-problem.ensures.admitted.guards order c.processes-process-items.ensures.order k p (omega (arith, ap length same, c.loop-process-test.true)) (ap (λ xs. get_or xs k 0) same)
+    (λ x. large_begun g urgency guards c.problem-problem.ensures.admitted.guards order c.processes-process-items.ensures.order k p (omega (arith, ap length same, c.loop-process-test.true))
+    (ap (λ xs. get_or xs k 0) same)
     c.loop-process.frozen f below c.loop-process.invariant.grown x)
     (named_as (IsLargeBegun g order guards p f) f.wide c.args.wide fault c.loop-process.invariant.wide c.in_err-step.ensures.fault)
 
@@ -91,7 +94,8 @@ returns-in_err-few_left-clause-fault c =
     let grown = next_grown g order c.requires.topological c.processes-process-items.ensures.order k p (omega (arith, ap length same, c.loop-process-test.true)) (ap (λ xs. get_or xs k 0) same)
     c.loop-process.forest f c.loop-process.frozen c.step.new.frozen c.loop-process.invariant.grown c.in_ok-step.ensures.grown in
     handed_as (IsLargeLeft g order p f) (HasLargeTree g urgency order) c.args.wide c.from_residual-in_err-few_left.result fault c.from_residual-in_err-few_left.ensures.1
-    (λ x. large_left g urgency guards c.problem-problem.ensures.admitted.guards order c.processes-process-items.ensures.order k p (omega (arith, ap length same, c.loop-process-test.true)) (ap (λ xs. get_or xs k 0) same)
+    (λ x. large_left g urgency guards c.problem-problem.ensures.admitted.guards order c.processes-process-items.ensures.order k p (omega (arith, ap length same, c.loop-process-test.true))
+    (ap (λ xs. get_or xs k 0) same)
     c.step.new.frozen f (c.problem-problem.ensures.admitted.limits.processes p _ below).node grown x)
     (named_as (IsLargeLeft g order p f) f.wide c.args.wide fault (c.in_ok-step.ensures.wide ∙ c.loop-process.invariant.wide)
     (subst (λ (h : Graph). ShowsLarge f.wide (IsLargeLeft h order p f) fault) here c.in_err-few_left.ensures))

@@ -11,4 +11,5 @@ returns-in_ok-picked-in-Test-clause-active t c = subst (λ (guard : Guard). IsAc
     c.in_ok-no-in-Test.ensures.active c.in_ok-yes-in-Test.ensures.active c.in_ok-picked-in-Test.ensures.picks)
 
 pub returns-in_ok-constant-in-Leaf-clause-tree : goal.returns-in_ok-constant-in-Leaf-clause-tree
-returns-in_ok-constant-in-Leaf-clause-tree t c = constant_tree c.args.problem.now c.is_active.result c.faults.result c.in_ok-constant-in-Leaf.constant c.faults.ensures.faults c.in_ok-constant-in-Leaf.ensures.each c.in_ok-constant-in-Leaf.ensures.is (c.in_ok-constant-in-Leaf.ensures.pass (is_variable c.args.problem.now))
+returns-in_ok-constant-in-Leaf-clause-tree t c = constant_tree c.args.problem.now c.is_active.result c.faults.result c.in_ok-constant-in-Leaf.constant c.faults.ensures.faults
+    c.in_ok-constant-in-Leaf.ensures.each c.in_ok-constant-in-Leaf.ensures.is (c.in_ok-constant-in-Leaf.ensures.pass (is_variable c.args.problem.now))

@@ -8,7 +8,8 @@ use Rattle.cpg_expand.proofs.TreesTold.{all_parts}
 use Rattle.cpg_expand.proofs.guarded.+are_own.Goals as goal
 
 pub returns-in_default : goal.returns-in_default
-returns-in_default t c = subst (All (λ (e : ℕ). is_message c.args.problem.now e ≡ false)) (sym (nil_from_length c.args.edges.now (MatchOption-at_none _ _ c.in_default.is c.split_first.ensures.cases))) (All-nil (λ (e : ℕ). is_message c.args.problem.now e ≡ false))
+returns-in_default t c = subst (All (λ (e : ℕ). is_message c.args.problem.now e ≡ false))
+    (sym (nil_from_length c.args.edges.now (MatchOption-at_none _ _ c.in_default.is c.split_first.ensures.cases))) (All-nil (λ (e : ℕ). is_message c.args.problem.now e ≡ false))
 
 pub are_own-requires : goal.are_own-requires
 are_own-requires t c =

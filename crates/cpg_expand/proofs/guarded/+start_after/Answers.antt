@@ -13,7 +13,8 @@ use Rattle.cpg_expand.proofs.LargeShown.{handed_on, named_as}
 use Rattle.cpg_expand.proofs.guarded.+start_after.Goals as goal
 
 pub returns-in_default-clause-start : goal.returns-in_default-clause-start
-returns-in_default-clause-start t c = subst (λ (es : List ℕ). IsStartAfter c.args.problem.now c.args.forest.now (ready_by c.args.problem.now c.args.forest.now c.args.wait.now) c.args.release es c.in_ok-start.start)
+returns-in_default-clause-start t c = subst
+    (λ (es : List ℕ). IsStartAfter c.args.problem.now c.args.forest.now (ready_by c.args.problem.now c.args.forest.now c.args.wait.now) c.args.release es c.in_ok-start.start)
     (sym (nil_from_length c.args.edges.now (MatchOption-at_none _ _ c.in_default.is c.split_first.ensures.cases))) c.in_ok-start.ensures.start
 
 pub returns-then-not-is_message-clause-start : goal.returns-then-not-is_message-clause-start
@@ -22,7 +23,8 @@ returns-then-not-is_message-clause-start t c =
     let f = c.args.forest.now in
     let wait = ready_by g f c.args.wait.now in
     subst (λ (es : List ℕ). IsStartAfter g f wait c.args.release es c.in_ok-start-2.start) (sym c.in-Some.ensures.cases.0)
-    (λ s few. own_input g f s [] wait c.in_ok-start-2.start c.args.release c.in-Some.edge.now c.in-Some.others.now (sym c.is_message.ensures ∙ c.if-not-is_message.true) (c.in_ok-start-2.ensures.start s few))
+    (λ s few. own_input g f s [] wait c.in_ok-start-2.start c.args.release c.in-Some.edge.now c.in-Some.others.now (sym c.is_message.ensures ∙ c.if-not-is_message.true)
+    (c.in_ok-start-2.ensures.start s few))
 
 pub returns-then-are_own-clause-start : goal.returns-then-are_own-clause-start
 returns-then-are_own-clause-start t c =
@@ -30,7 +32,8 @@ returns-then-are_own-clause-start t c =
     let f = c.args.forest.now in
     let wait = ready_by g f c.args.wait.now in
     subst (λ (es : List ℕ). IsStartAfter g f wait c.args.release es c.in_ok-start-3.start) (sym c.in-Some.ensures.cases.0)
-    (λ s few. last_input g f s [] wait c.in_ok-start-3.start c.args.release c.in-Some.edge.now c.in-Some.others.now (from_true c.are_own.result c.if-are_own.true c.are_own.ensures) (c.in_ok-start-3.ensures.start s few))
+    (λ s few. last_input g f s [] wait c.in_ok-start-3.start c.args.release c.in-Some.edge.now c.in-Some.others.now (from_true c.are_own.result c.if-are_own.true c.are_own.ensures)
+    (c.in_ok-start-3.ensures.start s few))
 
 pub start_after-requires-2 : goal.start_after-requires-2
 start_after-requires-2 t c =
@@ -45,21 +48,25 @@ returns-clause-start t c =
     let f = c.args.forest.now in
     let wait = ready_by g f c.args.wait.now in
     subst (λ (es : List ℕ). IsStartAfter g f wait c.args.release es c.in_ok-start-4.start) (sym c.in-Some.ensures.cases.0)
-    (λ s few. one_input g f s [] few wait (later_by (input_delay g c.in-Some.edge.now) (input_tree g f c.in-Some.edge.now)) c.in_ok-there.there c.in_ok-start-4.start c.args.release c.in-Some.edge.now c.in-Some.others.now
+    (λ s few. one_input g f s [] few wait (later_by (input_delay g c.in-Some.edge.now) (input_tree g f c.in-Some.edge.now)) c.in_ok-there.there c.in_ok-start-4.start c.args.release c.in-Some.edge.now
+    c.in-Some.others.now
     (later_is g (input_delay g c.in-Some.edge.now) (input_tree g f c.in-Some.edge.now)) c.in_ok-there.ensures.both (c.in_ok-start-4.ensures.start s few))
 
 pub returns-in_err-start-2-clause-fault : goal.returns-in_err-start-2-clause-fault
 returns-in_err-start-2-clause-fault t c =
     handed_on _ c.from_residual-in_err-start-2.result c.in_err-start-2.field-0.0 c.from_residual-in_err-start-2.ensures.1
-    (large_own c.args.problem.now c.args.forest.now (ready_by c.args.problem.now c.args.forest.now c.args.wait.now) c.args.forest.now.wide c.in_err-start-2.field-0.0 c.args.edges.now c.in-Some.edge.now c.in-Some.others.now c.in-Some.ensures.cases.0 (sym c.is_message.ensures ∙ c.if-not-is_message.true) c.in_err-start-2.ensures.fault)
+    (large_own c.args.problem.now c.args.forest.now (ready_by c.args.problem.now c.args.forest.now c.args.wait.now) c.args.forest.now.wide c.in_err-start-2.field-0.0 c.args.edges.now
+    c.in-Some.edge.now c.in-Some.others.now c.in-Some.ensures.cases.0 (sym c.is_message.ensures ∙ c.if-not-is_message.true) c.in_err-start-2.ensures.fault)
 
 pub returns-in_err-few-clause-fault : goal.returns-in_err-few-clause-fault
 returns-in_err-few-clause-fault t c =
     handed_on _ c.from_residual-in_err-few.result c.in_err-few.field-0.0 c.from_residual-in_err-few.ensures.1
-    (large_both c.args.problem.now c.args.forest.now (ready_by c.args.problem.now c.args.forest.now c.args.wait.now) c.args.forest.now.wide c.in_err-few.field-0.0 c.args.edges.now c.in-Some.edge.now c.in-Some.others.now c.in-Some.ensures.cases.0 c.in_ok-there.there c.in_ok-there.ensures.both
+    (large_both c.args.problem.now c.args.forest.now (ready_by c.args.problem.now c.args.forest.now c.args.wait.now) c.args.forest.now.wide c.in_err-few.field-0.0 c.args.edges.now c.in-Some.edge.now
+    c.in-Some.others.now c.in-Some.ensures.cases.0 c.in_ok-there.there c.in_ok-there.ensures.both
     (named_as (IsLarge c.in_ok-there.there) c.forest.inside.wide c.args.forest.now.wide c.in_err-few.field-0.0 (ap (λ (x : ForestState). x.wide) c.forest.view_is) c.in_err-few.ensures))
 
 pub returns-in_err-start-4-clause-fault : goal.returns-in_err-start-4-clause-fault
 returns-in_err-start-4-clause-fault t c =
     handed_on _ c.from_residual-in_err-start-4.result c.in_err-start-4.field-0.0 c.from_residual-in_err-start-4.ensures.1
-    (large_later c.args.problem.now c.args.forest.now (ready_by c.args.problem.now c.args.forest.now c.args.wait.now) c.args.forest.now.wide c.in_err-start-4.field-0.0 c.args.edges.now c.in-Some.edge.now c.in-Some.others.now c.in-Some.ensures.cases.0 c.in_ok-there.there c.in_ok-there.ensures.both c.in_err-start-4.ensures.fault)
+    (large_later c.args.problem.now c.args.forest.now (ready_by c.args.problem.now c.args.forest.now c.args.wait.now) c.args.forest.now.wide c.in_err-start-4.field-0.0 c.args.edges.now
+    c.in-Some.edge.now c.in-Some.others.now c.in-Some.ensures.cases.0 c.in_ok-there.there c.in_ok-there.ensures.both c.in_err-start-4.ensures.fault)

@@ -34,7 +34,8 @@ returns-then-are_own-clause-start t c =
     let active = c.args.active.now in
     let wait = ready_by g f c.args.wait.now in
     subst (λ (es : List ℕ). IsStartWhere g f active wait c.args.release es c.in_ok-start-3.start) (sym c.in-Some.ensures.cases.0)
-    (last_where g f active wait c.in_ok-start-3.start c.args.release c.in-Some.edge.now c.in-Some.others.now (from_true c.are_own.result c.if-are_own.true c.are_own.ensures) c.in_ok-start-3.ensures.start)
+    (last_where g f active wait c.in_ok-start-3.start c.args.release c.in-Some.edge.now c.in-Some.others.now
+    (from_true c.are_own.result c.if-are_own.true c.are_own.ensures) c.in_ok-start-3.ensures.start)
 
 pub start_where-requires-2 : goal.start_where-requires-2
 start_where-requires-2 t c =
@@ -57,15 +58,18 @@ returns-clause-start t c =
 pub returns-in_err-start-2-clause-fault : goal.returns-in_err-start-2-clause-fault
 returns-in_err-start-2-clause-fault t c =
     handed_on _ c.from_residual-in_err-start-2.result c.in_err-start-2.field-0.0 c.from_residual-in_err-start-2.ensures.1
-    (large_own c.args.problem.now c.args.forest.now (ready_by c.args.problem.now c.args.forest.now c.args.wait.now) c.args.forest.now.wide c.in_err-start-2.field-0.0 c.args.edges.now c.in-Some.edge.now c.in-Some.others.now c.in-Some.ensures.cases.0 (sym c.is_message.ensures ∙ c.if-not-is_message.true) c.in_err-start-2.ensures.fault)
+    (large_own c.args.problem.now c.args.forest.now (ready_by c.args.problem.now c.args.forest.now c.args.wait.now) c.args.forest.now.wide c.in_err-start-2.field-0.0 c.args.edges.now
+    c.in-Some.edge.now c.in-Some.others.now c.in-Some.ensures.cases.0 (sym c.is_message.ensures ∙ c.if-not-is_message.true) c.in_err-start-2.ensures.fault)
 
 pub returns-in_err-few-clause-fault : goal.returns-in_err-few-clause-fault
 returns-in_err-few-clause-fault t c =
     handed_on _ c.from_residual-in_err-few.result c.in_err-few.field-0.0 c.from_residual-in_err-few.ensures.1
-    (large_both c.args.problem.now c.args.forest.now (ready_by c.args.problem.now c.args.forest.now c.args.wait.now) c.args.forest.now.wide c.in_err-few.field-0.0 c.args.edges.now c.in-Some.edge.now c.in-Some.others.now c.in-Some.ensures.cases.0 c.in_ok-there.there c.in_ok-there.ensures.both
+    (large_both c.args.problem.now c.args.forest.now (ready_by c.args.problem.now c.args.forest.now c.args.wait.now) c.args.forest.now.wide c.in_err-few.field-0.0 c.args.edges.now c.in-Some.edge.now
+    c.in-Some.others.now c.in-Some.ensures.cases.0 c.in_ok-there.there c.in_ok-there.ensures.both
     (named_as (IsLarge c.in_ok-there.there) c.forest.inside.wide c.args.forest.now.wide c.in_err-few.field-0.0 (ap (λ (x : ForestState). x.wide) c.forest.view_is) c.in_err-few.ensures))
 
 pub returns-in_err-start-4-clause-fault : goal.returns-in_err-start-4-clause-fault
 returns-in_err-start-4-clause-fault t c =
     handed_on _ c.from_residual-in_err-start-4.result c.in_err-start-4.field-0.0 c.from_residual-in_err-start-4.ensures.1
-    (large_later c.args.problem.now c.args.forest.now (ready_by c.args.problem.now c.args.forest.now c.args.wait.now) c.args.forest.now.wide c.in_err-start-4.field-0.0 c.args.edges.now c.in-Some.edge.now c.in-Some.others.now c.in-Some.ensures.cases.0 c.in_ok-there.there c.in_ok-there.ensures.both c.in_err-start-4.ensures.fault)
+    (large_later c.args.problem.now c.args.forest.now (ready_by c.args.problem.now c.args.forest.now c.args.wait.now) c.args.forest.now.wide c.in_err-start-4.field-0.0 c.args.edges.now
+    c.in-Some.edge.now c.in-Some.others.now c.in-Some.ensures.cases.0 c.in_ok-there.there c.in_ok-there.ensures.both c.in_err-start-4.ensures.fault)

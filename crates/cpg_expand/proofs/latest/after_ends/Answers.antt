@@ -9,4 +9,5 @@ loop-other-init c =
 pub loop-other-preserved : goal.loop-other-preserved
 loop-other-preserved c =
     let span = c.args.span.now in
-    next_ended span.problem.now span.order.now c.args.forest.now c.args.active.now span.node span.from c.args.to c.loop-other.other c.args.first c.loop-other.latest c.after_one-latest.result c.loop-other.invariant c.after_one-latest.ensures
+    next_ended span.problem.now span.order.now c.args.forest.now c.args.active.now span.node span.from c.args.to c.loop-other.other c.args.first c.loop-other.latest c.after_one-latest.result
+    c.loop-other.invariant c.after_one-latest.ensures

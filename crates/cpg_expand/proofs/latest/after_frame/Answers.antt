@@ -12,8 +12,16 @@ pub returns : goal.returns
 returns c =
     let g = c.args.problem.now in
     let f = c.args.forest.now in
-    let inside : ForestState = record { times = c.forest.inside.times.items; ends = c.forest.inside.ends.items; ready = c.forest.inside.ready.items; free = c.forest.inside.free.items; wide = c.forest.inside.wide } in
-    let tree : c.index.result.now ≡ times_of g f c.args.item = times_read g f c.requires.forest inside c.forest.view_is c.index.result.now c.args.item c.args.item c.index.ensures refl c.requires.item in
+    let inside : ForestState = record {
+      times = c.forest.inside.times.items;
+      ends = c.forest.inside.ends.items;
+      ready = c.forest.inside.ready.items;
+      free = c.forest.inside.free.items;
+      wide =
+          c.forest.inside.wide;
+    } in
+    let tree : c.index.result.now ≡ times_of g f c.args.item = times_read g f c.requires.forest inside c.forest.view_is c.index.result.now c.args.item c.args.item c.index.ensures refl
+    c.requires.item in
     let delay : c.slot_length.result ≡ slot_length g (home g c.args.item) = c.slot_length.ensures ∙ ap (slot_length g) c.home.ensures.home in
     subst (IsRaised g (HasLater (times_of g f c.args.item) c.args.wanted.now (slot_length g (home g c.args.item))) c.args.latest) (sym c.or_later.ensures)
     (subst (λ n. IsRaised g (HasLater (times_of g f c.args.item) c.args.wanted.now n) c.args.latest (or_later c.args.latest c.slot_length.result c.most_where-time.result)) delay

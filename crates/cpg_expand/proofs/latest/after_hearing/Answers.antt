@@ -13,6 +13,8 @@ loop-condition-preserved c =
     let f = c.args.forest.now in
     let active = c.args.active.now in
     let at = c.loop-condition.condition in
-    next_heard g span.order.now span.guards.now f active c.requires.active span.node span.from c.args.to at c.args.first c.loop-condition.latest c.after_condition-latest.result c.loop-condition.invariant
-    (heard_raised g span.order.now span.guards.now f active c.requires.active span.node span.from c.args.to at c.in_ok-asked.asked c.in_ok-wanted.wanted c.in_ok-asked.ensures.tree c.in_ok-wanted.ensures.tree c.in_ok-asked.ensures.asked c.in_ok-wanted.ensures.both
+    next_heard g span.order.now span.guards.now f active c.requires.active span.node span.from c.args.to at c.args.first c.loop-condition.latest c.after_condition-latest.result
+    c.loop-condition.invariant
+    (heard_raised g span.order.now span.guards.now f active c.requires.active span.node span.from c.args.to at c.in_ok-asked.asked c.in_ok-wanted.wanted c.in_ok-asked.ensures.tree
+    c.in_ok-wanted.ensures.tree c.in_ok-asked.ensures.asked c.in_ok-wanted.ensures.both
     c.loop-condition.latest c.after_condition-latest.result c.after_condition-latest.ensures)

@@ -14,7 +14,14 @@ returns c =
     let sent = c.args.sent.now in
     let goes = sent.goes.now in
     let y = c.args.other in
-    let inside : ForestState = record { times = c.forest.inside.times.items; ends = c.forest.inside.ends.items; ready = c.forest.inside.ready.items; free = c.forest.inside.free.items; wide = c.forest.inside.wide } in
+    let inside : ForestState = record {
+      times = c.forest.inside.times.items;
+      ends = c.forest.inside.ends.items;
+      ready = c.forest.inside.ready.items;
+      free = c.forest.inside.free.items;
+      wide =
+          c.forest.inside.wide;
+    } in
     let tree : c.index.result.now ≡ times_of g f y = times_read g f c.requires.forest inside c.forest.view_is c.index.result.now y y c.index.ensures refl c.requires.other in
     one_queued g c.args.order.now f goes sent.item y c.args.latest c.or_later.result (sym c.stands_before.ensures ∙ c.if-not-stands_before.false)
     (subst (IsRaised g (HasLater (times_of g f y) goes (round g)) c.args.latest) (sym c.or_later.ensures)

@@ -28,7 +28,8 @@ loop-process-preserved c =
     let bar = c.bar_of-bar.result in
     let top : Option ℕ = c.index.result.now in
     let below : n < process_count g = omega (arith, c.loop-process-test.true, ap length c.processes.ensures.processes) in
-    let ends_top : HasTops g (process_count g) (EndsAt g ends) c.args.tops.now = ends_tops g c.processes.ensures.within.few_processes ends c.requires.trees c.args.tops.now c.requires.tops c.requires.count in
+    let ends_top : HasTops g (process_count g) (EndsAt g ends) c.args.tops.now = ends_tops g c.processes.ensures.within.few_processes ends c.requires.trees c.args.tops.now c.requires.tops
+    c.requires.count in
     let made : past_tops g c.args.tops.now ≡ tops = sym c.in_ok-past.ensures in
     let are : HasTops g (process_count g) (EndsPast g ends) tops = subst (HasTops g (process_count g) (EndsPast g ends)) made (past_tops_are g ends c.args.tops.now ends_top) in
     let count : length tops ≡ process_count g = ap length (sym made) ∙ past_count g c.args.tops.now in
@@ -51,7 +52,8 @@ peak_of c =
     let ends = c.args.ends.now in
     let tops = c.in_ok-past.past.items in
     let peak = c.loop-process.peak in
-    let ends_top : HasTops g (process_count g) (EndsAt g ends) c.args.tops.now = ends_tops g c.processes.ensures.within.few_processes ends c.requires.trees c.args.tops.now c.requires.tops c.requires.count in
+    let ends_top : HasTops g (process_count g) (EndsAt g ends) c.args.tops.now = ends_tops g c.processes.ensures.within.few_processes ends c.requires.trees c.args.tops.now c.requires.tops
+    c.requires.count in
     let made : past_tops g c.args.tops.now ≡ tops = sym c.in_ok-past.ensures in
     let are : HasTops g (process_count g) (EndsPast g ends) tops = subst (HasTops g (process_count g) (EndsPast g ends)) made (past_tops_are g ends c.args.tops.now ends_top) in
     let count : length tops ≡ process_count g = ap length (sym made) ∙ past_count g c.args.tops.now in
@@ -64,4 +66,5 @@ pub returns-clause-peak : goal.returns-clause-peak
 returns-clause-peak c = peak_of c
 
 pub returns-clause-excess : goal.returns-clause-excess
-returns-clause-excess c = λ order frozen topological tell. peak_is_excess c.args.problem.now order topological frozen c.args.ends.now c.requires.trees c.requires.count tell c.args.urgency.now c.loop-process.peak (peak_of c)
+returns-clause-excess c = λ order frozen topological tell. peak_is_excess c.args.problem.now order topological frozen c.args.ends.now c.requires.trees c.requires.count tell c.args.urgency.now
+    c.loop-process.peak (peak_of c)

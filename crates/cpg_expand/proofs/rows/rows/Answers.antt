@@ -34,7 +34,8 @@ loop-tree-preserved c =
       left = next.1;
       rows = rows_more g c.args.urgency.now times n c.loop-tree.rows.items c.push.new.self.items c.in_ok-row.row inv.rows
           (subst (λ t. IsRowOf g c.args.urgency.now t n c.in_ok-row.row) (sym next.0) c.in_ok-row.ensures) c.in_ok-push.ensures.items;
-      few = few_more g c.loop-tree.rows.items c.push.new.self.items c.in_ok-row.row n inv.rows.count c.in_ok-push.ensures.items c.args.wide c.loop-tree.load c.in_ok-load.load inv.few c.in_ok-load.ensures.load;
+      few = few_more g c.loop-tree.rows.items c.push.new.self.items c.in_ok-row.row n inv.rows.count c.in_ok-push.ensures.items c.args.wide c.loop-tree.load c.in_ok-load.load inv.few
+          c.in_ok-load.ensures.load;
       load = c.in_ok-load.ensures.few;
     }
 

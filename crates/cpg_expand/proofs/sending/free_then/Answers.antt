@@ -12,7 +12,15 @@ returns-clause-free c queued =
     let g = c.args.problem.now in
     let f = c.args.forest.now in
     let x = c.args.item in
-    let inside : ForestState = record { times = c.forest.inside.times.items; ends = c.forest.inside.ends.items; ready = c.forest.inside.ready.items; free = c.forest.inside.free.items; wide = c.forest.inside.wide } in
+    let inside : ForestState = record {
+      times = c.forest.inside.times.items;
+      ends = c.forest.inside.ends.items;
+      ready = c.forest.inside.ready.items;
+      free = c.forest.inside.free.items;
+      wide =
+          c.forest.inside.wide;
+    } in
     free_then_read g.faults g.faults c.round.result (round g) c.args.goes.now c.args.sent.now c.index-free.result.now (free_of g f (home g x)) c.in_ok-freed.freed refl c.round.ensures
-    (free_read g f c.requires.forest inside c.forest.view_is c.index-free.result.now c.home.result (home g x) c.index-free.ensures c.home.ensures.home (omega (arith, c.home.ensures.home, c.home.ensures.within)))
+    (free_read g f c.requires.forest inside c.forest.view_is c.index-free.result.now c.home.result (home g x) c.index-free.ensures c.home.ensures.home
+    (omega (arith, c.home.ensures.home, c.home.ensures.within)))
     (c.in_ok-freed.ensures.free queued)

@@ -25,7 +25,8 @@ loop-process_number-preserved c =
     let after : c.process.new.draws.number ≡ number_after x 5 = c.process.ensures.number ∙ ap (λ y. number_after y 5) at in
     record {
       draws = c.in_ok-push_edges.ensures.number ∙ ap (λ y. cond (has_predecessor i) (next_number y) y) after ∙ number_before_after c.args.number i;
-      processes = map_below_push (generated_process c.args.number) c.loop-process_number.processes.items c.push.new.self.items c.in_ok-process.field-0 i c.loop-process_number.invariant.processes made c.in_ok-push.ensures.items;
+      processes = map_below_push (generated_process c.args.number) c.loop-process_number.processes.items c.push.new.self.items c.in_ok-process.field-0 i c.loop-process_number.invariant.processes made
+          c.in_ok-push.ensures.items;
       edges = c.in_ok-push_edges.ensures.edges
           ∙ ap₂ ◌++◌ c.loop-process_number.invariant.edges (ap (λ y. edges_by (next_number y) i) after ∙ ap (λ y. edges_by y i) (sym (number_after-suc x 5)))
           ∙ flat_map_below_push (generated_edges c.args.number) i;

@@ -12,8 +12,10 @@ returns-then-is_empty c =
 
 pub loop-instance-preserved : goal.loop-instance-preserved
 loop-instance-preserved c =
-    let here = added_true _ c.loop-instance.out.items c.add_instance.new.out.items (processes_in c.args.number c.args.part.now c.loop-instance.instance) (AreShort c.args.number c.args.part.now c.loop-instance.instance) c.if-not-branch.false c.in_ok-add_instance.ensures in
+    let here = added_true _ c.loop-instance.out.items c.add_instance.new.out.items (processes_in c.args.number c.args.part.now c.loop-instance.instance)
+    (AreShort c.args.number c.args.part.now c.loop-instance.instance) c.if-not-branch.false c.in_ok-add_instance.ensures in
     record {
-      added = next_instance (processes_in c.args.number c.args.part.now) c.loop-instance.instance c.args.out.now.items c.loop-instance.out.items c.add_instance.new.out.items c.loop-instance.invariant.added here.0;
+      added = next_instance (processes_in c.args.number c.args.part.now) c.loop-instance.instance c.args.out.now.items c.loop-instance.out.items c.add_instance.new.out.items
+          c.loop-instance.invariant.added here.0;
       short = below_more (AreShort c.args.number c.args.part.now) c.loop-instance.instance c.loop-instance.invariant.short here.1;
     }

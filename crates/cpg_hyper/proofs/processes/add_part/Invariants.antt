@@ -6,4 +6,8 @@ use Rattle.cpg_hyper.specs.Refusals.{AreShort}
 use Rattle.cpg_hyper.proofs.processes.add_part.Given as goal
 
 abbrev pub invariant-loop-instance : goal.invariant-loop-instance
-invariant-loop-instance l = record { added : l.out.items ≡ l.fn.out.items ++ flat_map (processes_in l.number l.part) (numbers_below l.instance); short : (i : ℕ) → i < l.instance → AreShort l.number l.part i }
+invariant-loop-instance l = record {
+  added : l.out.items ≡ l.fn.out.items ++ flat_map (processes_in l.number l.part) (numbers_below l.instance);
+  short : (i : ℕ) → i < l.instance →
+      AreShort l.number l.part i;
+}

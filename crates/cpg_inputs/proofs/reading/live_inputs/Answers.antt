@@ -1,7 +1,7 @@
 use Rattle.std.proofs.Common.{List, [], ◌∷◌, None, refl}
 use Rattle.std.proofs.lemmas.Result.{err_from_is_err_and}
-use Rattle.cpg_tale.specs.Fetch.{Fetch}
-use Rattle.cpg_inputs.specs.declared.kind.Kind.TheVariants.{PackFile}
+use Rattle.cpg_history.specs.Fetch.{Fetch}
+use Rattle.cpg_inputs.specs.declared.kind.FileKind.TheVariants.{PackFile}
 use Rattle.cpg_inputs.specs.Files.{file}
 use Rattle.cpg_inputs.specs.Says.{tables_value}
 use Rattle.cpg_inputs.proofs.Readings.{reads_one, stops_one}

@@ -1,7 +1,7 @@
 use Rattle.std.proofs.Common.{List, [], ◌∷◌, None, Some}
 use Rattle.std.proofs.lemmas.Result.{err_from_is_err_and}
-use Rattle.cpg_tale.specs.Fetch.{Fetch}
-use Rattle.cpg_inputs.specs.declared.kind.Kind.TheVariants.{GraphFile, ScenarioFile, PackFile}
+use Rattle.cpg_history.specs.Fetch.{Fetch}
+use Rattle.cpg_inputs.specs.declared.kind.FileKind.TheVariants.{GraphFile, ScenarioFile, PackFile}
 use Rattle.cpg_inputs.specs.Files.{file}
 use Rattle.cpg_inputs.specs.Says.{graph_value, tables_value}
 use Rattle.cpg_inputs.proofs.Keeping.{keeps_on}
@@ -14,7 +14,8 @@ returns-in_err-judged-clause-inputs g c =
     let past : List Fetch = (S.state c.args.shelf.now).history in
     let now : List Fetch = (S.state c.read_judged.new.shelf).history in
     let p = err_from_is_err_and c.from_residual.result c.from_residual.ensures.1 in
-    rw (p.1, p.2) (stops_more None (file GraphFile c.args.graph.now ∷ file PackFile c.args.pack.now ∷ []) (file ScenarioFile c.args.scenario.now ∷ []) past now c.in_err-judged.field-0.0 c.in_err-judged.ensures.halt)
+    rw (p.1, p.2) (stops_more None (file GraphFile c.args.graph.now ∷ file PackFile c.args.pack.now ∷ [])
+    (file ScenarioFile c.args.scenario.now ∷ []) past now c.in_err-judged.field-0.0 c.in_err-judged.ensures.halt)
 
 pub returns-in_err-played-clause-inputs : goal.returns-in_err-played-clause-inputs
 returns-in_err-played-clause-inputs g c =
@@ -28,7 +29,8 @@ returns-in_err-played-clause-inputs g c =
     let last = file ScenarioFile c.args.scenario.now in
     let stops = stops_one (Some a.graph) last [] mid now halt (rw c.problem.ensures.problem at c.in_err-played.ensures.halt) in
     let p = err_from_is_err_and c.from_residual-in_err-played.result c.from_residual-in_err-played.ensures.1 in
-    rw (p.1, p.2) (stops_after None (file GraphFile c.args.graph.now ∷ file PackFile c.args.pack.now ∷ []) (last ∷ []) past mid now (graph_value a ∷ tables_value t ∷ []) halt c.in_ok-judged.ensures.read stops)
+    rw (p.1, p.2) (stops_after None (file GraphFile c.args.graph.now ∷ file PackFile c.args.pack.now ∷ []) (last ∷ []) past mid now
+    (graph_value a ∷ tables_value t ∷ []) halt c.in_ok-judged.ensures.read stops)
 
 pub returns-in_err-played-clause-keeps : goal.returns-in_err-played-clause-keeps
 returns-in_err-played-clause-keeps g c =

@@ -8,7 +8,12 @@ use Rattle.cpg_label.proofs.labels.condition_names.Goals as goal
 
 pub bounds-processes-process : goal.bounds-processes-process
 bounds-processes-process c =
-    omega (arith, process_of_below c.args.problem.now c.loop-condition.condition (omega (arith, c.conditions-condition-end.ensures.count)), c.process_of-process.ensures.process, ap length c.processes.ensures.processes)
+    omega (
+      arith,
+      process_of_below c.args.problem.now c.loop-condition.condition (omega (arith, c.conditions-condition-end.ensures.count)),
+      c.process_of-process.ensures.process,
+      ap length c.processes.ensures.processes,
+    )
 
 pub loop-condition-preserved : goal.loop-condition-preserved
 loop-condition-preserved c =
@@ -16,4 +21,5 @@ loop-condition-preserved c =
     next_mapped (λ n. n.now) (λ p. (process_at g p).name) c.loop-condition.names.items c.push.new.self.items c.as_str.result (disjunctions g) c.loop-condition.condition 0
     (omega (arith, c.conditions-condition-end.ensures.count)) c.loop-condition.invariant c.in_ok-push.ensures.items
     (c.as_str.ensures.text ∙ ap (λ (p : Process). p.name) (ap₂ (λ ps i. get_or ps i c.index-processes-process.result) c.processes.ensures.processes c.process_of-process.ensures.process
-    ∙ get_or_default g.processes (process_of g c.loop-condition.condition) c.index-processes-process.result _ (process_of_below g c.loop-condition.condition (omega (arith, c.conditions-condition-end.ensures.count)))))
+    ∙ get_or_default g.processes (process_of g c.loop-condition.condition) c.index-processes-process.result _
+    (process_of_below g c.loop-condition.condition (omega (arith, c.conditions-condition-end.ensures.count)))))

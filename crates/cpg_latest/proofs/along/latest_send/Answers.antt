@@ -74,4 +74,5 @@ loop-i-preserved c =
     ])
 
 pub returns : goal.returns
-returns c = subst (λ n. IsLatestSend c.args.setting.now.problem.now (outcomes_asked c.args.asked.now) c.args.process c.args.item c.args.lanes.now n c.loop-i.latest) (omega (arith, c.loop-i-test.false, c.loop-i.auto.i-end)) c.loop-i.invariant
+returns c = subst (λ n. IsLatestSend c.args.setting.now.problem.now (outcomes_asked c.args.asked.now) c.args.process c.args.item c.args.lanes.now n c.loop-i.latest)
+    (omega (arith, c.loop-i-test.false, c.loop-i.auto.i-end)) c.loop-i.invariant

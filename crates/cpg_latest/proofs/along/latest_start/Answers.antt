@@ -14,7 +14,8 @@ use Rattle.cpg_latest.proofs.along.latest_start.Goals as goal
 
 pub loop-i-init : goal.loop-i-init
 loop-i-init c = over_none (λ i. active c.args.setting.now.problem.now (track_at (outcomes_asked c.args.asked.now) i) c.args.process ≡ true)
-    (λ i time. IsUnfrozenStart c.args.setting.now.problem.now (track_at (outcomes_asked c.args.asked.now) i) c.args.process (last_course c.args.setting.now.problem.now (lane_at c.args.lanes.now i)) time)
+    (λ i time. IsUnfrozenStart c.args.setting.now.problem.now (track_at (outcomes_asked c.args.asked.now) i) c.args.process
+    (last_course c.args.setting.now.problem.now (lane_at c.args.lanes.now i)) time)
 
 pub bounds-asked-i : goal.bounds-asked-i
 bounds-asked-i c = omega (arith, c.loop-i-test.true, c.requires.lanes.count, length-map c.args.asked.now (λ (a : Asked). a.scenario.now.values))
@@ -25,13 +26,16 @@ start-requires-clause-asked c =
     (c.requires.asked c.loop-i.i c.index-asked-i.result (omega (arith, c.loop-i-test.true, c.requires.lanes.count, length-map c.args.asked.now (λ (a : Asked). a.scenario.now.values))))
 
 pub start-requires-clause-count : goal.start-requires-clause-count
-start-requires-clause-count c = let t = subst (TellsStart c.args.setting.now.problem.now) (sym c.index-lanes-i.is) (c.requires.lanes.each c.loop-i.i c.index-lanes-i.result (omega (arith, c.loop-i-test.true, c.requires.lanes.count))) in t.count
+start-requires-clause-count c = let t = subst (TellsStart c.args.setting.now.problem.now) (sym c.index-lanes-i.is)
+    (c.requires.lanes.each c.loop-i.i c.index-lanes-i.result (omega (arith, c.loop-i-test.true, c.requires.lanes.count))) in t.count
 
 pub start-requires-clause-ready : goal.start-requires-clause-ready
-start-requires-clause-ready c = let t = subst (TellsStart c.args.setting.now.problem.now) (sym c.index-lanes-i.is) (c.requires.lanes.each c.loop-i.i c.index-lanes-i.result (omega (arith, c.loop-i-test.true, c.requires.lanes.count))) in t.ready
+start-requires-clause-ready c = let t = subst (TellsStart c.args.setting.now.problem.now) (sym c.index-lanes-i.is)
+    (c.requires.lanes.each c.loop-i.i c.index-lanes-i.result (omega (arith, c.loop-i-test.true, c.requires.lanes.count))) in t.ready
 
 pub start-requires-clause-small : goal.start-requires-clause-small
-start-requires-clause-small c = let t = subst (TellsStart c.args.setting.now.problem.now) (sym c.index-lanes-i.is) (c.requires.lanes.each c.loop-i.i c.index-lanes-i.result (omega (arith, c.loop-i-test.true, c.requires.lanes.count))) in t.small
+start-requires-clause-small c = let t = subst (TellsStart c.args.setting.now.problem.now) (sym c.index-lanes-i.is)
+    (c.requires.lanes.each c.loop-i.i c.index-lanes-i.result (omega (arith, c.loop-i-test.true, c.requires.lanes.count))) in t.small
 
 pub loop-i-preserved : goal.loop-i-preserved
 loop-i-preserved c =
@@ -60,4 +64,5 @@ loop-i-preserved c =
     ])
 
 pub returns : goal.returns
-returns c = subst (λ n. IsLatestStart c.args.setting.now.problem.now (outcomes_asked c.args.asked.now) c.args.process c.args.lanes.now n c.loop-i.latest) (omega (arith, c.loop-i-test.false, c.loop-i.auto.i-end)) c.loop-i.invariant
+returns c = subst (λ n. IsLatestStart c.args.setting.now.problem.now (outcomes_asked c.args.asked.now) c.args.process c.args.lanes.now n c.loop-i.latest)
+    (omega (arith, c.loop-i-test.false, c.loop-i.auto.i-end)) c.loop-i.invariant

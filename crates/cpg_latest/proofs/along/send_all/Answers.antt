@@ -26,7 +26,8 @@ send_each-requires-clause-at c = omega (arith, c.loop-at-test.true, ap length c.
 
 pub send_each-requires-clause-lanes : goal.send_each-requires-clause-lanes
 send_each-requires-clause-lanes c =
-    can_send c.args.setting.now c.requires.setting.topological c.args.process c.requires.process (outcomes_asked c.args.asked.now) c.loop-at.at (omega (arith, c.loop-at-test.true, ap length c.queue-at-end.ensures))
+    can_send c.args.setting.now c.requires.setting.topological c.args.process c.requires.process (outcomes_asked c.args.asked.now) c.loop-at.at
+    (omega (arith, c.loop-at-test.true, ap length c.queue-at-end.ensures))
     c.loop-at.frozen c.settle_send.new.frozen c.loop-at.lanes.items c.settle_send.ensures.others c.loop-at.invariant.known
 
 pub loop-at-preserved : goal.loop-at-preserved

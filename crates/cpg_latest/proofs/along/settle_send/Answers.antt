@@ -35,7 +35,9 @@ returns-then-not-is_frozen-clause-settled c =
     let k = c.args.at in
     let x = queued g p k in
     let here : get_or c.queue.result.now k 0 ≡ x = ap (λ xs. get_or xs k 0) c.queue.ensures in
-    settled_idle g order top limits (IsDone g order p k) (IsDone g order p (k + 1)) frozen c.requires.sending.settled x (here_within g order top p c.requires.process k c.requires.at) (send_later g order top p c.requires.process k c.requires.at) (send_grows g order top p c.requires.process k c.requires.at) (send_one g order top p c.requires.process k c.requires.at) (send_only g order top p c.requires.process k c.requires.at) (ap (is_frozen g) (sym here) ∙ sym c.is_frozen.ensures ∙ c.if-not-is_frozen.true)
+    settled_idle g order top limits (IsDone g order p k) (IsDone g order p (k + 1)) frozen c.requires.sending.settled x (here_within g order top p c.requires.process k c.requires.at)
+    (send_later g order top p c.requires.process k c.requires.at) (send_grows g order top p c.requires.process k c.requires.at) (send_one g order top p c.requires.process k c.requires.at)
+    (send_only g order top p c.requires.process k c.requires.at) (ap (is_frozen g) (sym here) ∙ sym c.is_frozen.ensures ∙ c.if-not-is_frozen.true)
 
 pub returns-then-not-is_frozen-clause-others : goal.returns-then-not-is_frozen-clause-others
 returns-then-not-is_frozen-clause-others c = record { others = λ y other. refl; count = refl }
@@ -65,7 +67,10 @@ latest_send-latest-requires-clause-lanes c =
     let x = queued g p k in
     let here : get_or c.queue.result.now k 0 ≡ x = ap (λ xs. get_or xs k 0) c.queue.ensures in
     tell_sends g c.requires.setting.admitted.0 order frozen (outcomes_asked c.args.asked.now) c.requires.setting.admitted.1.urgency c.requires.setting.admitted.1.topological top c.requires.tracks
-    p c.requires.process (on_graph g limits p c.requires.process) k c.requires.at limits (early_of g order top limits (IsDone g order p k) frozen c.requires.sending.settled) (not_yet g order top limits (IsDone g order p k) (IsDone g order p (k + 1)) frozen c.requires.sending.settled x (here_within g order top p c.requires.process k c.requires.at) (send_later g order top p c.requires.process k c.requires.at) (send_grows g order top p c.requires.process k c.requires.at) (send_one g order top p c.requires.process k c.requires.at) (send_only g order top p c.requires.process k c.requires.at))
+    p c.requires.process (on_graph g limits p c.requires.process) k c.requires.at limits (early_of g order top limits (IsDone g order p k) frozen c.requires.sending.settled)
+    (not_yet g order top limits (IsDone g order p k) (IsDone g order p (k + 1)) frozen c.requires.sending.settled x (here_within g order top p c.requires.process k c.requires.at)
+    (send_later g order top p c.requires.process k c.requires.at) (send_grows g order top p c.requires.process k c.requires.at) (send_one g order top p c.requires.process k c.requires.at)
+    (send_only g order top p c.requires.process k c.requires.at))
     c.args.lanes.now c.requires.sending.known
 
 pub settle-requires-clause-item : goal.settle-requires-clause-item
@@ -92,7 +97,10 @@ settle-requires-clause-unset c =
     let k = c.args.at in
     let x = queued g p k in
     let here : get_or c.queue.result.now k 0 ≡ x = ap (λ xs. get_or xs k 0) c.queue.ensures in
-    subst (λ y. get_or frozen y None ≡ None) (sym here) (not_yet g order top limits (IsDone g order p k) (IsDone g order p (k + 1)) frozen c.requires.sending.settled x (here_within g order top p c.requires.process k c.requires.at) (send_later g order top p c.requires.process k c.requires.at) (send_grows g order top p c.requires.process k c.requires.at) (send_one g order top p c.requires.process k c.requires.at) (send_only g order top p c.requires.process k c.requires.at))
+    subst (λ y. get_or frozen y None ≡ None) (sym here)
+    (not_yet g order top limits (IsDone g order p k) (IsDone g order p (k + 1)) frozen c.requires.sending.settled x (here_within g order top p c.requires.process k c.requires.at)
+    (send_later g order top p c.requires.process k c.requires.at) (send_grows g order top p c.requires.process k c.requires.at) (send_one g order top p c.requires.process k c.requires.at)
+    (send_only g order top p c.requires.process k c.requires.at))
 
 pub returns-clause-settled : goal.returns-clause-settled
 returns-clause-settled c =
@@ -106,10 +114,15 @@ returns-clause-settled c =
     let x = queued g p k in
     let here : get_or c.queue.result.now k 0 ≡ x = ap (λ xs. get_or xs k 0) c.queue.ensures in
     let by = subst (λ y. IsSettledBy y frozen c.settle.new.frozen) here c.settle.ensures.others in
-    settled_more g order top limits (IsDone g order p k) (IsDone g order p (k + 1)) frozen c.requires.sending.settled x (here_within g order top p c.requires.process k c.requires.at) (send_later g order top p c.requires.process k c.requires.at) (send_grows g order top p c.requires.process k c.requires.at) (send_one g order top p c.requires.process k c.requires.at) (send_only g order top p c.requires.process k c.requires.at) (ap (is_frozen g) (sym here) ∙ sym c.is_frozen.ensures ∙ c.if-not-is_frozen.false) c.settle.new.frozen
+    settled_more g order top limits (IsDone g order p k) (IsDone g order p (k + 1)) frozen c.requires.sending.settled x (here_within g order top p c.requires.process k c.requires.at)
+    (send_later g order top p c.requires.process k c.requires.at) (send_grows g order top p c.requires.process k c.requires.at) (send_one g order top p c.requires.process k c.requires.at)
+    (send_only g order top p c.requires.process k c.requires.at) (ap (is_frozen g) (sym here) ∙ sym c.is_frozen.ensures ∙ c.if-not-is_frozen.false) c.settle.new.frozen
     (subst (IsUnfrozenTime g order frozen x) (sym (ap (λ y. get_or c.settle.new.frozen y None) (sym here) ∙ c.settle.ensures.time))
     (send_over g c.requires.setting.admitted.0 order frozen (outcomes_asked c.args.asked.now) c.requires.setting.admitted.1.urgency c.requires.setting.admitted.1.topological top c.requires.tracks
-    p c.requires.process (on_graph g limits p c.requires.process) k c.requires.at limits (early_of g order top limits (IsDone g order p k) frozen c.requires.sending.settled) (not_yet g order top limits (IsDone g order p k) (IsDone g order p (k + 1)) frozen c.requires.sending.settled x (here_within g order top p c.requires.process k c.requires.at) (send_later g order top p c.requires.process k c.requires.at) (send_grows g order top p c.requires.process k c.requires.at) (send_one g order top p c.requires.process k c.requires.at) (send_only g order top p c.requires.process k c.requires.at))
+    p c.requires.process (on_graph g limits p c.requires.process) k c.requires.at limits (early_of g order top limits (IsDone g order p k) frozen c.requires.sending.settled)
+    (not_yet g order top limits (IsDone g order p k) (IsDone g order p (k + 1)) frozen c.requires.sending.settled x (here_within g order top p c.requires.process k c.requires.at)
+    (send_later g order top p c.requires.process k c.requires.at) (send_grows g order top p c.requires.process k c.requires.at) (send_one g order top p c.requires.process k c.requires.at)
+    (send_only g order top p c.requires.process k c.requires.at))
     c.args.lanes.now c.requires.sending.known c.latest_send-latest.result
     (subst (λ y. IsLatestSend g (outcomes_asked c.args.asked.now) p y c.args.lanes.now (length c.args.lanes.now) c.latest_send-latest.result) here c.latest_send-latest.ensures)))
     by.others by.count

@@ -15,7 +15,9 @@ returns-then-not-is_frozen-clause-settled c =
     let frozen = c.args.frozen.now in
     let top = c.requires.setting.topological in
     let limits = c.requires.setting.admitted.1.limits in
-    settled_idle g order top limits (IsEarlier g order (place order p)) (IsDone g order p 0) frozen c.requires.known.settled p (omega (arith, c.requires.process)) (start_later g order top p c.requires.process) (start_grows g order top p c.requires.process) (start_one g order top p c.requires.process) (start_only g order top p c.requires.process) (sym c.is_frozen.ensures ∙ c.if-not-is_frozen.true)
+    settled_idle g order top limits (IsEarlier g order (place order p)) (IsDone g order p 0) frozen c.requires.known.settled p (omega (arith, c.requires.process))
+    (start_later g order top p c.requires.process) (start_grows g order top p c.requires.process) (start_one g order top p c.requires.process) (start_only g order top p c.requires.process)
+    (sym c.is_frozen.ensures ∙ c.if-not-is_frozen.true)
 
 pub returns-then-not-is_frozen-clause-others : goal.returns-then-not-is_frozen-clause-others
 returns-then-not-is_frozen-clause-others c = record { others = λ y other. refl; count = refl }
@@ -29,7 +31,9 @@ latest_start-latest-requires-clause-lanes c =
     let top = c.requires.setting.topological in
     let limits = c.requires.setting.admitted.1.limits in
     tell_starts g c.requires.setting.admitted.0 order frozen (outcomes_asked c.args.asked.now) c.requires.setting.admitted.1.urgency c.requires.setting.admitted.1.topological top c.requires.tracks
-    p c.requires.process (on_graph g limits p c.requires.process) limits (early_of g order top limits (IsEarlier g order (place order p)) frozen c.requires.known.settled) (not_yet g order top limits (IsEarlier g order (place order p)) (IsDone g order p 0) frozen c.requires.known.settled p (omega (arith, c.requires.process)) (start_later g order top p c.requires.process) (start_grows g order top p c.requires.process) (start_one g order top p c.requires.process) (start_only g order top p c.requires.process))
+    p c.requires.process (on_graph g limits p c.requires.process) limits (early_of g order top limits (IsEarlier g order (place order p)) frozen c.requires.known.settled)
+    (not_yet g order top limits (IsEarlier g order (place order p)) (IsDone g order p 0) frozen c.requires.known.settled p (omega (arith, c.requires.process))
+    (start_later g order top p c.requires.process) (start_grows g order top p c.requires.process) (start_one g order top p c.requires.process) (start_only g order top p c.requires.process))
     c.args.lanes.now c.requires.known.known
 
 pub settle-requires-clause-item : goal.settle-requires-clause-item
@@ -43,7 +47,8 @@ settle-requires-clause-unset c =
     let frozen = c.args.frozen.now in
     let top = c.requires.setting.topological in
     let limits = c.requires.setting.admitted.1.limits in
-    not_yet g order top limits (IsEarlier g order (place order p)) (IsDone g order p 0) frozen c.requires.known.settled p (omega (arith, c.requires.process)) (start_later g order top p c.requires.process) (start_grows g order top p c.requires.process) (start_one g order top p c.requires.process) (start_only g order top p c.requires.process)
+    not_yet g order top limits (IsEarlier g order (place order p)) (IsDone g order p 0) frozen c.requires.known.settled p (omega (arith, c.requires.process))
+    (start_later g order top p c.requires.process) (start_grows g order top p c.requires.process) (start_one g order top p c.requires.process) (start_only g order top p c.requires.process)
 
 pub returns-clause-settled : goal.returns-clause-settled
 returns-clause-settled c =
@@ -53,10 +58,14 @@ returns-clause-settled c =
     let frozen = c.args.frozen.now in
     let top = c.requires.setting.topological in
     let limits = c.requires.setting.admitted.1.limits in
-    settled_more g order top limits (IsEarlier g order (place order p)) (IsDone g order p 0) frozen c.requires.known.settled p (omega (arith, c.requires.process)) (start_later g order top p c.requires.process) (start_grows g order top p c.requires.process) (start_one g order top p c.requires.process) (start_only g order top p c.requires.process) (sym c.is_frozen.ensures ∙ c.if-not-is_frozen.false) c.settle.new.frozen
+    settled_more g order top limits (IsEarlier g order (place order p)) (IsDone g order p 0) frozen c.requires.known.settled p (omega (arith, c.requires.process))
+    (start_later g order top p c.requires.process) (start_grows g order top p c.requires.process) (start_one g order top p c.requires.process) (start_only g order top p c.requires.process)
+    (sym c.is_frozen.ensures ∙ c.if-not-is_frozen.false) c.settle.new.frozen
     (subst (IsUnfrozenTime g order frozen p) (sym c.settle.ensures.time)
     (start_over g c.requires.setting.admitted.0 order frozen (outcomes_asked c.args.asked.now) c.requires.setting.admitted.1.urgency c.requires.setting.admitted.1.topological top c.requires.tracks
-    p c.requires.process (on_graph g limits p c.requires.process) limits (early_of g order top limits (IsEarlier g order (place order p)) frozen c.requires.known.settled) (not_yet g order top limits (IsEarlier g order (place order p)) (IsDone g order p 0) frozen c.requires.known.settled p (omega (arith, c.requires.process)) (start_later g order top p c.requires.process) (start_grows g order top p c.requires.process) (start_one g order top p c.requires.process) (start_only g order top p c.requires.process))
+    p c.requires.process (on_graph g limits p c.requires.process) limits (early_of g order top limits (IsEarlier g order (place order p)) frozen c.requires.known.settled)
+    (not_yet g order top limits (IsEarlier g order (place order p)) (IsDone g order p 0) frozen c.requires.known.settled p (omega (arith, c.requires.process))
+    (start_later g order top p c.requires.process) (start_grows g order top p c.requires.process) (start_one g order top p c.requires.process) (start_only g order top p c.requires.process))
     c.args.lanes.now c.requires.known.known c.latest_start-latest.result c.latest_start-latest.ensures))
     c.settle.ensures.others.others c.settle.ensures.others.count
 

@@ -18,7 +18,8 @@ settle_start-requires-clause-asked c = subst (AreAsked c.args.setting.now.proble
 
 pub settle_start-requires-clause-known : goal.settle_start-requires-clause-known
 settle_start-requires-clause-known c =
-    subst (λ ts. AreKnown c.args.setting.now ts (place c.args.setting.now.order.now c.args.process) c.args.frozen.now c.as_slice-2.result.now) (sym (ap outcomes_asked c.as_slice.ensures.value ∙ c.in_ok-asked.ensures.outcomes))
+    subst (λ ts. AreKnown c.args.setting.now ts (place c.args.setting.now.order.now c.args.process) c.args.frozen.now c.as_slice-2.result.now)
+    (sym (ap outcomes_asked c.as_slice.ensures.value ∙ c.in_ok-asked.ensures.outcomes))
     (subst (AreKnown c.args.setting.now (outcomes_of c.args.tracks.now) (place c.args.setting.now.order.now c.args.process) c.args.frozen.now) (sym c.as_slice-2.ensures.value) c.requires.known)
 
 pub begin_each-requires-clause-frozen : goal.begin_each-requires-clause-frozen
@@ -37,7 +38,8 @@ pub begin_each-requires-clause-lanes : goal.begin_each-requires-clause-lanes
 begin_each-requires-clause-lanes c =
     subst (λ ts. AreLanes c.args.setting.now.problem.now (CanBegin c.args.setting.now c.settle_start.new.frozen c.args.process) ts c.args.lanes.now.items)
     (sym (ap outcomes_asked c.as_slice-3.ensures.value ∙ c.in_ok-asked.ensures.outcomes))
-    (can_begin c.args.setting.now c.requires.setting.topological c.args.process c.requires.process (outcomes_of c.args.tracks.now) c.args.frozen.now c.settle_start.new.frozen c.args.lanes.now.items c.settle_start.ensures.others c.requires.known.known)
+    (can_begin c.args.setting.now c.requires.setting.topological c.args.process c.requires.process
+    (outcomes_of c.args.tracks.now) c.args.frozen.now c.settle_start.new.frozen c.args.lanes.now.items c.settle_start.ensures.others c.requires.known.known)
 
 pub send_all-requires-clause-tracks : goal.send_all-requires-clause-tracks
 send_all-requires-clause-tracks c =
@@ -55,7 +57,8 @@ send_all-requires-clause-sending c = record {
 
 pub returns : goal.returns
 returns c =
-    next_known c.args.setting.now c.requires.setting.topological c.args.process c.requires.process (outcomes_of c.args.tracks.now) (on_graph c.args.setting.now.problem.now c.requires.setting.admitted.1.limits c.args.process c.requires.process)
+    next_known c.args.setting.now c.requires.setting.topological c.args.process c.requires.process (outcomes_of c.args.tracks.now)
+    (on_graph c.args.setting.now.problem.now c.requires.setting.admitted.1.limits c.args.process c.requires.process)
     c.requires.setting.admitted.1.limits c.send_all.new.frozen c.send_all.new.lanes.items
     (subst (λ ts. AreSending c.args.setting.now ts c.args.process (length (queue_of c.args.setting.now.problem.now c.args.process)) c.send_all.new.frozen c.send_all.new.lanes.items)
     (ap outcomes_asked c.as_slice-4.ensures.value ∙ c.in_ok-asked.ensures.outcomes) c.send_all.ensures)

@@ -50,7 +50,8 @@ step-requires-clause-values c i d l =
     let a = c.problem-problem.ensures.admitted in
     let none : List (Option ℕ) = [] in
     ap length (sym (outcome_at tracks i d l))
-    ∙ long_track c.args.admitted.now.graph c.args.admitted.now.order c.args.order.now none (outcomes_of tracks) a.urgency a.topological c.requires.topological c.requires.tracks i (omega (arith, l, length-map tracks (λ (s : Scenario). s.values)))
+    ∙ long_track c.args.admitted.now.graph c.args.admitted.now.order c.args.order.now none (outcomes_of tracks) a.urgency a.topological c.requires.topological c.requires.tracks i
+    (omega (arith, l, length-map tracks (λ (s : Scenario). s.values)))
     ∙ ap condition_count (sym c.of-setting.ensures.problem)
 
 pub returns : goal.returns
@@ -67,9 +68,11 @@ returns c =
     let known = subst (λ n. AreKnown setting (outcomes_of c.args.tracks.now) n c.loop-place.frozen lanes) last c.loop-place.invariant in
     let topological = subst (IsTopological g) ordered (subst (λ (h : Graph). IsTopological h c.args.order.now) here c.requires.topological) in
     let excess = subst (λ (h : Graph). c.greatest_figures.result.excess ≡ greatest (map (λ l. excess_of_course h (last_course h l)) lanes)) same
-    (c.greatest_figures.ensures.excess ∙ ap (λ (ls : List (List ProgressState)). greatest (map (λ l. excess_of_course c.problem-problem.result.now (last_course c.problem-problem.result.now l)) ls)) c.as_slice.ensures.value) in
+    (c.greatest_figures.ensures.excess ∙ ap (λ (ls : List (List ProgressState)). greatest (map (λ l. excess_of_course c.problem-problem.result.now (last_course c.problem-problem.result.now l)) ls))
+    c.as_slice.ensures.value) in
     let worst = subst (λ (h : Graph). c.greatest_figures.result.worst ≡ greatest (map (λ l. finish_of h (last_course h l)) lanes)) same
-    (c.greatest_figures.ensures.worst ∙ ap (λ (ls : List (List ProgressState)). greatest (map (λ l. finish_of c.problem-problem.result.now (last_course c.problem-problem.result.now l)) ls)) c.as_slice.ensures.value) in
+    (c.greatest_figures.ensures.worst ∙ ap (λ (ls : List (List ProgressState)). greatest (map (λ l. finish_of c.problem-problem.result.now (last_course c.problem-problem.result.now l)) ls))
+    c.as_slice.ensures.value) in
     let found = figures_found g c.args.admitted.now.order order c.loop-place.frozen (outcomes_of c.args.tracks.now)
     (subst (λ (h : Graph). IsUrgencyOrder h c.args.admitted.now.order) here a.urgency) (subst (λ (h : Graph). IsTopological h c.args.admitted.now.order) here a.topological) topological
     (subst (λ (h : Graph). AreTracks h (outcomes_of c.args.tracks.now)) here c.requires.tracks) lanes known.settled known.known

@@ -13,7 +13,9 @@ pub latest_heard-requires-clause-conditions : goal.latest_heard-requires-clause-
 latest_heard-requires-clause-conditions c d k =
     let a = c.requires.setting.admitted in
     let is = c.as_slice.ensures.value ∙ c.requires.asked.conditions a.0 a.1 in
-    (from_along c.args.setting.now.problem.now a.0 d (Contains-filter_parts (decides c.args.setting.now.problem.now c.args.asked.now.scenario.now.values c.args.process) (conditions_along c.args.setting.now.problem.now a.0) d (subst (λ ds. Contains ds d) is k)).0).0
+    (from_along c.args.setting.now.problem.now a.0 d
+    (Contains-filter_parts (decides c.args.setting.now.problem.now c.args.asked.now.scenario.now.values c.args.process) (conditions_along c.args.setting.now.problem.now a.0) d
+    (subst (λ ds. Contains ds d) is k)).0).0
 
 pub returns : goal.returns
 returns c =

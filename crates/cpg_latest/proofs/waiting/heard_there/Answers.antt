@@ -10,7 +10,8 @@ node_of-sender-requires c = omega (arith, c.process_of-process.ensures.process, 
 
 pub frame_there-requires-clause-slot : goal.frame_there-requires-clause-slot
 frame_there-requires-clause-slot c =
-    let is : c.node_of-sender.result ≡ node_of c.args.problem.now (process_of c.args.problem.now c.args.condition) = c.node_of-sender.ensures.node ∙ ap (node_of c.args.problem.now) c.process_of-process.ensures.process in
+    let is : c.node_of-sender.result ≡ node_of c.args.problem.now (process_of c.args.problem.now c.args.condition) = c.node_of-sender.ensures.node ∙
+    ap (node_of c.args.problem.now) c.process_of-process.ensures.process in
     subst (HasSlot c.args.problem.now) (sym is)
     (broadcast_slot c.args.problem.now c.requires.slots c.args.condition c.requires.condition
     (many_nodes c.node_of-sender.result c.args.node (length c.args.problem.now.nodes) c.node_of-sender.ensures.within c.requires.node c.if-sender-node.false))

@@ -13,7 +13,8 @@ use Rattle.cpg_list.proofs.learning.narrow_by_heard.Goals as goal
 pub narrow_by_conditions-requires-clause-conditions : goal.narrow_by_conditions-requires-clause-conditions
 narrow_by_conditions-requires-clause-conditions c d j =
     let g = c.args.frames.now.problem.now in
-    numbers-Contains (condition_count g) d (Contains-filter_parts (decides g c.args.frames.now.scenario.now.values c.args.process) (numbers_below (condition_count g)) d (c.requires.conditions.each d j)).0
+    numbers-Contains (condition_count g) d (Contains-filter_parts (decides g c.args.frames.now.scenario.now.values c.args.process) (numbers_below (condition_count g)) d
+    (c.requires.conditions.each d j)).0
 
 pub narrow_by_conditions-requires-clause-told : goal.narrow_by_conditions-requires-clause-told
 narrow_by_conditions-requires-clause-told c d j = c.requires.told d (c.requires.conditions.each d j)

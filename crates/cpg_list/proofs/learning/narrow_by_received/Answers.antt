@@ -10,4 +10,5 @@ pub narrow_by_inputs-requires-clause-told : goal.narrow_by_inputs-requires-claus
 narrow_by_inputs-requires-clause-told c e j = c.requires.told e (subst (λ es. Contains es e) c.inputs-edges.ensures j)
 
 pub returns : goal.returns
-returns c = subst (λ es. IsNarrowedIn c.args.frames.now (flat_map (received_in c.args.frames.now) es) c.args.cube.now c.narrow_by_inputs.new.cube) c.inputs-edges.ensures c.in_ok-narrow_by_inputs.ensures
+returns c = subst (λ es. IsNarrowedIn c.args.frames.now (flat_map (received_in c.args.frames.now) es) c.args.cube.now c.narrow_by_inputs.new.cube) c.inputs-edges.ensures
+    c.in_ok-narrow_by_inputs.ensures

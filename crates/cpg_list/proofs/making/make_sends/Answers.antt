@@ -9,7 +9,8 @@ use Rattle.cpg_list.specs.Made.{queued_by, sent_before, AreCubesOf, AreEndsOf, A
 use Rattle.cpg_run.specs.Found.{columns_of_rows}
 use Rattle.cpg_run.specs.Rows.{AreEntriesOf}
 use Rattle.cpg_list.proofs.CodeMade.{timed_of, count_of, mergeable, same_before, one_made, made_same}
-use Rattle.cpg_list.proofs.CodeQueue.{queued_members, nth_queued, nth_place, nth_within, nth_earlier, nth_late, nth_new, before_to, before_from, next_to, next_from, sent_next, sent_back, queue_early, all_to, all_from, made_next}
+use Rattle.cpg_list.proofs.CodeQueue.{queued_members, nth_queued, nth_place, nth_within, nth_earlier, nth_late, nth_new, before_to, before_from, next_to, next_from, sent_next, sent_back, queue_early}
+use Rattle.cpg_list.proofs.CodeQueue.{all_to, all_from, made_next}
 use Rattle.cpg_list.proofs.CodeSame.{queued_cubes, ends_cubes}
 use Rattle.cpg_list.proofs.making.make_sends.Goals as goal
 
@@ -28,7 +29,8 @@ send_entries-requires-clause-ends c =
     let order = c.args.listed.now.order.now in
     let p = c.args.process in
     subst (λ (rs : List Row). AreEndsOf g order (columns_of_rows rs) c.args.listed.now.scenarios.now p c.args.ends.now) (sym c.as_slice.ensures.value)
-    (ends_cubes g order c.requires.listed.topological (columns_of_rows c.args.rows.now.items) (columns_of_rows c.loop-item.rows.items) (place order p) c.loop-item.invariant.same c.args.listed.now.scenarios.now p c.args.ends.now (omega arith) c.requires.ends)
+    (ends_cubes g order c.requires.listed.topological (columns_of_rows c.args.rows.now.items) (columns_of_rows c.loop-item.rows.items)
+    (place order p) c.loop-item.invariant.same c.args.listed.now.scenarios.now p c.args.ends.now (omega arith) c.requires.ends)
 
 pub send_entries-requires-clause-sent : goal.send_entries-requires-clause-sent
 send_entries-requires-clause-sent c =
@@ -41,7 +43,8 @@ send_entries-requires-clause-sent c =
     let inside : m < length (queue_of g p) = omega (arith, ap length all, c.loop-item-test.true) in
     let rows = columns_of_rows c.loop-item.rows.items in
     let nth = get_or (queue_of g p) m 0 in
-    subst (λ (rs : List Row). AreCubesOf g.faults scenarios (queued_by g order (columns_of_rows rs) (queued_before g order (get_or c.queue-item-items.result.now m 0))) c.loop-item.sent) (sym c.as_slice.ensures.value)
+    subst (λ (rs : List Row). AreCubesOf g.faults scenarios (queued_by g order (columns_of_rows rs) (queued_before g order (get_or c.queue-item-items.result.now m 0))) c.loop-item.sent)
+    (sym c.as_slice.ensures.value)
     (subst (λ x. AreCubesOf g.faults scenarios (queued_by g order rows (queued_before g order x)) c.loop-item.sent) (ap (λ xs. get_or xs m 0) (sym all))
     (queued_members g.faults g order rows scenarios c.loop-item.sent (sent_before g order (node_of g p) (place order p) ++ take m (queue_of g p)) (queued_before g order nth)
     (before_from g order c.requires.listed.topological p c.requires.process m inside) (before_to g order c.requires.listed.topological p c.requires.process m inside) c.loop-item.invariant.queue))
@@ -53,7 +56,12 @@ set_row-requires-clause-item c =
     let m = c.loop-item.item-index in
     let all : c.queue-item-items.result.now ≡ queue_of g p = c.queue-item-items.ensures ∙ ap (λ (h : Graph). queue_of h p) c.problem.ensures.problem in
     let inside : m < length (queue_of g p) = omega (arith, ap length all, c.loop-item-test.true) in
-    omega (arith, ap (λ xs. get_or xs m 0) all, nth_within g c.args.listed.now.order.now c.requires.listed.topological p c.requires.process m inside, count_of c.loop-item.rows.items (item_count g) c.loop-item.invariant.made.items)
+    omega (
+      arith,
+      ap (λ xs. get_or xs m 0) all,
+      nth_within g c.args.listed.now.order.now c.requires.listed.topological p c.requires.process m inside,
+      count_of c.loop-item.rows.items (item_count g) c.loop-item.invariant.made.items,
+    )
 
 pub set_row-requires-clause-entries : goal.set_row-requires-clause-entries
 set_row-requires-clause-entries c =
@@ -97,12 +105,14 @@ loop-item-preserved c =
     let is = subst (λ x. IsRowSet g a.order x entries rows next) here c.in_ok-set_row.ensures in
     let made = one_made g a.order order frozen timed (IsSent g order p m) rows c.loop-item.invariant.made nth (nth_within g order top p l m inside) (nth_earlier g order top p l m inside) entries found
     (nth_new g order top p l m inside) (nth_late g order top p l m inside) next is in
-    let same = same_before g a.order order frozen timed (IsSent g order p m) rows c.loop-item.invariant.made nth (nth_within g order top p l m inside) (nth_earlier g order top p l m inside) entries found
+    let same = same_before g a.order order frozen timed (IsSent g order p m) rows c.loop-item.invariant.made nth (nth_within g order top p l m inside)
+    (nth_earlier g order top p l m inside) entries found
     (nth_new g order top p l m inside) (nth_late g order top p l m inside) next is (place order p) (omega (arith, nth_place g order top p l m inside)) in
     let items = queued_before g order nth ++ nth ∷ [] in
     let after = sent_before g order (node_of g p) (place order p) ++ take (m + 1) (queue_of g p) in
     let left = subst (λ x. AreCubesOf g.faults scenarios (queued_by g order (columns_of_rows rows) (queued_before g order x ++ x ∷ [])) c.send_entries.new.sent) here
-    (subst (λ (rs : List Row). AreCubesOf g.faults scenarios (queued_by g order (columns_of_rows rs) (queued_before g order (get_or c.queue-item-items.result.now m 0) ++ get_or c.queue-item-items.result.now m 0 ∷ [])) c.send_entries.new.sent)
+    (subst (λ (rs : List Row). AreCubesOf g.faults scenarios
+    (queued_by g order (columns_of_rows rs) (queued_before g order (get_or c.queue-item-items.result.now m 0) ++ get_or c.queue-item-items.result.now m 0 ∷ [])) c.send_entries.new.sent)
     c.as_slice.ensures.value c.in_ok-entries.ensures.sent) in
     record {
       made = made_same g a.order order frozen (λ y. IsSent g order p m y ⊎ (y ≡ nth)) (IsSent g order p (m + 1)) next made (sent_back g order top p l m inside) (sent_next g order top p l m inside);

@@ -9,8 +9,11 @@ use Rattle.cpg_list.proofs.making.make_sends.Given as goal
 
 abbrev pub invariant-loop-item : goal.invariant-loop-item
 invariant-loop-item l = record {
-  made : AreMade l.listed.admitted.now.graph l.listed.admitted.now.order l.listed.order.now l.listed.frozen.now (IsSent l.listed.admitted.now.graph l.listed.order.now l.process l.item-index) l.rows.items;
+  made : AreMade l.listed.admitted.now.graph l.listed.admitted.now.order l.listed.order.now l.listed.frozen.now
+      (IsSent l.listed.admitted.now.graph l.listed.order.now l.process l.item-index) l.rows.items;
   queue : AreCubesOf l.listed.admitted.now.graph.faults l.listed.scenarios.now
-      (queued_by l.listed.admitted.now.graph l.listed.order.now (columns_of_rows l.rows.items) (sent_before l.listed.admitted.now.graph l.listed.order.now (node_of l.listed.admitted.now.graph l.process) (place l.listed.order.now l.process) ++ take l.item-index (queue_of l.listed.admitted.now.graph l.process))) l.sent;
+      (queued_by l.listed.admitted.now.graph l.listed.order.now (columns_of_rows l.rows.items)
+      (sent_before l.listed.admitted.now.graph l.listed.order.now (node_of l.listed.admitted.now.graph l.process) (place l.listed.order.now l.process) ++ take l.item-index
+      (queue_of l.listed.admitted.now.graph l.process))) l.sent;
   same : SameRowsBefore l.listed.admitted.now.graph l.listed.order.now (place l.listed.order.now l.process) (columns_of_rows l.fn.rows.items) (columns_of_rows l.rows.items);
 }

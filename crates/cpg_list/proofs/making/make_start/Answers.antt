@@ -34,7 +34,8 @@ set_row-requires-clause-entries c =
     let p = c.args.process in
     let timed = timed_of a.graph a.order order a.guards frozen c.problem-problem.ensures.admitted c.requires.listed.topological c.requires.listed.frozen in
     let by = start_by a.graph order c.requires.listed.topological p c.requires.process in
-    mergeable a.graph a.order order frozen timed (IsBefore a.graph order (place order p)) c.args.rows.now.items c.requires.made p (omega (arith, c.requires.process)) (λ y h. omega (arith, h, by)) c.in_ok-entries.entries.items
+    mergeable a.graph a.order order frozen timed (IsBefore a.graph order (place order p)) c.args.rows.now.items c.requires.made p (omega (arith, c.requires.process))
+    (λ y h. omega (arith, h, by)) c.in_ok-entries.entries.items
     (subst (λ (rs : List Row). AreEntriesOf a.graph order frozen (columns_of_rows rs) p c.in_ok-entries.entries.items) c.as_slice.ensures.value c.in_ok-entries.ensures.entries)
 
 pub returns-clause-same : goal.returns-clause-same
@@ -46,7 +47,8 @@ returns-clause-same c =
     let timed = timed_of a.graph a.order order a.guards frozen c.problem-problem.ensures.admitted c.requires.listed.topological c.requires.listed.frozen in
     let by = start_by a.graph order c.requires.listed.topological p c.requires.process in
     let found = subst (λ (rs : List Row). AreEntriesOf a.graph order frozen (columns_of_rows rs) p c.in_ok-entries.entries.items) c.as_slice.ensures.value c.in_ok-entries.ensures.entries in
-    same_before a.graph a.order order frozen timed (IsBefore a.graph order (place order p)) c.args.rows.now.items c.requires.made p (omega (arith, c.requires.process)) (λ y h. omega (arith, h, by)) c.in_ok-entries.entries.items found
+    same_before a.graph a.order order frozen timed (IsBefore a.graph order (place order p)) c.args.rows.now.items c.requires.made p (omega (arith, c.requires.process))
+    (λ y h. omega (arith, h, by)) c.in_ok-entries.entries.items found
     (λ h. omega (arith, h, by)) (λ y h. omega (arith, h, by)) c.set_row.new.rows.items c.in_ok-set_row.ensures (place order p) (omega (arith, by))
 
 pub returns-clause-made : goal.returns-clause-made
@@ -58,7 +60,8 @@ returns-clause-made c =
     let timed = timed_of a.graph a.order order a.guards frozen c.problem-problem.ensures.admitted c.requires.listed.topological c.requires.listed.frozen in
     let by = start_by a.graph order c.requires.listed.topological p c.requires.process in
     let found = subst (λ (rs : List Row). AreEntriesOf a.graph order frozen (columns_of_rows rs) p c.in_ok-entries.entries.items) c.as_slice.ensures.value c.in_ok-entries.ensures.entries in
-    one_made a.graph a.order order frozen timed (IsBefore a.graph order (place order p)) c.args.rows.now.items c.requires.made p (omega (arith, c.requires.process)) (λ y h. omega (arith, h, by)) c.in_ok-entries.entries.items found
+    one_made a.graph a.order order frozen timed (IsBefore a.graph order (place order p)) c.args.rows.now.items c.requires.made p (omega (arith, c.requires.process))
+    (λ y h. omega (arith, h, by)) c.in_ok-entries.entries.items found
     (λ h. omega (arith, h, by)) (λ y h. omega (arith, h, by)) c.set_row.new.rows.items c.in_ok-set_row.ensures
 
 pub returns-clause-known : goal.returns-clause-known
@@ -69,4 +72,5 @@ returns-clause-known c =
     let after = before_on_node a.graph order p ++ p ∷ [] in
     passed_cubes a.graph order c.requires.listed.topological (columns_of_rows c.args.rows.now.items) (columns_of_rows c.set_row.new.rows.items) (place order p) (returns-clause-same c)
     a.graph.faults c.args.listed.now.scenarios.now c.start_entries.new.known after (own_early a.graph order c.requires.listed.topological p c.requires.process)
-    (subst (λ (rs : List Row). AreCubesOf a.graph.faults c.args.listed.now.scenarios.now (passed_by a.graph (columns_of_rows rs) after) c.start_entries.new.known) c.as_slice.ensures.value c.in_ok-entries.ensures.known)
+    (subst (λ (rs : List Row). AreCubesOf a.graph.faults c.args.listed.now.scenarios.now (passed_by a.graph (columns_of_rows rs) after) c.start_entries.new.known) c.as_slice.ensures.value
+    c.in_ok-entries.ensures.known)

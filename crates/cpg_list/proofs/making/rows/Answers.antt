@@ -26,7 +26,8 @@ returns-clause-rows c =
     let a = c.args.admitted.now in
     let g = a.graph in
     let order = c.args.order.now in
-    let last : c.loop-place.place ≡ process_count g = omega (arith, ap length c.processes.ensures.processes, ap (λ (h : Graph). process_count h) c.problem-problem.ensures.problem, c.loop-place-test.false, c.loop-place.auto.place-end) in
+    let last : c.loop-place.place ≡ process_count g =
+    omega (arith, ap length c.processes.ensures.processes, ap (λ (h : Graph). process_count h) c.problem-problem.ensures.problem, c.loop-place-test.false, c.loop-place.auto.place-end) in
     let same : c.in_ok-rows-2.rows.items ≡ c.loop-place.rows.items = c.in_ok-rows-2.ensures ∙ c.as_slice.ensures.value in
     subst (λ (rs : List Row). AreRows g a.order order c.args.frozen.now (columns_of_rows rs)) (sym same)
     (all_rows g order c.requires.topological a.order c.args.frozen.now c.loop-place.rows.items

@@ -22,4 +22,5 @@ returns c ends =
     let s = c.args.scenario.now in
     let p = c.args.process in
     let on : active g s.values p ≡ true = sym (process_active g [] s p c.requires.process c.args.times.now c.requires.active) ∙ ap is_some (sym c.time.ensures ∙ c.in-Some.is) in
-    subst (λ ls. IsNarrowed g.faults ls c.args.sent.now c.narrow_by_sending.new.cube) (sym (left_skipped g s p c.args.item (queue_by g p c.args.item c.requires.item) ends on c.requires.idle)) c.in_ok-narrow_by_sending.ensures
+    subst (λ ls. IsNarrowed g.faults ls c.args.sent.now c.narrow_by_sending.new.cube) (sym (left_skipped g s p c.args.item (queue_by g p c.args.item c.requires.item) ends on c.requires.idle))
+    c.in_ok-narrow_by_sending.ensures

@@ -26,13 +26,15 @@ loop-at-init c =
 pub send_in-requires-clause-process_active : goal.send_in-requires-clause-process_active
 send_in-requires-clause-process_active c =
     let g = c.args.listed.now.admitted.now.graph in
-    timed_here g c.args.listed.now.order.now c.requires.listed.topological c.args.listed.now.frozen.now [] c.args.process (omega (arith, c.requires.process)) c.args.listed.now.scenarios.now c.args.listed.now.runs.now c.requires.listed.scenarios c.requires.listed.runs
+    timed_here g c.args.listed.now.order.now c.requires.listed.topological c.args.listed.now.frozen.now [] c.args.process
+    (omega (arith, c.requires.process)) c.args.listed.now.scenarios.now c.args.listed.now.runs.now c.requires.listed.scenarios c.requires.listed.runs
     c.loop-at.at c.index-scenarios-at.result c.index-runs-at.result c.loop-at-test.true c.index-scenarios-at.is c.index-runs-at.is
 
 pub send_in-requires-clause-item_active : goal.send_in-requires-clause-item_active
 send_in-requires-clause-item_active c =
     let g = c.args.listed.now.admitted.now.graph in
-    timed_here g c.args.listed.now.order.now c.requires.listed.topological c.args.listed.now.frozen.now [] c.args.item (queue_within g c.args.process c.args.item c.requires.item) c.args.listed.now.scenarios.now c.args.listed.now.runs.now c.requires.listed.scenarios c.requires.listed.runs
+    timed_here g c.args.listed.now.order.now c.requires.listed.topological c.args.listed.now.frozen.now [] c.args.item
+    (queue_within g c.args.process c.args.item c.requires.item) c.args.listed.now.scenarios.now c.args.listed.now.runs.now c.requires.listed.scenarios c.requires.listed.runs
     c.loop-at.at c.index-scenarios-at.result c.index-runs-at.result c.loop-at-test.true c.index-scenarios-at.is c.index-runs-at.is
 
 pub loop-at-preserved : goal.loop-at-preserved
@@ -48,16 +50,21 @@ loop-at-preserved c =
     let queue = queued_by g order rows before s in
     let ends = carried_at_end g order rows s p in
     let cubes = c.loop-at.sent-inside.cubes.items in
-    let is = cube_here g.faults c.args.listed.now.scenarios.now (queued_by g order rows before) (queued_by g order rows (before ++ x ∷ [])) c.loop-at.at cubes s c.index_mut.result.now c.loop-at-test.true c.index-scenarios-at.is
+    let is = cube_here g.faults c.args.listed.now.scenarios.now (queued_by g order rows before)
+    (queued_by g order rows (before ++ x ∷ [])) c.loop-at.at cubes s c.index_mut.result.now c.loop-at-test.true c.index-scenarios-at.is
     c.loop-at.invariant.carried c.index_mut.ensures.value in
-    let end = end_here g order rows c.args.listed.now.scenarios.now p c.ends.inside.cubes.items (subst (AreEndsOf g order rows c.args.listed.now.scenarios.now p) (sym c.ends.view_is) c.requires.ends) c.loop-at.at s c.index.result.now
+    let end = end_here g order rows c.args.listed.now.scenarios.now p c.ends.inside.cubes.items
+    (subst (AreEndsOf g order rows c.args.listed.now.scenarios.now p) (sym c.ends.view_is) c.requires.ends) c.loop-at.at s c.index.result.now
     c.loop-at-test.true c.index-scenarios-at.is c.index.ensures in
     let entry = subst (λ ls. IsKeptAt g s (get_or t.times x None) ls c.in_ok-entry.entry) (sym (carried_send g order rows s p x c.requires.item)) (c.in_ok-entry.ensures.entry queue ends is end) in
     let left = subst (λ ls. IsNarrowed g.faults ls c.index_mut.result.now c.send_in.new.sent) (sym (queued_is g order rows s p x c.requires.item)) (c.in_ok-entry.ensures.sent ends end) in
     record {
-      found = found_more g order c.requires.listed.topological c.args.listed.now.frozen.now rows x (queue_within g p x c.requires.item) c.args.listed.now.scenarios.now c.args.listed.now.runs.now c.requires.listed.scenarios c.requires.listed.runs c.loop-at.at s t
-          c.loop-at-test.true c.index-scenarios-at.is c.index-runs-at.is c.loop-at.entries.items c.push_entry.new.entries.items c.loop-at.invariant.found c.in_ok-entry.entry entry c.in_ok-push_entry.ensures;
-      carried = one_done g.faults c.args.listed.now.scenarios.now (queued_by g order rows before) (queued_by g order rows (before ++ x ∷ [])) c.loop-at.at cubes s c.send_in.new.sent c.loop-at-test.true c.loop-at.invariant.carried
+      found = found_more g order c.requires.listed.topological c.args.listed.now.frozen.now rows x
+          (queue_within g p x c.requires.item) c.args.listed.now.scenarios.now c.args.listed.now.runs.now c.requires.listed.scenarios c.requires.listed.runs c.loop-at.at s t
+          c.loop-at-test.true c.index-scenarios-at.is c.index-runs-at.is c.loop-at.entries.items c.push_entry.new.entries.items c.loop-at.invariant.found c.in_ok-entry.entry entry
+          c.in_ok-push_entry.ensures;
+      carried = one_done g.faults c.args.listed.now.scenarios.now (queued_by g order rows before)
+          (queued_by g order rows (before ++ x ∷ [])) c.loop-at.at cubes s c.send_in.new.sent c.loop-at-test.true c.loop-at.invariant.carried
           c.index-scenarios-at.is (subst (λ ls. IsCubeOf g.faults ls c.send_in.new.sent) (flat_map_push (queued g order rows s) before x) (left.by queue is));
     }
 
@@ -75,4 +82,5 @@ returns-clause-sent c =
     let order = c.args.listed.now.order.now in
     let rows = columns_of_rows c.args.rows.now in
     let before = queued_before g order c.args.item in
-    all_done g.faults c.args.listed.now.scenarios.now (queued_by g order rows before) (queued_by g order rows (before ++ c.args.item ∷ [])) c.loop-at.at c.loop-at.sent-inside.cubes.items c.loop-at-test.false c.loop-at.invariant.carried
+    all_done g.faults c.args.listed.now.scenarios.now (queued_by g order rows before) (queued_by g order rows (before ++ c.args.item ∷ [])) c.loop-at.at c.loop-at.sent-inside.cubes.items
+    c.loop-at-test.false c.loop-at.invariant.carried

@@ -11,7 +11,8 @@ use Rattle.cpg_run.proofs.SameSends.{producer_active}
 use Rattle.cpg_list.proofs.sends.send_in.Goals as goal
 
 pub is_frozen-requires : goal.is_frozen-requires
-is_frozen-requires c = subst (λ (h : Graph). c.args.sending.item < item_count h) (sym c.problem-problem.ensures.problem) (queue_within c.args.admitted.now.graph c.args.sending.process c.args.sending.item c.requires.item)
+is_frozen-requires c = subst (λ (h : Graph). c.args.sending.item < item_count h) (sym c.problem-problem.ensures.problem)
+    (queue_within c.args.admitted.now.graph c.args.sending.process c.args.sending.item c.requires.item)
 
 pub send_plain-requires-clause-item : goal.send_plain-requires-clause-item
 send_plain-requires-clause-item c = subst (λ (h : Graph). Contains (queue_of h c.args.sending.process) c.args.sending.item) (sym c.problem-problem.ensures.problem) c.requires.item
@@ -30,7 +31,8 @@ returns-clause-entry c queue ends is_queue is_end =
     let p = c.args.sending.process in
     let acts : item_active g s.values (item_at g x) ≡ true = sym c.requires.item_active ∙ ap is_some (sym c.time.ensures ∙ c.in-Some.is) in
     let on : active g s.values p ≡ true = ap (active g s.values) (sym (queue_by g p x c.requires.item)) ∙ producer_active g s.values (item_at g x) acts in
-    let found = subst (λ (h : Graph). IsCubeOf h.faults queue c.args.sent.now → IsCubeOf h.faults ends c.args.end.now → IsKeptOf h s c.in-Some.time (send_after h s x queue ends) c.in_ok-entry-2.entry) c.problem-problem.ensures.problem (c.in_ok-entry-2.ensures.entry queue ends) in
+    let found = subst (λ (h : Graph). IsCubeOf h.faults queue c.args.sent.now → IsCubeOf h.faults ends c.args.end.now →
+    IsKeptOf h s c.in-Some.time (send_after h s x queue ends) c.in_ok-entry-2.entry) c.problem-problem.ensures.problem (c.in_ok-entry-2.ensures.entry queue ends) in
     subst (λ o. IsKeptAt g s o (send_after g s x queue ends) c.in_ok-entry-2.entry) (sym c.in-Some.is ∙ c.time.ensures) (found is_queue (is_end.cube on))
 
 pub returns-clause-sent : goal.returns-clause-sent
@@ -41,5 +43,6 @@ returns-clause-sent c ends is_end =
     let p = c.args.sending.process in
     let acts : item_active g s.values (item_at g x) ≡ true = sym c.requires.item_active ∙ ap is_some (sym c.time.ensures ∙ c.in-Some.is) in
     let on : active g s.values p ≡ true = ap (active g s.values) (sym (queue_by g p x c.requires.item)) ∙ producer_active g s.values (item_at g x) acts in
-    let found = subst (λ (h : Graph). IsCubeOf h.faults ends c.args.end.now → Within (decided h s p) ends → IsNarrowed h.faults (queued_after h s x ends) c.args.sent.now c.send_plain.new.sent) c.problem-problem.ensures.problem (c.in_ok-entry-2.ensures.sent ends) in
+    let found = subst (λ (h : Graph). IsCubeOf h.faults ends c.args.end.now → Within (decided h s p) ends → IsNarrowed h.faults (queued_after h s x ends) c.args.sent.now c.send_plain.new.sent)
+    c.problem-problem.ensures.problem (c.in_ok-entry-2.ensures.sent ends) in
     found (is_end.cube on) is_end.decided

@@ -30,4 +30,5 @@ returns-clause-sent c ends is_ends within =
     let on : active g s.values p ≡ true = ap (active g s.values) (sym by) ∙ producer_active g s.values (item_at g x) c.requires.active in
     subst (λ ls. IsNarrowed g.faults ls c.args.sent.now c.narrow_by_sent_value.new.cube) (sym (left_plain g s p x by ends on c.requires.active c.requires.plain))
     (end_with_value g.faults (decided g s p) (sent_by_value g s x) ends c.args.sent.now c.narrow_by_sent_value.new.cube within
-    (narrowed_then g.faults ends (sent_by_value g s x) c.args.sent.now c.narrow_by_cube.new.cube c.narrow_by_sent_value.new.cube (c.in_ok-narrow_by_cube.ensures g.faults ends is_ends) c.in_ok-narrow_by_sent_value.ensures))
+    (narrowed_then g.faults ends (sent_by_value g s x) c.args.sent.now c.narrow_by_cube.new.cube c.narrow_by_sent_value.new.cube
+    (c.in_ok-narrow_by_cube.ensures g.faults ends is_ends) c.in_ok-narrow_by_sent_value.ensures))

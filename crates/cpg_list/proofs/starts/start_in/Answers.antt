@@ -13,11 +13,13 @@ use Rattle.cpg_list.proofs.starts.start_in.Goals as goal
 
 pub narrow_by_heard-requires-clause-told : goal.narrow_by_heard-requires-clause-told
 narrow_by_heard-requires-clause-told c =
-    subst (λ (h : Graph). (d : ℕ) → Contains (deciding h c.args.frames.now.scenario.now.values c.args.process) d → RowTells h (columns_of_rows c.args.frames.now.rows.now) c.args.frames.now.scenario.now c.args.frames.now.times.now (broadcast_item h d)) (sym c.requires.graph) c.requires.heard
+    subst (λ (h : Graph). (d : ℕ) → Contains (deciding h c.args.frames.now.scenario.now.values c.args.process) d →
+    RowTells h (columns_of_rows c.args.frames.now.rows.now) c.args.frames.now.scenario.now c.args.frames.now.times.now (broadcast_item h d)) (sym c.requires.graph) c.requires.heard
 
 pub started-requires-clause-told : goal.started-requires-clause-told
 started-requires-clause-told c =
-    subst (λ (h : Graph). (e : ℕ) → Contains (inputs h c.args.process) e → RowTells h (columns_of_rows c.args.frames.now.rows.now) c.args.frames.now.scenario.now c.args.frames.now.times.now (message_item h e)) (sym c.requires.graph) c.requires.received
+    subst (λ (h : Graph). (e : ℕ) → Contains (inputs h c.args.process) e → RowTells h (columns_of_rows c.args.frames.now.rows.now) c.args.frames.now.scenario.now c.args.frames.now.times.now
+    (message_item h e)) (sym c.requires.graph) c.requires.received
 
 pub returns-in_default-clause-carried : goal.returns-in_default-clause-carried
 returns-in_default-clause-carried c =
@@ -42,7 +44,8 @@ returns-clause-entry c earlier is =
     let first = subst (λ (h : Graph). IsNarrowed h.faults (decided h s p) c.args.cube.now c.narrow_by_decided.new.cube) e c.in_ok-narrow_by_decided.ensures in
     let second = subst (λ (h : Graph). IsNarrowed h.faults (heard h rows s p) c.narrow_by_decided.new.cube c.narrow_by_heard.new.cube) e c.in_ok-narrow_by_heard.ensures in
     let before = second.by (earlier ++ decided g s p) (first.by earlier is) in
-    let found = subst (λ (h : Graph). IsCubeOf h.faults (earlier ++ decided h s p ++ heard h rows s p) c.narrow_by_heard.new.cube → IsKeptOf h s c.in-Some.time (start_after h rows s p earlier) c.in_ok-entry.entry) e (c.in_ok-entry.ensures.entry earlier) in
+    let found = subst (λ (h : Graph). IsCubeOf h.faults (earlier ++ decided h s p ++ heard h rows s p) c.narrow_by_heard.new.cube →
+    IsKeptOf h s c.in-Some.time (start_after h rows s p earlier) c.in_ok-entry.entry) e (c.in_ok-entry.ensures.entry earlier) in
     subst (λ o. IsKeptAt g s o (start_after g rows s p earlier) c.in_ok-entry.entry) (sym c.in-Some.is ∙ c.time.ensures) (found before)
 
 pub returns-clause-carried : goal.returns-clause-carried

@@ -1,6 +1,6 @@
 use Rattle.std.proofs.Common.{◌≡◌, length, refl, subst, arith, rules}
 use Rattle.std.proofs.lemmas.List.Sorted.{IsNonDecreasingBy-from_sort_by_key}
-use Rattle.cpg_list.specs.TimeOrder.{Timed}
+use Rattle.cpg_list.specs.TimeOrder.{TimedColumn}
 use Rattle.cpg_list.proofs.CodeTimes.{AreTimes, one_timed, time_order}
 use Rattle.cpg_list.proofs.timed.ordered_by_time.Goals as goal
 
@@ -9,11 +9,13 @@ loop-place-init c = record { count = search rules; each = λ i d x h. absurd (om
 
 pub loop-place-preserved : goal.loop-place-preserved
 loop-place-preserved c =
-    let t : Timed = record { time = c.index-columns-place.result.time; place = c.loop-place.place } in
-    one_timed c.args.columns.now c.loop-place.place c.loop-place.by_time.items c.push.new.self.items c.index-columns-place.result t c.loop-place-test.true c.loop-place.invariant c.index-columns-place.is (search rules) refl refl
+    let t : TimedColumn = record { time = c.index-columns-place.result.time; place = c.loop-place.place } in
+    one_timed c.args.columns.now c.loop-place.place c.loop-place.by_time.items c.push.new.self.items c.index-columns-place.result t c.loop-place-test.true c.loop-place.invariant
+    c.index-columns-place.is (search rules) refl refl
 
 pub returns : goal.returns
 returns c =
     let all : c.loop-place.place ≡ length c.args.columns.now = omega (arith, c.loop-place-test.false, c.loop-place.auto.place-end) in
-    time_order c.args.columns.now c.loop-place.by_time.items c.sort_by_key.new.self.items (subst (λ n. AreTimes c.args.columns.now n c.loop-place.by_time.items) all c.loop-place.invariant) c.in_ok-sort_by_key.ensures.permutation
-    (IsNonDecreasingBy-from_sort_by_key (λ (t : Timed). t.time) _ c.in_ok-sort_by_key.ensures.sorted (λ a r f' k. search rules))
+    time_order c.args.columns.now c.loop-place.by_time.items c.sort_by_key.new.self.items (subst (λ n. AreTimes c.args.columns.now n c.loop-place.by_time.items) all c.loop-place.invariant)
+    c.in_ok-sort_by_key.ensures.permutation
+    (IsNonDecreasingBy-from_sort_by_key (λ (t : TimedColumn). t.time) _ c.in_ok-sort_by_key.ensures.sorted (λ a r f' k. search rules))

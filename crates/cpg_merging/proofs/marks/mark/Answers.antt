@@ -11,7 +11,8 @@ loop-block-preserved c =
     record {
       kept = λ v on. c.mark_block.ensures.kept v (old.kept v on);
       marked = marked_on (λ (m : Literal). ¬ IsMarked c.loop-block.marks m.variable → HasNoPartner c.args.sums.sorted.now c.args.total m)
-          (λ (m : Literal). ¬ IsMarked c.mark_block.new.marks m.variable → HasNoPartner c.args.sums.sorted.now c.args.total m) c.args.literals.now c.loop-block.left.now c.in-Some.block.now c.in-Some.rest.now parted
+          (λ (m : Literal). ¬ IsMarked c.mark_block.new.marks m.variable → HasNoPartner c.args.sums.sorted.now c.args.total m) c.args.literals.now c.loop-block.left.now c.in-Some.block.now
+          c.in-Some.rest.now parted
           (λ m h off. h (λ on. off (c.mark_block.ensures.kept m.variable on))) c.mark_block.ensures.marked old.marked;
     }
 

@@ -13,5 +13,6 @@ marks_by-requires-clause-sums c = record {
 
 pub returns : goal.returns
 returns c = marked_sorted (map (λ b. b.now) c.args.columns.now) c.marks_by.result c.as_slice-3.result.now
-    (subst (IsPermutation (map total_of (map (λ b. b.now) c.args.columns.now))) (sym c.as_slice-3.ensures.value) (subst (λ (ns : List ℕ). IsPermutation ns c.sort_unstable.new.self.items) (search rules) c.sort_unstable.ensures.permutation))
+    (subst (IsPermutation (map total_of (map (λ b. b.now) c.args.columns.now))) (sym c.as_slice-3.ensures.value)
+    (subst (λ (ns : List ℕ). IsPermutation ns c.sort_unstable.new.self.items) (search rules) c.sort_unstable.ensures.permutation))
     c.marks_by.ensures

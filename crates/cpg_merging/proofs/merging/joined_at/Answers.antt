@@ -20,4 +20,5 @@ returns-then-len-before-clause-marked c =
     let m : length old.items ≡ vec_len old = search rules in
     let n : length new.items ≡ vec_len new = search rules in
     subst (λ (l : Listing). AreMarked c.args.problem.now c.args.marked.marks l.columns.items) (sym c.unsorted.ensures)
-    (marked_permuted c.args.problem.now old.items new.items c.args.marked.marks (permuted_same c.args.problem.now (λ (u : ℕ). u ≡ c.args.variable) old.items new.items c.in_ok-columns.ensures (omega arith)) c.requires.marked)
+    (marked_permuted c.args.problem.now old.items new.items c.args.marked.marks
+    (permuted_same c.args.problem.now (λ (u : ℕ). u ≡ c.args.variable) old.items new.items c.in_ok-columns.ensures (omega arith)) c.requires.marked)

@@ -31,7 +31,8 @@ loop-variable-preserved c =
 
 pub returns : goal.returns
 returns c = record {
-  passed = passed_wider c.args.problem.now (IsBetween c.args.first c.loop-variable.variable) (IsBetween c.args.first c.args.end) (λ v o. (o.0, omega arith)) c.args.marked.listing.columns.items c.loop-variable.marked.listing.columns.items c.loop-variable.invariant.passed;
+  passed = passed_wider c.args.problem.now (IsBetween c.args.first c.loop-variable.variable) (IsBetween c.args.first c.args.end)
+      (λ v o. (o.0, omega arith)) c.args.marked.listing.columns.items c.loop-variable.marked.listing.columns.items c.loop-variable.invariant.passed;
   marked = c.loop-variable.invariant.marked;
   sorted = c.loop-variable.invariant.sorted;
 }

@@ -40,7 +40,8 @@ loop-marked-smaller c =
 pub loop-marked-preserved : goal.loop-marked-preserved
 loop-marked-preserved c = record {
   good = c.in_ok-marked-2.ensures.passed.good;
-  joins = joins_through c.args.problem.now c.args.listing.columns.items c.loop-marked.marked.listing.columns.items c.in_ok-marked-2.marked.listing.columns.items c.loop-marked.invariant.joins c.in_ok-marked-2.ensures.passed.joins;
+  joins = joins_through c.args.problem.now c.args.listing.columns.items c.loop-marked.marked.listing.columns.items c.in_ok-marked-2.marked.listing.columns.items c.loop-marked.invariant.joins
+      c.in_ok-marked-2.ensures.passed.joins;
   marked = c.in_ok-marked-2.ensures.marked;
   sorted = sorted_through c.args.listing c.loop-marked.marked.listing c.in_ok-marked-2.marked.listing c.loop-marked.invariant.sorted c.in_ok-marked-2.ensures.sorted;
 }

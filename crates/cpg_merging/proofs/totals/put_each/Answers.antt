@@ -6,7 +6,8 @@ use Rattle.cpg_merging.proofs.totals.put_each.Goals as goal
 pub loop-number-preserved : goal.loop-number-preserved
 loop-number-preserved c = record {
   long = search rules;
-  marked = sieve_more c.loop-number.sieve (length c.args.sieve.now) c.place_in-place.result c.args.numbers.now c.loop-number.number-index _ (omega arith) c.loop-number.invariant.long c.place_in-place.ensures.place c.place_in-place.ensures.within c.loop-number.invariant.marked;
+  marked = sieve_more c.loop-number.sieve (length c.args.sieve.now) c.place_in-place.result c.args.numbers.now c.loop-number.number-index _
+      (omega arith) c.loop-number.invariant.long c.place_in-place.ensures.place c.place_in-place.ensures.within c.loop-number.invariant.marked;
 }
 
 pub returns-clause-sieve : goal.returns-clause-sieve

@@ -16,7 +16,8 @@ pub loop-preserved : goal.loop-preserved
 loop-preserved c =
     let n = next_place c.least_place-place.result (length c.args.back.now) c.loop.counter c.loop.place c.least_place-place.ensures.within c.loop-test.true c.loop.invariant.place in
     record {
-      walk = map_below_push (λ k. get_or c.args.back.now (place_down c.least_place-place.result (length c.args.back.now) k) 0) c.loop.walk.items c.push.new.self.items (get_or c.args.back.now c.loop.place 0) c.loop.counter
+      walk = map_below_push (λ k. get_or c.args.back.now (place_down c.least_place-place.result (length c.args.back.now) k) 0) c.loop.walk.items c.push.new.self.items
+          (get_or c.args.back.now c.loop.place 0) c.loop.counter
           c.loop.invariant.walk (ap (λ i. get_or c.args.back.now i 0) c.loop.invariant.place) c.in_ok-push.ensures.items;
       place = elim c.if-place-eq0.branch [
         | then-place-eq0 w ↦ w.place-is ∙ n.0 w.if-place-eq0.true

@@ -12,7 +12,8 @@ use Rattle.cpg_order.proofs.cycle.walk_back.Goals as goal
 
 pub returns-in-Some-clause-cycle : goal.returns-in-Some-clause-cycle
 returns-in-Some-clause-cycle c =
-    let found : position (λ p. p == c.loop-from.process) c.loop-from.walk.items ≡ Some c.in-Some.from = ap (position (λ p. p == c.loop-from.process)) (sym c.as_slice.ensures.value) ∙ sym c.in-Some.ensures in
+    let found : position (λ p. p == c.loop-from.process) c.loop-from.walk.items ≡ Some c.in-Some.from = ap (position (λ p. p == c.loop-from.process)) (sym c.as_slice.ensures.value) ∙
+    sym c.in-Some.ensures in
     let r = position-Some (λ p. p == c.loop-from.process) c.loop-from.walk.items c.in-Some.from 0 found in
     walk_meets c.args.problem.now c.loop-from.walk.items c.loop-from.process c.loop-from.invariant.walk c.in-Some.from r.0 (eqb-true _ _ r.1)
 
@@ -21,15 +22,19 @@ not_found walk p found is none = false_from_ne_true (is_in walk p) (λ t. none (
 
 pub loop-from-smaller : goal.loop-from-smaller
 loop-from-smaller c =
-    let fresh = not_found c.loop-from.walk.items c.loop-from.process c.place_in.result (c.place_in.ensures ∙ ap (position (λ p. p == c.loop-from.process)) c.as_slice.ensures.value) c.in_default.not-Some in
-    let l = length-lt_below (process_count c.args.problem.now) c.loop-from.process c.loop-from.walk.items c.loop-from.invariant.walk.apart c.loop-from.invariant.walk.below c.loop-from.invariant.within fresh in
+    let fresh = not_found c.loop-from.walk.items c.loop-from.process c.place_in.result (c.place_in.ensures ∙ ap (position (λ p. p == c.loop-from.process)) c.as_slice.ensures.value)
+    c.in_default.not-Some in
+    let l = length-lt_below (process_count c.args.problem.now) c.loop-from.process c.loop-from.walk.items c.loop-from.invariant.walk.apart c.loop-from.invariant.walk.below
+    c.loop-from.invariant.within fresh in
     omega (arith, ap length c.in_ok-push.ensures.items, length-append c.loop-from.walk.items (c.loop-from.process ∷ []))
 
 pub loop-from-preserved : goal.loop-from-preserved
 loop-from-preserved c =
-    let fresh = not_found c.loop-from.walk.items c.loop-from.process c.place_in.result (c.place_in.ensures ∙ ap (position (λ p. p == c.loop-from.process)) c.as_slice.ensures.value) c.in_default.not-Some in
+    let fresh = not_found c.loop-from.walk.items c.loop-from.process c.place_in.result (c.place_in.ensures ∙ ap (position (λ p. p == c.loop-from.process)) c.as_slice.ensures.value)
+    c.in_default.not-Some in
     record {
-      walk = rw c.in_ok-push.ensures.items (walk_more c.args.problem.now c.loop-from.walk.items c.loop-from.process c.loop-from.invariant.walk c.waiting_source-process.result c.loop-from.invariant.within fresh c.waiting_source-process.ensures.edge);
+      walk = rw c.in_ok-push.ensures.items (walk_more c.args.problem.now c.loop-from.walk.items c.loop-from.process c.loop-from.invariant.walk c.waiting_source-process.result
+          c.loop-from.invariant.within fresh c.waiting_source-process.ensures.edge);
       within = c.waiting_source-process.ensures.within;
       waits = c.waiting_source-process.ensures.waits;
     }

@@ -25,7 +25,8 @@ loop-edge-preserved c e l =
     let inside : source c.args.problem.now c.loop-edge.edge-index < length c.args.order.now = omega arith in
     elim (cases_eq e c.loop-edge.edge-index) [
       | inl is ↦ subst (λ k. comes_before c.args.order.now (source c.args.problem.now k) (target c.args.problem.now k) ≡ true) (sym is)
-          (comes_before_at c.args.order.now c.place.ensures.order (source c.args.problem.now c.loop-edge.edge-index) (target c.args.problem.now c.loop-edge.edge-index) c.place.result c.place-in-loop-edge.result
+          (comes_before_at c.args.order.now c.place.ensures.order (source c.args.problem.now c.loop-edge.edge-index)
+          (target c.args.problem.now c.loop-edge.edge-index) c.place.result c.place-in-loop-edge.result
           inside from to c.if-place.false)
       | inr n ↦ c.loop-edge.invariant e (omega arith)
     ]

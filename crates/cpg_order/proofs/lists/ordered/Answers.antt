@@ -6,7 +6,8 @@ use Rattle.cpg_base.proofs.Places.{length_order}
 use Rattle.cpg_order.proofs.lists.ordered.Goals as goal
 
 pub returns-then-list-processes-clause-refused : goal.returns-then-list-processes-clause-refused
-returns-then-list-processes-clause-refused c topological = absurd (c.if-list-processes.true (length_order (process_count c.args.problem.now) c.args.list.now topological.all ∙ sym (ap length c.processes.ensures.processes)))
+returns-then-list-processes-clause-refused c topological =
+    absurd (c.if-list-processes.true (length_order (process_count c.args.problem.now) c.args.list.now topological.all ∙ sym (ap length c.processes.ensures.processes)))
 
 pub returns-then-not-is_forward-clause-refused : goal.returns-then-not-is_forward-clause-refused
 returns-then-not-is_forward-clause-refused c topological =

@@ -9,13 +9,15 @@ pub target-requires : goal.target-requires
 target-requires c = c.requires.edges (get_or c.args.edges.now c.loop-edge.edge-index 0) (Contains-get_or c.args.edges.now c.loop-edge.edge-index 0 c.loop-edge-test.true)
 
 -- the target of the next edge still waits
-next_waits : (edges waiting : List ℕ) (f : ℕ → ℕ) (i t : ℕ) (old : ℕ) → i < length edges → t ≡ f (get_or edges i 0) → passing (λ e. f e == t) edges ≤ old → get_or waiting t 0 + passing (λ e. f e == t) (take i edges) ≡ old → 0 < get_or waiting t 0
+next_waits : (edges waiting : List ℕ) (f : ℕ → ℕ) (i t : ℕ) (old : ℕ) → i < length edges → t ≡ f (get_or edges i 0) → passing (λ e. f e == t) edges ≤ old →
+    get_or waiting t 0 + passing (λ e. f e == t) (take i edges) ≡ old → 0 < get_or waiting t 0
 next_waits edges waiting f i t old l at enough left =
     let n = passing_next (λ e. f e == t) edges i l (eq-eqb (f (get_or edges i 0)) t (sym at)) in
     omega arith
 
 pub release-requires-clause-waits : goal.release-requires-clause-waits
-release-requires-clause-waits c = next_waits c.args.edges.now c.loop-edge.waiting.items (target c.args.problem.now) c.loop-edge.edge-index c.target.result (get_or c.args.waiting.now.items c.target.result 0)
+release-requires-clause-waits c = next_waits c.args.edges.now c.loop-edge.waiting.items (target c.args.problem.now) c.loop-edge.edge-index c.target.result
+    (get_or c.args.waiting.now.items c.target.result 0)
     c.loop-edge-test.true c.target.ensures.target (c.requires.wait c.target.result) (c.loop-edge.invariant.left c.target.result)
 
 pub loop-edge-preserved : goal.loop-edge-preserved
@@ -25,7 +27,8 @@ loop-edge-preserved c =
     record {
       ready = c.in_ok-release.ensures.ready;
       long = ap length c.in_ok-release.ensures.waiting ∙ length-set c.loop-edge.waiting.items c.target.result _ ∙ c.loop-edge.invariant.long;
-      left = left_next (target c.args.problem.now) c.args.edges.now c.loop-edge.waiting.items c.release.new.waiting.items (λ p. get_or c.args.waiting.now.items p 0) c.loop-edge.edge-index c.target.result
+      left = left_next (target c.args.problem.now) c.args.edges.now c.loop-edge.waiting.items c.release.new.waiting.items
+          (λ p. get_or c.args.waiting.now.items p 0) c.loop-edge.edge-index c.target.result
           c.loop-edge-test.true c.target.ensures.target some c.in_ok-release.ensures.waiting c.loop-edge.invariant.left;
       longer = let old = c.loop-edge.invariant.longer in let more = c.in_ok-release.ensures.longer in
           (old.0 ++ more.0, more.1 ∙ ap (λ xs. xs ++ more.0) old.1 ∙ append_assoc c.args.ready.now.items old.0 more.0);

@@ -53,6 +53,7 @@ loop-settled-preserved c =
     let l : c.loop-settled.settled < length c.loop-settled.ready.items = omega arith in
     let at = c.index-process.ensures ∙ get_or_default c.loop-settled.ready.items c.loop-settled.settled c.index-process.result.now 0 l in
     settled_more c.args.problem.now c.loop-settled.waiting.items c.loop-settled.settled c.loop-settled.ready.items c.loop-settled.invariant l
-    c.release_all.new.waiting.items c.release_all.new.ready.items c.in_ok-release_all.ensures.longer.0 c.in_ok-release_all.ensures.longer.1 c.in_ok-release_all.ensures.long c.in_ok-release_all.ensures.ready
+    c.release_all.new.waiting.items c.release_all.new.ready.items c.in_ok-release_all.ensures.longer.0 c.in_ok-release_all.ensures.longer.1 c.in_ok-release_all.ensures.long
+    c.in_ok-release_all.ensures.ready
     (λ q. ap (λ xs. get_or c.release_all.new.waiting.items q 0 + passing (λ e. target c.args.problem.now e == q) xs)
     (sym (c.outputs.ensures.of_graph c.args.problem.now c.requires ∙ ap (outputs c.args.problem.now) at)) ∙ c.in_ok-release_all.ensures.waiting q)

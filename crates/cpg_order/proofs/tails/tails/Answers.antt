@@ -42,7 +42,8 @@ duration-requires-clause-process c = omega (arith, length_order (process_count c
 pub overflow_add-duration : goal.overflow_add-duration
 overflow_add-duration c =
     let inside : c.at-process.result < process_count c.args.problem.now = omega (arith, length_order (process_count c.args.problem.now) c.args.order.now c.requires.order.all) in
-    let at : place c.args.order.now c.at-process.result + c.loop-done.done + 1 ≡ process_count c.args.problem.now = omega (arith, c.at-process.ensures.back, ap length c.processes-count.ensures.processes) in
+    let at : place c.args.order.now c.at-process.result + c.loop-done.done + 1 ≡ process_count c.args.problem.now =
+    omega (arith, c.at-process.ensures.back, ap length c.processes-count.ensures.processes) in
     let way = c.longest-way.ensures ∙ way_is c.args.problem.now c.round-turn.result c.at-process.result c.outputs.result.now c.as_slice.result.now c.loop-done.tails.items
     c.round-turn.ensures c.as_slice.ensures.value (c.outputs.ensures.of_graph c.args.problem.now c.requires.links) in
     omega (
@@ -50,7 +51,8 @@ overflow_add-duration c =
       c.duration.ensures.duration,
       duration-le c.args.problem.now c.at-process.result 0 c.processes-count.ensures.within inside (omega arith),
       c.processes-count.ensures.within.few_processes,
-      longest_from-le c.args.problem.now c.processes-count.ensures.within c.args.order.now c.requires.order c.loop-done.tails.items c.loop-done.done c.at-process.result c.loop-done.invariant inside at,
+      longest_from-le c.args.problem.now c.processes-count.ensures.within c.args.order.now c.requires.order c.loop-done.tails.items c.loop-done.done c.at-process.result c.loop-done.invariant inside
+          at,
     )
 
 pub index_mut-requires : goal.index_mut-requires
@@ -59,7 +61,8 @@ index_mut-requires c = omega (arith, c.loop-done.invariant.long, length_order (p
 pub loop-done-preserved : goal.loop-done-preserved
 loop-done-preserved c =
     let inside : c.at-process.result < process_count c.args.problem.now = omega (arith, length_order (process_count c.args.problem.now) c.args.order.now c.requires.order.all) in
-    let at : place c.args.order.now c.at-process.result + c.loop-done.done + 1 ≡ process_count c.args.problem.now = omega (arith, c.at-process.ensures.back, ap length c.processes-count.ensures.processes) in
+    let at : place c.args.order.now c.at-process.result + c.loop-done.done + 1 ≡ process_count c.args.problem.now =
+    omega (arith, c.at-process.ensures.back, ap length c.processes-count.ensures.processes) in
     let way = c.longest-way.ensures ∙ way_is c.args.problem.now c.round-turn.result c.at-process.result c.outputs.result.now c.as_slice.result.now c.loop-done.tails.items
     c.round-turn.ensures c.as_slice.ensures.value (c.outputs.ensures.of_graph c.args.problem.now c.requires.links) in
     subst (λ x. AreFound c.args.problem.now c.args.order.now (set c.loop-done.tails.items c.at-process.result x) (c.loop-done.done + 1)) (sym (ap₂ ◌+◌ c.duration.ensures.duration way))

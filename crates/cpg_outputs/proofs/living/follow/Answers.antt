@@ -8,7 +8,14 @@ use Rattle.cpg_outputs.proofs.living.follow.Goals as goal
 pub returns-in-Ok-clause-keeps : goal.returns-in-Ok-clause-keeps
 returns-in-Ok-clause-keeps g c =
     let s = c.in-Ok.ensures.whole in
-    record { names = c.follow.ensures.names; fetched = c.follow.ensures.fetched; later = c.follow.ensures.later; rose = λ fetch past is failed. absurd (closed_sound c.args.follower.now.head c.args.follower.now.table c.args.stream.now (g.S.Shelf.state c.args.shelf.now).history (g.S.Shelf.state c.follow.new.shelf).history (g.O.Sink.state c.args.out.now).taken (g.O.Sink.state c.args.out.now) (g.O.Sink.state c.follow.new.out) s fetch past is failed) }
+    record {
+      names = c.follow.ensures.names;
+      fetched = c.follow.ensures.fetched;
+      later = c.follow.ensures.later;
+      rose =
+          λ fetch past is failed. absurd (closed_sound c.args.follower.now.head c.args.follower.now.table c.args.stream.now (g.S.Shelf.state c.args.shelf.now).history
+          (g.S.Shelf.state c.follow.new.shelf).history (g.O.Sink.state c.args.out.now).taken (g.O.Sink.state c.args.out.now) (g.O.Sink.state c.follow.new.out) s fetch past is failed);
+    }
 
 pub returns-in-Ok-clause-followed : goal.returns-in-Ok-clause-followed
 returns-in-Ok-clause-followed g c =
@@ -24,4 +31,12 @@ pub returns-in-Err-clause-keeps : goal.returns-in-Err-clause-keeps
 returns-in-Err-clause-keeps g c =
     let old = g.S.Shelf.state c.args.shelf.now in
     let new = g.S.Shelf.state c.follow.new.shelf in
-    record { names = c.follow.ensures.names; fetched = c.follow.ensures.fetched; later = c.follow.ensures.later; rose = λ fetch past is failed. failed_rose ((new.history ≡ old.history) ⊎ Rose old.faults new.faults) c.args.follower.now.head c.args.follower.now.table c.args.stream.now old.history new.history (g.O.Sink.state c.args.out.now).taken (g.O.Sink.state c.args.out.now) (g.O.Sink.state c.follow.new.out) c.in-Err.broken c.in-Err.ensures.broken (λ e. inr (c.follow.ensures.rose (c.in-Err.is ∙ ap (λ (b : Broken). Err b) e))) fetch past is failed }
+    record {
+      names = c.follow.ensures.names;
+      fetched = c.follow.ensures.fetched;
+      later = c.follow.ensures.later;
+      rose =
+          λ fetch past is failed. failed_rose ((new.history ≡ old.history) ⊎ Rose old.faults new.faults) c.args.follower.now.head c.args.follower.now.table c.args.stream.now old.history new.history
+          (g.O.Sink.state c.args.out.now).taken (g.O.Sink.state c.args.out.now) (g.O.Sink.state c.follow.new.out) c.in-Err.broken c.in-Err.ensures.broken
+          (λ e. inr (c.follow.ensures.rose (c.in-Err.is ∙ ap (λ (b : Broken). Err b) e))) fetch past is failed;
+    }

@@ -6,7 +6,8 @@ use Rattle.cpg_outputs.proofs.streaming.follow_pieces.Goals as goal
 pub returns-in-Err-clause-along : goal.returns-in-Err-clause-along
 returns-in-Err-clause-along g c start name past a =
     let before = c.loop-count.invariant in
-    breaks_on c.args.follower.now c.loop-count.follower name past (g.S.Shelf.state c.follow_piece.new.shelf).history start (g.O.Sink.state c.args.out.now) (g.O.Sink.state c.loop-count.out) (g.O.Sink.state c.follow_piece.new.out) c.in-Err.broken before.same before.out_later
+    breaks_on c.args.follower.now c.loop-count.follower name past (g.S.Shelf.state c.follow_piece.new.shelf).history start (g.O.Sink.state c.args.out.now) (g.O.Sink.state c.loop-count.out)
+    (g.O.Sink.state c.follow_piece.new.out) c.in-Err.broken before.same before.out_later
     (c.in-Err.ensures.along start name past (before.along start name past a))
 
 pub returns-then-count-eq0-clause-along : goal.returns-then-count-eq0-clause-along

@@ -1,5 +1,5 @@
 use Rattle.std.proofs.Common.{ℕ, List, ◌≤◌, ◌-◌}
-use Rattle.cpg_tale.specs.Fetch.{Fetch}
+use Rattle.cpg_history.specs.Fetch.{Fetch}
 use Rattle.cpg_io.specs.Agreement.{LeavesRest}
 use Rattle.cpg_io.specs.Shelf.{SameLeave, SameNames}
 use Rattle.cpg_live.specs.declared.following.TheConstants.{STREAM_LIMIT}

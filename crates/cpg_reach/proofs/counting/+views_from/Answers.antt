@@ -20,5 +20,6 @@ views_from-second-requires t c =
     )
 
 pub returns-clause-same : goal.returns-clause-same
-returns-clause-same t c = scenario_back c.args.scenario.now c.views_from-first.new.scenario c.set_value.new.self c.views_from-second.new.scenario c.set_value-2.new.self c.in-Some.condition.now true c.value-was.result
+returns-clause-same t c = scenario_back c.args.scenario.now c.views_from-first.new.scenario c.set_value.new.self c.views_from-second.new.scenario c.set_value-2.new.self c.in-Some.condition.now true
+    c.value-was.result
     c.views_from-first.ensures.same c.set_value.ensures c.views_from-second.ensures.same c.value-was.ensures c.set_value-2.ensures

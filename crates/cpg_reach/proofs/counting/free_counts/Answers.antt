@@ -5,7 +5,8 @@ use Rattle.cpg_reach.proofs.counting.free_counts.Goals as goal
 use Rattle.cpg_reach.proofs.counting.free_counts.Goals.{then-is_count_free, else-is_count_free}
 
 pub overflow_add-counts : goal.overflow_add-counts
-overflow_add-counts c = let b = count-le (is_count_free c.args.admitted.now.graph c.args.reached.now c.args.scenario.now.values) c.loop-process.process in let i = c.loop-process.invariant in omega arith
+overflow_add-counts c = let b = count-le (is_count_free c.args.admitted.now.graph c.args.reached.now c.args.scenario.now.values) c.loop-process.process in let i = c.loop-process.invariant in
+    omega arith
 
 pub loop-process-preserved : goal.loop-process-preserved
 loop-process-preserved c = elim c.if-is_count_free.branch [

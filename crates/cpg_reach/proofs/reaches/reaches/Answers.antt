@@ -39,4 +39,5 @@ returns c =
     let same = c.processes-process-items.ensures.processes in
     let done = c.loop-process-test.false in
     let long = length_order (process_count c.args.admitted.now.graph) c.args.order.now c.requires.all in
-    all_reached c.args.admitted.now.graph c.args.order.now c.requires c.loop-process.process-index c.loop-process.walk.reaches.items c.loop-process.walk.known.items c.loop-process.walk.sent.items (omega (arith, ap length same)) c.loop-process.invariant
+    all_reached c.args.admitted.now.graph c.args.order.now c.requires c.loop-process.process-index c.loop-process.walk.reaches.items c.loop-process.walk.known.items c.loop-process.walk.sent.items
+    (omega (arith, ap length same)) c.loop-process.invariant

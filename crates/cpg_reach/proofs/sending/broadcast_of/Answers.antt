@@ -6,7 +6,8 @@ use Rattle.cpg_reach.proofs.Sends.{nothing_sent, one_node, broadcast_sent}
 use Rattle.cpg_reach.proofs.sending.broadcast_of.Goals as goal
 
 pub returns-then-nodes-le1 : goal.returns-then-nodes-le1
-returns-then-nodes-le1 c = nothing_sent c.args.problem.now c.args.reaches.now c.args.sent.now c.none.result (send_by c.args.problem.now c.args.reaches.now c.args.sent.now (Broadcast c.args.condition)) c.none.ensures
+returns-then-nodes-le1 c = nothing_sent c.args.problem.now c.args.reaches.now c.args.sent.now c.none.result
+    (send_by c.args.problem.now c.args.reaches.now c.args.sent.now (Broadcast c.args.condition)) c.none.ensures
     (one_node c.args.problem.now c.args.reaches.now c.args.sent.now c.args.condition (let l = c.if-nodes-le1.true in omega (arith, ap length c.nodes.ensures.nodes)))
 
 pub node_of-node-requires : goal.node_of-node-requires

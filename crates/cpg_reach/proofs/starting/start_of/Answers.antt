@@ -7,7 +7,8 @@ use Rattle.cpg_reach.proofs.starting.start_of.Goals as goal
 pub returns-then-processes-process : goal.returns-then-processes-process
 returns-then-processes-process c = start_frozen c.args.problem.now c.args.reaches.now c.args.known.now c.args.process c.copy.result
     (frozen_at c.args.problem.now c.args.process c.processes.result.now c.index-processes-process.result true c.processes.ensures.processes c.requires.process c.if-processes-process.true)
-    (λ v. ap (λ xs. is_in xs v) (c.copy.ensures ∙ set_at c.args.deciding.now c.args.process c.index-deciding-process.result (omega (arith, c.requires.deciding.count, c.requires.process)) c.index-deciding-process.is)
+    (λ v. ap (λ xs. is_in xs v) (c.copy.ensures ∙ set_at c.args.deciding.now c.args.process c.index-deciding-process.result
+    (omega (arith, c.requires.deciding.count, c.requires.process)) c.index-deciding-process.is)
     ∙ c.requires.deciding.each c.args.process c.requires.process v)
 
 pub returns : goal.returns

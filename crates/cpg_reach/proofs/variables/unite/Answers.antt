@@ -8,7 +8,8 @@ loop-variable-init c = united_first c.args.marks.now c.args.others.now
 
 pub loop-variable-preserved : goal.loop-variable-preserved
 loop-variable-preserved c = elim c.if-others-variable.branch [
-  | then-others-variable w ↦ rw w.marks-is (united_set c.args.marks.now c.args.others.now c.loop-variable.marks c.loop-variable.variable (omega arith) w.if-others-variable.true c.loop-variable.invariant)
+  | then-others-variable w ↦ rw w.marks-is (united_set c.args.marks.now c.args.others.now c.loop-variable.marks c.loop-variable.variable
+      (omega arith) w.if-others-variable.true c.loop-variable.invariant)
   | else-others-variable w ↦ rw w.marks-is (united_kept c.args.marks.now c.args.others.now c.loop-variable.marks c.loop-variable.variable w.if-others-variable.false c.loop-variable.invariant)
 ]
 

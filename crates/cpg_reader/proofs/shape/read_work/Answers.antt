@@ -8,5 +8,17 @@ pub returns-in_err-only : goal.returns-in_err-only
 unfolding work_at
 returns-in_err-only c =
     let p = err_from_is_err_and c.from_residual-in_err-only.result c.from_residual-in_err-only.ensures.1 in
-    rw (p.1, p.2, c.in_ok-wcet.ensures, c.in_ok-parts.ensures, c.in_ok-alpha.ensures, c.in_ok-chi.ensures, c.in_ok-mu.ensures, c.in_ok-join.ensures, c.in_ok-frozen.ensures, c.in_ok-release.ensures, c.in_ok-deadline.ensures)
+    rw (
+      p.1,
+      p.2,
+      c.in_ok-wcet.ensures,
+      c.in_ok-parts.ensures,
+      c.in_ok-alpha.ensures,
+      c.in_ok-chi.ensures,
+      c.in_ok-mu.ensures,
+      c.in_ok-join.ensures,
+      c.in_ok-frozen.ensures,
+      c.in_ok-release.ensures,
+      c.in_ok-deadline.ensures,
+    )
     (Refuses-along c.in_err-only.field-0.0 _ _ (λ f e. rw e refl) c.in_err-only.ensures)

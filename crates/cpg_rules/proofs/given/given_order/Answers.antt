@@ -18,6 +18,7 @@ pub returns-clause-topological : goal.returns-clause-topological
 returns-clause-topological c =
     let g = c.args.problem.now in
     let within = given_within g c.in-Some.list.now c.in-Some.ensures.order c.in-Some.ensures.within in
-    let late : (p : ℕ) → p < process_count g → is_early g c.in-Some.list.now p ≡ false = subst (λ xs. (p : ℕ) → p < process_count g → is_early g xs p ≡ false) c.in_ok-order.ensures c.in_default-first_early.ensures.none in
+    let late : (p : ℕ) → p < process_count g → is_early g c.in-Some.list.now p ≡ false = subst
+    (λ xs. (p : ℕ) → p < process_count g → is_early g xs p ≡ false) c.in_ok-order.ensures c.in_default-first_early.ensures.none in
     gives_topological g c.in-Some.list.now c.in-Some.ensures.order
     (none_early g c.in-Some.list.now within c.in_default-lacking.ensures.none c.requires.0 c.requires.1 c.in-Some.ensures.within late)

@@ -11,4 +11,5 @@ pub least_by-requires-clause-roots : goal.least_by-requires-clause-roots
 least_by-requires-clause-roots c = roots_stay c.args.parts.now c.loop-process.parts (process_count c.args.problem.now) c.args.roots.now c.loop-process.invariant.more c.requires.roots
 
 pub least_by-requires-clause-guards : goal.least_by-requires-clause-guards
-least_by-requires-clause-guards c = trees_stay c.args.problem.now c.args.parts.now c.loop-process.parts c.args.roots.now (process_count c.args.problem.now) c.loop-process.invariant.more c.requires.roots c.requires.guards
+least_by-requires-clause-guards c = trees_stay c.args.problem.now c.args.parts.now c.loop-process.parts c.args.roots.now
+    (process_count c.args.problem.now) c.loop-process.invariant.more c.requires.roots c.requires.guards

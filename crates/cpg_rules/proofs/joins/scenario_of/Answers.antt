@@ -14,4 +14,5 @@ pub returns : goal.returns
 returns c =
     let done = c.loop-condition-test.false in
     let count = c.conditions-condition-end.ensures.count in
-    scenario_given c.args.problem.now c.args.standings.now c.loop-condition.scenario c.loop-condition.invariant.long c.loop-condition.invariant.faults (λ d l. c.loop-condition.invariant.given d (omega arith))
+    scenario_given c.args.problem.now c.args.standings.now c.loop-condition.scenario c.loop-condition.invariant.long c.loop-condition.invariant.faults
+    (λ d l. c.loop-condition.invariant.given d (omega arith))

@@ -7,7 +7,8 @@ use Rattle.cpg_rules.proofs.slots.sends_message.Goals as goal
 pub returns-then-is_message_of : goal.returns-then-is_message_of
 returns-then-is_message_of c =
     let within = c.loop-edge-test.true in
-    sym (any_there (λ e. is_message_of c.args.problem.now e c.args.node) (edge_count c.args.problem.now) c.loop-edge.edge (omega (arith, ap length c.edges.ensures.edges)) (sym c.if-is_message_of.ensures))
+    sym (any_there (λ e. is_message_of c.args.problem.now e c.args.node) (edge_count c.args.problem.now) c.loop-edge.edge (omega (arith, ap length c.edges.ensures.edges))
+    (sym c.if-is_message_of.ensures))
 
 pub returns : goal.returns
 returns c =

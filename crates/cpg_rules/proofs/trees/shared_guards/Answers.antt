@@ -5,7 +5,7 @@ use Rattle.cpg_order.specs.Guard.{Guard, Leaf}
 use Rattle.cpg_base.proofs.Places.{length_order}
 use Rattle.cpg_rules.specs.declared.edges.EdgeGuard.{EdgeGuard}
 use Rattle.cpg_rules.specs.declared.steps.Aim.TheVariants.{Conditions}
-use Rattle.cpg_rules.specs.Steps.{Step, step_of, IsStepBelow}
+use Rattle.cpg_rules.specs.Steps.{ActivationStep, step_of, IsStepBelow}
 use Rattle.cpg_rules.specs.Rested.{rested}
 use Rattle.cpg_rules.proofs.Rested.{all_rested, tracks_rested}
 use Rattle.cpg_rules.specs.Growing.{tracks_from}
@@ -24,7 +24,8 @@ tracks-requires c = rw (c.as_slice-2.ensures.value, c.in_ok-choosing.ensures, c.
     (all_rested (IsStepBelow 128) Conditions _ (steps_below c.args.problem.now c.args.order.now c.requires 128 c.processes-count.ensures.within.few_processes))
 
 -- the number of tracks, if it is not past the most that are counted
-counted : (steps whole : List Step) (result all : ℕ) → result ≡ min 16385 (tracks_from steps (replicate 128 None)) → steps ≡ rested Conditions whole → tracks_from whole (replicate 128 None) ≡ all
+counted : (steps whole : List ActivationStep) (result all : ℕ) → result ≡ min 16385 (tracks_from steps (replicate 128 None)) → steps ≡ rested Conditions whole →
+    tracks_from whole (replicate 128 None) ≡ all
     → result ≡ min 16385 all
 counted steps whole result all is along are = is ∙ ap (λ s. min 16385 (tracks_from s (replicate 128 None))) along ∙ ap (min 16385) (tracks_rested whole (replicate 128 None) ∙ are)
 
@@ -41,7 +42,8 @@ pub ranks_of-requires : goal.ranks_of-requires
 ranks_of-requires c = let long = length_order (process_count c.args.problem.now) c.args.order.now c.requires.all in omega (arith, long)
 
 pub composed_along-requires-clause-steps : goal.composed_along-requires-clause-steps
-composed_along-requires-clause-steps c = rw (c.as_slice-3.ensures.value, c.in_ok-steps.ensures) (steps_below c.args.problem.now c.args.order.now c.requires (process_count c.args.problem.now) (omega arith))
+composed_along-requires-clause-steps c = rw (c.as_slice-3.ensures.value, c.in_ok-steps.ensures)
+    (steps_below c.args.problem.now c.args.order.now c.requires (process_count c.args.problem.now) (omega arith))
 
 -- the guards that are made
 abbrev made_guards : (conditions : ℕ) (trees : List Guard) (edges : List EdgeGuard) → Guards
@@ -51,14 +53,16 @@ pub invariant_of-guards : goal.invariant_of-guards
 invariant_of-guards c = guards_below c.args.problem.now c.args.order.now c.requires (made_guards c.conditions.result c.in_ok-trees.trees.items c.in_ok-edges.edges.items)
     (made c.args.problem.now c.args.order.now c.requires c.seeds.new.parts.ranks (c.in_ok-seeds.ensures.more.ranks ∙ c.in_ok-parts.ensures.ranks ∙ c.in_ok-ranks.ensures)
     c.as_slice-3.result.now (c.as_slice-3.ensures.value ∙ c.in_ok-steps.ensures) (trees_of c.seeds.new.parts.parts c.in_ok-seeds.seeds.items)
-    (c.in_ok-seeds.ensures.trees ∙ ap (λ n. replicate n (Leaf Inactive)) (ap length c.processes-count.ensures.processes)) (made_guards c.conditions.result c.in_ok-trees.trees.items c.in_ok-edges.edges.items) c.conditions.ensures.count
+    (c.in_ok-seeds.ensures.trees ∙ ap (λ n. replicate n (Leaf Inactive)) (ap length c.processes-count.ensures.processes))
+    (made_guards c.conditions.result c.in_ok-trees.trees.items c.in_ok-edges.edges.items) c.conditions.ensures.count
     (c.in_ok-trees.ensures ∙ ap (trees_of c.composed_along.new.parts.parts) c.as_slice-4.ensures.value ∙ c.in_ok-roots.ensures.trees) c.in_ok-edges.ensures)
 
 pub returns-clause-guards : goal.returns-clause-guards
 returns-clause-guards c =
     made c.args.problem.now c.args.order.now c.requires c.seeds.new.parts.ranks (c.in_ok-seeds.ensures.more.ranks ∙ c.in_ok-parts.ensures.ranks ∙ c.in_ok-ranks.ensures)
     c.as_slice-3.result.now (c.as_slice-3.ensures.value ∙ c.in_ok-steps.ensures) (trees_of c.seeds.new.parts.parts c.in_ok-seeds.seeds.items)
-    (c.in_ok-seeds.ensures.trees ∙ ap (λ n. replicate n (Leaf Inactive)) (ap length c.processes-count.ensures.processes)) (made_guards c.conditions.result c.in_ok-trees.trees.items c.in_ok-edges.edges.items) c.conditions.ensures.count
+    (c.in_ok-seeds.ensures.trees ∙ ap (λ n. replicate n (Leaf Inactive)) (ap length c.processes-count.ensures.processes))
+    (made_guards c.conditions.result c.in_ok-trees.trees.items c.in_ok-edges.edges.items) c.conditions.ensures.count
     (c.in_ok-trees.ensures ∙ ap (trees_of c.composed_along.new.parts.parts) c.as_slice-4.ensures.value ∙ c.in_ok-roots.ensures.trees) c.in_ok-edges.ensures
 
 pub returns-clause-few : goal.returns-clause-few

@@ -4,6 +4,7 @@ use Rattle.cpg_run.proofs.sending.send.Given as goal
 
 abbrev pub invariant-loop-item : goal.invariant-loop-item
 invariant-loop-item l = record {
-  sent : (t : Times) → IsRun l.setting.problem.now l.setting.order.now l.frozen l.scenario t → HasSent l.setting.problem.now l.setting.order.now l.scenario t l.process l.item-index l.fn.known l.known l.free;
+  sent : (t : Times) → IsRun l.setting.problem.now l.setting.order.now l.frozen l.scenario t →
+      HasSent l.setting.problem.now l.setting.order.now l.scenario t l.process l.item-index l.fn.known l.known l.free;
   keeps : KeepsEnds l.fn.known l.known;
 }

@@ -21,7 +21,8 @@ pub loop-process-preserved : goal.loop-process-preserved
 loop-process-preserved c =
     let more = c.loop-process-test.true in
     let count = count_of c.args.problem.now (table_view c.args.document.now) in
-    let is : count_given c.args.problem.now (table_view c.args.document.now) c.loop-process.process ≡ pos c.in-Some.count = sym c.count_given.ensures ∙ sym (to_z-of_z w64 c.count_given.result (search rules)) ∙ c.in-Some.ensures.some.0 in
+    let is : count_given c.args.problem.now (table_view c.args.document.now) c.loop-process.process ≡ pos c.in-Some.count = sym c.count_given.ensures ∙
+    sym (to_z-of_z w64 c.count_given.result (search rules)) ∙ c.in-Some.ensures.some.0 in
     let counted : count c.loop-process.process ≡ c.in-Some.count = ap natural is in
     record {
       natural = below_next (λ q. is_natural (count_given c.args.problem.now (table_view c.args.document.now) q) ≡ true) c.loop-process.process c.loop-process.invariant.natural (ap is_natural is);

@@ -54,11 +54,13 @@ loop-process-preserved c =
 pub returns-clause-kept : goal.returns-clause-kept
 returns-clause-kept c =
     let done = c.loop-process-test.false in
-    sym (all_pass (λ q. is_length_if (duration c.args.problem.now q (count_of c.args.problem.now (table_view c.args.document.now) q)) (length_given c.args.problem.now (table_view c.args.document.now) q)) (process_count c.args.problem.now)
+    sym (all_pass (λ q. is_length_if (duration c.args.problem.now q (count_of c.args.problem.now (table_view c.args.document.now) q))
+    (length_given c.args.problem.now (table_view c.args.document.now) q)) (process_count c.args.problem.now)
     (λ q l. c.loop-process.invariant.kept q (omega (arith, ap length c.processes.ensures.processes))))
 
 pub returns-clause-lengths : goal.returns-clause-lengths
 returns-clause-lengths c =
     let done = c.loop-process-test.false in
-    filled_all (λ q. length_or (duration c.args.problem.now q (count_of c.args.problem.now (table_view c.args.document.now) q)) (length_given c.args.problem.now (table_view c.args.document.now) q)) (process_count c.args.problem.now) 0 c.loop-process.process c.loop-process.lengths
+    filled_all (λ q. length_or (duration c.args.problem.now q (count_of c.args.problem.now (table_view c.args.document.now) q)) (length_given c.args.problem.now (table_view c.args.document.now) q))
+    (process_count c.args.problem.now) 0 c.loop-process.process c.loop-process.lengths
     (omega (arith, ap length c.processes.ensures.processes)) c.loop-process.invariant.filled

@@ -32,6 +32,7 @@ pub returns : goal.returns
 returns c =
     let done = c.loop-condition-test.false in
     scenario_is c.loop-condition.scenario (values_of c.args.problem.now (table_view c.args.document.now)) c.args.scenario.now.faults
-    (filled_all (λ d. unwrap_or (value_given c.args.problem.now (table_view c.args.document.now) (process_of c.args.problem.now d)) false) (condition_count c.args.problem.now) false c.loop-condition.condition c.loop-condition.scenario.values
+    (filled_all (λ d. unwrap_or (value_given c.args.problem.now (table_view c.args.document.now) (process_of c.args.problem.now d)) false)
+    (condition_count c.args.problem.now) false c.loop-condition.condition c.loop-condition.scenario.values
     (omega (arith, c.conditions-condition-end.ensures.count)) c.loop-condition.invariant.filled)
     c.loop-condition.invariant.faults

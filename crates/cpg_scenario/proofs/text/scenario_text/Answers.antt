@@ -7,7 +7,8 @@ use Rattle.cpg_scenario.proofs.Pieces.{next_pieces, finished, pieces_some}
 use Rattle.cpg_scenario.proofs.text.scenario_text.Goals as goal
 
 pub loop-process-preserved : goal.loop-process-preserved
-loop-process-preserved c = next_pieces (pieces_of c.args.problem.now c.args.scenario.now) c.loop-process.process (string_bytes c.loop-process.out) (string_bytes c.write_process.new.out) c.loop-process.invariant c.in_ok-write_process.ensures
+loop-process-preserved c = next_pieces (pieces_of c.args.problem.now c.args.scenario.now) c.loop-process.process (string_bytes c.loop-process.out)
+    (string_bytes c.write_process.new.out) c.loop-process.invariant c.in_ok-write_process.ensures
 
 pub returns : goal.returns
 returns c =

@@ -7,7 +7,8 @@ use Rattle.cpg_show.proofs.putting.put_columns.Goals as goal
 
 pub loop-column-preserved : goal.loop-column-preserved
 loop-column-preserved g c = record {
-  put = item_more (column_line c.args.labels.now) _ _ _ _ _ _ c.args.columns.now c.loop-column.column-index c.column-item.result c.column-item.is c.loop-column-test.true c.loop-column.invariant.put c.in_ok-put_column.ensures.put;
+  put = item_more (column_line c.args.labels.now) _ _ _ _ _ _ c.args.columns.now c.loop-column.column-index c.column-item.result c.column-item.is c.loop-column-test.true c.loop-column.invariant.put
+      c.in_ok-put_column.ensures.put;
   later = omega (arith, c.loop-column.invariant.later, c.put_column.ensures.cause.later);
   line = line_still c.args.labels.now c.literals.result.now c.turned-line.result c.turned-line.ensures;
 }
@@ -15,4 +16,6 @@ loop-column-preserved g c = record {
 pub returns-in_err-put_column-clause-put : goal.returns-in_err-put_column-clause-put
 returns-in_err-put_column-clause-put g c =
     let p = err_from_is_err_and c.from_residual.result c.from_residual.ensures.1 in
-    Puts-failed _ _ _ _ _ c.from_residual.result p.0 p.1 (item_fails (column_line c.args.labels.now) _ _ _ _ _ c.args.columns.now c.loop-column.column-index c.column-item.result c.column-item.is c.loop-column-test.true c.loop-column.invariant.put c.in_err-put_column.ensures.put)
+    Puts-failed _ _ _ _ _ c.from_residual.result p.0 p.1
+    (item_fails (column_line c.args.labels.now) _ _ _ _ _ c.args.columns.now c.loop-column.column-index c.column-item.result c.column-item.is c.loop-column-test.true c.loop-column.invariant.put
+    c.in_err-put_column.ensures.put)

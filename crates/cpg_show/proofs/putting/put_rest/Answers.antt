@@ -6,11 +6,14 @@ use Rattle.cpg_show.proofs.putting.put_rest.Goals as goal
 
 pub loop-literal-preserved : goal.loop-literal-preserved
 loop-literal-preserved g c = record {
-  put = puts_more (piece_text c.args.labels.now) _ _ _ _ _ _ c.args.literals.now c.loop-literal.literal-index (record { variable = 0; low = 0; high = 0 }) c.loop-literal-test.true c.loop-literal.invariant.put c.in_ok-put_later.ensures.put;
+  put = puts_more (piece_text c.args.labels.now) _ _ _ _ _ _ c.args.literals.now c.loop-literal.literal-index
+      (record { variable = 0; low = 0; high = 0 }) c.loop-literal-test.true c.loop-literal.invariant.put c.in_ok-put_later.ensures.put;
   later = omega (arith, c.loop-literal.invariant.later, c.put_later.ensures.cause.later);
 }
 
 pub returns-in_err-put_later-clause-put : goal.returns-in_err-put_later-clause-put
 returns-in_err-put_later-clause-put g c =
     let p = err_from_is_err_and c.from_residual.result c.from_residual.ensures.1 in
-    Puts-failed _ _ _ _ _ c.from_residual.result p.0 p.1 (puts_fail (piece_text c.args.labels.now) _ _ _ _ _ c.args.literals.now c.loop-literal.literal-index (record { variable = 0; low = 0; high = 0 }) c.loop-literal-test.true c.loop-literal.invariant.put c.in_err-put_later.ensures.put)
+    Puts-failed _ _ _ _ _ c.from_residual.result p.0 p.1
+    (puts_fail (piece_text c.args.labels.now) _ _ _ _ _ c.args.literals.now c.loop-literal.literal-index
+    (record { variable = 0; low = 0; high = 0 }) c.loop-literal-test.true c.loop-literal.invariant.put c.in_err-put_later.ensures.put)

@@ -10,4 +10,5 @@ returns-in_err-put_time-clause-put g c =
     Puts-first _ _ _ _ (codes "  " ++ decimal c.args.column.now.time ++ codes ": ") (cube_text c.args.labels.now c.args.column.now.cube) c.from_residual.result p.0 p.1 c.in_err-put_time.ensures.put
 
 pub returns-clause-put : goal.returns-clause-put
-returns-clause-put g c = Puts-then _ _ _ _ _ _ (codes "  " ++ decimal c.args.column.now.time ++ codes ": ") (cube_text c.args.labels.now c.args.column.now.cube) c.put_cube.result c.in_ok-put_time.ensures.put (rw c.literals.ensures.literals at c.put_cube.ensures.put)
+returns-clause-put g c = Puts-then _ _ _ _ _ _ (codes "  " ++ decimal c.args.column.now.time ++ codes ": ")
+    (cube_text c.args.labels.now c.args.column.now.cube) c.put_cube.result c.in_ok-put_time.ensures.put (rw c.literals.ensures.literals at c.put_cube.ensures.put)

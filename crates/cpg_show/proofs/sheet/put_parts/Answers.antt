@@ -6,11 +6,14 @@ use Rattle.cpg_show.proofs.sheet.put_parts.Goals as goal
 
 pub loop-part-preserved : goal.loop-part-preserved
 loop-part-preserved g c = record {
-  put = item_more (part_text c.args.labels.now) _ _ _ _ _ _ c.args.parts.now c.loop-part.part-index c.part-item.result c.part-item.is c.loop-part-test.true c.loop-part.invariant.put c.in_ok-put_part.ensures.put;
+  put = item_more (part_text c.args.labels.now) _ _ _ _ _ _ c.args.parts.now c.loop-part.part-index c.part-item.result c.part-item.is c.loop-part-test.true c.loop-part.invariant.put
+      c.in_ok-put_part.ensures.put;
   later = omega (arith, c.loop-part.invariant.later, c.put_part.ensures.cause.later);
 }
 
 pub returns-in_err-put_part-clause-put : goal.returns-in_err-put_part-clause-put
 returns-in_err-put_part-clause-put g c =
     let p = err_from_is_err_and c.from_residual.result c.from_residual.ensures.1 in
-    Puts-failed _ _ _ _ _ c.from_residual.result p.0 p.1 (item_fails (part_text c.args.labels.now) _ _ _ _ _ c.args.parts.now c.loop-part.part-index c.part-item.result c.part-item.is c.loop-part-test.true c.loop-part.invariant.put c.in_err-put_part.ensures.put)
+    Puts-failed _ _ _ _ _ c.from_residual.result p.0 p.1
+    (item_fails (part_text c.args.labels.now) _ _ _ _ _ c.args.parts.now c.loop-part.part-index c.part-item.result c.part-item.is c.loop-part-test.true c.loop-part.invariant.put
+    c.in_err-put_part.ensures.put)

@@ -5,6 +5,10 @@ use Rattle.cpg_show.proofs.table.rows_of.Goals as goal
 
 pub loop-item-preserved : goal.loop-item-preserved
 loop-item-preserved c = elim c.if-is_shown.branch [
-  | then-is_shown+in_ok-head_line_of+in_ok-push w ↦ rw w.rows-is (rw w.in_ok-push.ensures.items (shown_more c.args.problem.now c.args.tables.now.nodes c.args.labels.now c.loop-item.item c.loop-item.rows.items _ (sym c.is_shown.ensures ∙ w.if-is_shown.true) c.requires w.in_ok-head_line_of.ensures w.columns_of.ensures.columns c.loop-item.invariant))
-  | else-is_shown w ↦ rw w.rows-is (hidden_more c.args.problem.now c.args.tables.now.nodes c.args.labels.now c.loop-item.item c.loop-item.rows.items (sym c.is_shown.ensures ∙ w.if-is_shown.false) c.loop-item.invariant)
+  | then-is_shown+in_ok-head_line_of+in_ok-push w ↦
+      rw w.rows-is (rw w.in_ok-push.ensures.items
+      (shown_more c.args.problem.now c.args.tables.now.nodes c.args.labels.now c.loop-item.item c.loop-item.rows.items _
+      (sym c.is_shown.ensures ∙ w.if-is_shown.true) c.requires w.in_ok-head_line_of.ensures w.columns_of.ensures.columns c.loop-item.invariant))
+  | else-is_shown w ↦ rw w.rows-is (hidden_more c.args.problem.now c.args.tables.now.nodes c.args.labels.now c.loop-item.item c.loop-item.rows.items
+      (sym c.is_shown.ensures ∙ w.if-is_shown.false) c.loop-item.invariant)
 ]

@@ -32,6 +32,7 @@ loop-row-preserved c =
     let off : has_own g node row.item ≡ false = ap (has_own g node) (sym c.item.ensures) ∙ sym c.has_own.ensures ∙ c.if-has_own.false in
     record {
       own = filter_left (λ (r : Row). has_own g node r.item) c.args.rows.items c.loop-row.own.items left rest row is c.loop-row.invariant.own off;
-      others = filter_moved (λ (r : Row). not (has_own g node r.item)) c.args.rows.items c.loop-row.others.items left rest row is c.loop-row.invariant.others (ap not off) c.push-else-has_own.new.self.items c.in_ok-push-2.ensures.items;
+      others = filter_moved (λ (r : Row). not (has_own g node r.item)) c.args.rows.items c.loop-row.others.items left rest row is c.loop-row.invariant.others
+          (ap not off) c.push-else-has_own.new.self.items c.in_ok-push-2.ensures.items;
       known = All-tail (λ (r : Row). r.item < item_count g) row rest (subst (All (λ (r : Row). r.item < item_count g)) is c.loop-row.invariant.known);
     }

@@ -17,4 +17,5 @@ loop-literal-preserved c e =
     (All-push (IsCountLiteral c.args.space) _ _ (c.loop-literal.invariant parts.0) (c.is_count-are.ensures.0 parts.1))
 
 pub returns : goal.returns
-returns c = on_true c.loop-literal.are (λ e. subst (All (IsCountLiteral c.args.space)) (take_all c.loop-literal.literal-index c.args.literals.now (omega (arith, c.loop-literal-test.false))) (c.loop-literal.invariant e))
+returns c = on_true c.loop-literal.are (λ e. subst (All (IsCountLiteral c.args.space)) (take_all c.loop-literal.literal-index c.args.literals.now (omega (arith, c.loop-literal-test.false)))
+    (c.loop-literal.invariant e))

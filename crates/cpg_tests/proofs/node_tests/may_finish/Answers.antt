@@ -15,7 +15,8 @@ record Unreported (o : Option Running) (start : ℕ) : Type 0 where
   pub started : run.start ≡ start
   pub none : run.report ≡ None
 
-unreported : (o : Option Running) (start : ℕ) (report : Option Ended) → option_map (λ (run : Running). run.start) o ≡ Some start → option_and_then (λ (run : Running). run.report) o ≡ report → is_some report ≡ false → Unreported o start
+unreported : (o : Option Running) (start : ℕ) (report : Option Ended) → option_map (λ (run : Running). run.start) o ≡ Some start → option_and_then (λ (run : Running). run.report) o ≡ report →
+    is_some report ≡ false → Unreported o start
 unreported None start report e f n = absurd (none-some start e)
 unreported (Some run) start None e f n = record { run = run; runs = refl; started = same_Some run.start start e; none = f }
 unreported (Some run) start (Some r) e f n = absurd (true≢false n)

@@ -37,7 +37,8 @@ loop-process-preserved c =
       set = subst (λ k. KeysSoFar g order c.args.schedules.now (set keys p k) (c.loop-process.process-index + 1)) (sym key)
           (key_set g order c.requires.order c.args.schedules.now keys c.loop-process.process-index p c.loop-process.invariant.set inside there);
       low = λ q. let h = low_more keys (2 ^ 60 + c.loop-process.process-index) p c.key_of-key.result (omega (arith, c.loop-process.invariant.set.count)) c.loop-process.invariant.low
-          (omega (arith, key, key_low g c.args.schedules.now keys (2 ^ 60) (2 ^ 60 + c.loop-process.process-index) p c.requires.early (omega arith) c.loop-process.invariant.low)) q in omega (arith, h);
+          (omega (arith, key, key_low g c.args.schedules.now keys (2 ^ 60) (2 ^ 60 + c.loop-process.process-index) p c.requires.early (omega arith) c.loop-process.invariant.low)) q in
+          omega (arith, h);
     }
 
 pub returns : goal.returns

@@ -21,7 +21,8 @@ unreachable-requires c =
     (rw c.as_slice-3.ensures.value at c.in_ok-processes.ensures.all)
     (rw c.as_slice-3.ensures.value at c.in_ok-processes.ensures.rising) in
     let refused = rw c.in_default-2.is at c.in_ok-order.ensures.refused in
-    refused (subst₂ IsTopological (sym c.problem-problem.ensures.problem) (sym c.as_slice-4.ensures.value) (order_of_tracks_topological g c.problem-problem.ensures.admitted.well_formed c.in_ok-processes.processes.items order))
+    refused (subst₂ IsTopological (sym c.problem-problem.ensures.problem) (sym c.as_slice-4.ensures.value)
+    (order_of_tracks_topological g c.problem-problem.ensures.admitted.well_formed c.in_ok-processes.processes.items order))
 
 pub returns-clause-order : goal.returns-clause-order
 returns-clause-order c =

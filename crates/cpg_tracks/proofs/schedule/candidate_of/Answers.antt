@@ -13,5 +13,6 @@ returns-clause-candidate c =
     record {
       fed = c.in-Some.ensures.fed;
       start = c.max-start.ensures ∙ ap₂ max c.in-Some.ensures.ready
-          (ap (λ xs. get_or xs c.node_of.result 0) c.requires.free ∙ get_or-map-below (free_at g c.args.starts.now) (length g.nodes) c.node_of.result 0 c.node_of.ensures.within ∙ ap (free_at g c.args.starts.now) c.node_of.ensures.node);
+          (ap (λ xs. get_or xs c.node_of.result 0) c.requires.free ∙ get_or-map-below (free_at g c.args.starts.now) (length g.nodes) c.node_of.result 0 c.node_of.ensures.within ∙
+          ap (free_at g c.args.starts.now) c.node_of.ensures.node);
     }

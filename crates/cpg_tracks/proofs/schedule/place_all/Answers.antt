@@ -21,7 +21,8 @@ next-requires-clause-starts c =
     let g = c.args.problem.now in
     let a = c.requires.admitted in
     subst (IsOnTheWay g) (sym c.as_slice.ensures.value)
-    (placed_open g a.limits a.well_formed c.args.track.now.outcome c.loop-placed.starts.items c.loop-placed.free.items c.loop-placed._placed c.loop-placed.invariant (omega (arith, ap length c.processes-count.ensures.processes, c.loop-placed-test.true)))
+    (placed_open g a.limits a.well_formed c.args.track.now.outcome c.loop-placed.starts.items c.loop-placed.free.items c.loop-placed._placed c.loop-placed.invariant
+    (omega (arith, ap length c.processes-count.ensures.processes, c.loop-placed-test.true)))
 
 pub returns-in_default-clause-greedy : goal.returns-in_default-clause-greedy
 returns-in_default-clause-greedy c =
@@ -44,10 +45,12 @@ overflow_add-end c =
     let o = ap (λ t. t.outcome) c.in_ok-timing.ensures.track in
     let p = c.in-Some.chosen.process in
     let next = subst (λ x. IsNext g x c.loop-placed.starts.items p) o (rw c.as_slice.ensures.value at c.in-Some.ensures.next) in
-    let start = subst (λ x. c.in-Some.chosen.start ≡ would_start g x c.loop-placed.starts.items p) o (subst (λ xs. c.in-Some.chosen.start ≡ would_start g c.in_ok-timing.timing.track.now.outcome xs p) c.as_slice.ensures.value c.in-Some.ensures.start) in
+    let start = subst (λ x. c.in-Some.chosen.start ≡ would_start g x c.loop-placed.starts.items p) o
+    (subst (λ xs. c.in-Some.chosen.start ≡ would_start g c.in_ok-timing.timing.track.now.outcome xs p) c.as_slice.ensures.value c.in-Some.ensures.start) in
     omega (
       arith,
-      placed_late g a.limits a.well_formed c.args.track.now.outcome c.loop-placed.starts.items c.loop-placed.free.items c.loop-placed._placed c.loop-placed.invariant p (omega (arith, ap length c.processes-count.ensures.processes, c.loop-placed-test.true)) next,
+      placed_late g a.limits a.well_formed c.args.track.now.outcome c.loop-placed.starts.items c.loop-placed.free.items c.loop-placed._placed c.loop-placed.invariant p
+          (omega (arith, ap length c.processes-count.ensures.processes, c.loop-placed-test.true)) next,
       start,
       c.index.ensures ∙ duration_at g c.in_ok-timing.timing c.in_ok-timing.ensures.timing p c.index.result.now next.fed.within,
       duration-le g p g.faults a.limits next.fed.within a.limits.faults,
@@ -60,8 +63,10 @@ loop-placed-preserved c =
     let o = ap (λ t. t.outcome) c.in_ok-timing.ensures.track in
     let p = c.in-Some.chosen.process in
     let next = subst (λ x. IsNext g x c.loop-placed.starts.items p) o (rw c.as_slice.ensures.value at c.in-Some.ensures.next) in
-    let start = subst (λ x. c.in-Some.chosen.start ≡ would_start g x c.loop-placed.starts.items p) o (subst (λ xs. c.in-Some.chosen.start ≡ would_start g c.in_ok-timing.timing.track.now.outcome xs p) c.as_slice.ensures.value c.in-Some.ensures.start) in
-    placed_more g a.limits a.well_formed c.args.track.now.outcome c.loop-placed.starts.items c.loop-placed.free.items c.loop-placed._placed c.loop-placed.invariant p c.in-Some.chosen.start c.node_of.result c.index.result.now next start c.node_of.ensures.node
+    let start = subst (λ x. c.in-Some.chosen.start ≡ would_start g x c.loop-placed.starts.items p) o
+    (subst (λ xs. c.in-Some.chosen.start ≡ would_start g c.in_ok-timing.timing.track.now.outcome xs p) c.as_slice.ensures.value c.in-Some.ensures.start) in
+    placed_more g a.limits a.well_formed c.args.track.now.outcome c.loop-placed.starts.items c.loop-placed.free.items c.loop-placed._placed c.loop-placed.invariant p c.in-Some.chosen.start
+    c.node_of.result c.index.result.now next start c.node_of.ensures.node
     (c.index.ensures ∙ duration_at g c.in_ok-timing.timing c.in_ok-timing.ensures.timing p c.index.result.now next.fed.within)
 
 pub returns-clause-greedy : goal.returns-clause-greedy
@@ -76,10 +81,12 @@ pub returns-in_default-clause-early : goal.returns-in_default-clause-early
 returns-in_default-clause-early c =
     let g = c.args.problem.now in
     let a = c.requires.admitted in
-    placed_early g a.limits a.well_formed c.args.track.now.outcome c.loop-placed.starts.items c.loop-placed.free.items c.loop-placed._placed c.loop-placed.invariant (omega (arith, ap length c.processes-count.ensures.processes, c.loop-placed-test.true))
+    placed_early g a.limits a.well_formed c.args.track.now.outcome c.loop-placed.starts.items c.loop-placed.free.items c.loop-placed._placed c.loop-placed.invariant
+    (omega (arith, ap length c.processes-count.ensures.processes, c.loop-placed-test.true))
 
 pub returns-clause-early : goal.returns-clause-early
 returns-clause-early c =
     let g = c.args.problem.now in
     let a = c.requires.admitted in
-    placed_early g a.limits a.well_formed c.args.track.now.outcome c.loop-placed.starts.items c.loop-placed.free.items c.loop-placed._placed c.loop-placed.invariant (omega (arith, ap length c.processes-count.ensures.processes, c.loop-placed.auto._placed-end))
+    placed_early g a.limits a.well_formed c.args.track.now.outcome c.loop-placed.starts.items c.loop-placed.free.items c.loop-placed._placed c.loop-placed.invariant
+    (omega (arith, ap length c.processes-count.ensures.processes, c.loop-placed.auto._placed-end))

@@ -1,5 +1,5 @@
 use Rattle.std.proofs.Common.{ℕ, ◌≡◌, sym, subst, arith}
-use Rattle.cpg_tree.specs.declared.node.Node.{Node}
+use Rattle.cpg_tree.specs.declared.node.TreeNode.{TreeNode}
 use Rattle.cpg_tree.specs.Tree.{IsNumber}
 use Rattle.cpg_tree.proofs.Forks.{of_answer}
 use Rattle.cpg_tree.proofs.Publics.{state}
@@ -15,7 +15,7 @@ pub returns-clause-is : goal.returns-clause-is
 returns-clause-is c =
     let k : ℕ = c.args.k in
     let p : ℕ = c.args.process in
-    let root : Node ℕ = c.in_ok-root.root in
+    let root : TreeNode ℕ = c.in_ok-root.root in
     let w = some_whole k in
     of_answer c.of.result (λ t. t ≡ state k root) (IsNumber p k (λ n. n)) c.of.ensures.is
     (λ t is. subst (IsNumber p k (λ (n : ℕ). n)) (sym is)

@@ -1,6 +1,6 @@
 use Rattle.std.proofs.Common.{ℕ, ◌+◌, ◌≡◌, Bool, sym, subst, arith}
 use Rattle.cpg_base.specs.Scenario.{number_of_value}
-use Rattle.cpg_tree.specs.declared.node.Node.{Node}
+use Rattle.cpg_tree.specs.declared.node.TreeNode.{TreeNode}
 use Rattle.cpg_tree.specs.Tree.{IsNumber}
 use Rattle.cpg_tree.proofs.Forks.{of_answer}
 use Rattle.cpg_tree.proofs.Publics.{state}
@@ -16,7 +16,7 @@ pub returns-clause-is : goal.returns-clause-is
 returns-clause-is c =
     let k : ℕ = c.args.k in
     let v : ℕ = 128 + c.args.condition in
-    let root : Node Bool = c.in_ok-root.root in
+    let root : TreeNode Bool = c.in_ok-root.root in
     let w = some_whole k in
     of_answer c.of.result (λ t. t ≡ state k root) (IsNumber v k number_of_value) c.of.ensures.is
     (λ t is. subst (IsNumber v k number_of_value) (sym is)

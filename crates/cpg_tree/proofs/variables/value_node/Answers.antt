@@ -1,5 +1,5 @@
 use Rattle.std.proofs.Common.{◌+◌, true, false, arith}
-use Rattle.cpg_tree.specs.declared.node.Node.{Leaf}
+use Rattle.cpg_tree.specs.declared.node.TreeNode.{Leaf}
 use Rattle.cpg_tree.specs.Results.{IsForkOf}
 use Rattle.cpg_tree.specs.Variables.{IsValueNode}
 use Rattle.cpg_tree.proofs.Forks.{of_answer}
@@ -12,4 +12,5 @@ returns-clause-value c = of_answer c.fork.result (IsForkOf (128 + c.args.conditi
 
 pub returns-clause-fit : goal.returns-clause-fit
 returns-clause-fit c = of_answer c.fork.result _ _ c.fork.ensures.fit
-    (λ r fit k room whole. fit room (value_open_below k room whole (128 + c.args.condition) (omega arith) (omega (arith, c.requires))) (value_open_above k room whole (128 + c.args.condition) (omega arith) (omega (arith, c.requires))) tt tt)
+    (λ r fit k room whole. fit room (value_open_below k room whole (128 + c.args.condition) (omega arith) (omega (arith, c.requires)))
+    (value_open_above k room whole (128 + c.args.condition) (omega arith) (omega (arith, c.requires))) tt tt)

@@ -6,5 +6,6 @@ use Rattle.cpg_tune.proofs.retuning.in_parts_each.Goals as goal
 
 pub returns : goal.returns
 returns c =
-    each_whole (iter_rest c.loop-process.process-iterator.a) (iter_rest c.loop-process.process-iterator.b) (in_parts_each c.args.processes.now c.args.parts.now) c.loop-process.copies.items c.loop-process.invariant
+    each_whole (iter_rest c.loop-process.process-iterator.a) (iter_rest c.loop-process.process-iterator.b)
+    (in_parts_each c.args.processes.now c.args.parts.now) c.loop-process.copies.items c.loop-process.invariant
     (either_empty_from_Zip c.loop-process.process-iterator c.next.new.self _ c.in-None.is c.next.ensures.steps)

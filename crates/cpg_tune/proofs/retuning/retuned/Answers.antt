@@ -13,7 +13,16 @@ of_view f P (Some x) o e h = subst (λ q. IfSome q P) (sym e) h
 
 pub of-retuned-requires : goal.of-retuned-requires
 of-retuned-requires c =
-    let made : Graph = record { faults = c.args.faults; deadline = c.deadline.result; nodes = c.in_ok-nodes.nodes.items; slots = c.in_ok-slots.slots.items; processes = c.in_ok-processes.processes.items; edges = c.in_ok-edges.edges.items; order = None } in
+    let made : Graph = record {
+      faults = c.args.faults;
+      deadline = c.deadline.result;
+      nodes = c.in_ok-nodes.nodes.items;
+      slots = c.in_ok-slots.slots.items;
+      processes =
+          c.in_ok-processes.processes.items;
+      edges = c.in_ok-edges.edges.items;
+      order = None;
+    } in
     let is : made ≡ record (retuned c.args.problem.now c.args.parts.now c.args.faults) { order = None } = search rules in
     let whole = retuned_within c.args.problem.now c.args.parts.now c.args.faults c.nodes.ensures.within c.requires.parts c.requires.faults in
     rw is (orderless_within (retuned c.args.problem.now c.args.parts.now c.args.faults) whole)
@@ -21,7 +30,16 @@ of-retuned-requires c =
 pub with_order-requires : goal.with_order-requires
 with_order-requires c =
     let g = c.args.problem.now in
-    let made : Graph = record { faults = c.args.faults; deadline = c.deadline.result; nodes = c.in_ok-nodes.nodes.items; slots = c.in_ok-slots.slots.items; processes = c.in_ok-processes.processes.items; edges = c.in_ok-edges.edges.items; order = None } in
+    let made : Graph = record {
+      faults = c.args.faults;
+      deadline = c.deadline.result;
+      nodes = c.in_ok-nodes.nodes.items;
+      slots = c.in_ok-slots.slots.items;
+      processes =
+          c.in_ok-processes.processes.items;
+      edges = c.in_ok-edges.edges.items;
+      order = None;
+    } in
     let is : made ≡ record (retuned g c.args.parts.now c.args.faults) { order = None } = search rules in
     let count : process_count c.of-retuned.result ≡ process_count (retuned g c.args.parts.now c.args.faults) = ap process_count (c.of-retuned.ensures ∙ is) in
     let whole = retuned_within g c.args.parts.now c.args.faults c.nodes.ensures.within c.requires.parts c.requires.faults in

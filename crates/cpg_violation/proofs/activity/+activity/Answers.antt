@@ -30,7 +30,8 @@ pub least_where-least_at-requires : goal.least_where-least_at-requires
 least_where-least_at-requires t c =
     let g = c.args.admitted.now.graph in
     let some : with_literal c.args.literal c.args.cube.now ≡ Some c.in-Some.part = search rules in
-    let part : IsKnown g c.in-Some.part = subst (IsKnown g) (with-is c.args.literal c.args.cube.now c.in-Some.part some) (known-narrowed g c.args.literal c.args.cube.now c.requires.literal c.requires.cube) in
+    let part : IsKnown g c.in-Some.part = subst (IsKnown g) (with-is c.args.literal c.args.cube.now c.in-Some.part some)
+    (known-narrowed g c.args.literal c.args.cube.now c.requires.literal c.requires.cube) in
     (search rules, (c.requires.tree, (part, c.requires.list)))
 
 pub least_where-returns : goal.least_where-returns

@@ -7,7 +7,8 @@ use Rattle.cpg_violation.proofs.guards.is_idle.Goals as goal
 
 pub is_never-requires : goal.is_never-requires
 is_never-requires c =
-    let few : c.guards.result.now.conditions ≤ MOST_CONDITIONS = omega (arith, ap (λ (t : Guards). t.conditions) c.guards.ensures.guards, c.guards.ensures.admitted.guards.conditions, c.guards.ensures.admitted.limits.few_conditions) in
+    let few : c.guards.result.now.conditions ≤ MOST_CONDITIONS =
+    omega (arith, ap (λ (t : Guards). t.conditions) c.guards.ensures.guards, c.guards.ensures.admitted.guards.conditions, c.guards.ensures.admitted.limits.few_conditions) in
     (c.guards.result.now.conditions, few, c.guard_of.ensures.below)
 
 pub returns : goal.returns

@@ -10,18 +10,38 @@ above a b h l = omega arith
 
 pub returns-in_default-clause-refused : goal.returns-in_default-clause-refused
 returns-in_default-clause-refused c =
-    let g : Graph = record { faults = c.args.faults; deadline = c.args.deadline; nodes = c.args.nodes.items; slots = c.args.slots.items; processes = c.args.processes.items; edges = c.args.edges.items; order = None } in
+    let g : Graph = record {
+      faults = c.args.faults;
+      deadline = c.args.deadline;
+      nodes = c.args.nodes.items;
+      slots = c.args.slots.items;
+      processes = c.args.processes.items;
+      edges =
+          c.args.edges.items;
+      order = None;
+    } in
     let count : c.len-8.result ≡ length c.args.processes.items = search rules in
-    let found : filter (has_conditional_output c.as_slice-7.result.now) (numbers_below c.len-8.result) ≡ disjunctions g = ap₂ (λ es n. filter (has_conditional_output es) (numbers_below n)) c.as_slice-7.ensures.value count ∙ conditions_found g in
+    let found : filter (has_conditional_output c.as_slice-7.result.now) (numbers_below c.len-8.result) ≡ disjunctions g =
+    ap₂ (λ es n. filter (has_conditional_output es) (numbers_below n)) c.as_slice-7.ensures.value count ∙ conditions_found g in
     let many : 32 < length (filter (has_conditional_output c.as_slice-7.result.now) (numbers_below c.len-8.result)) = c.in_default.ensures.many in
     let over : 32 < length (disjunctions g) = rw found at many in
     λ w. above (length (disjunctions g)) 32 w.few_conditions over
 
 pub invariant_of-result : goal.invariant_of-result
 invariant_of-result c =
-    let g : Graph = record { faults = c.args.faults; deadline = c.args.deadline; nodes = c.args.nodes.items; slots = c.args.slots.items; processes = c.args.processes.items; edges = c.args.edges.items; order = None } in
+    let g : Graph = record {
+      faults = c.args.faults;
+      deadline = c.args.deadline;
+      nodes = c.args.nodes.items;
+      slots = c.args.slots.items;
+      processes = c.args.processes.items;
+      edges =
+          c.args.edges.items;
+      order = None;
+    } in
     let count : c.len-8.result ≡ length c.args.processes.items = search rules in
-    let found : c.in-Some.conditions ≡ disjunctions g = c.in-Some.ensures.found ∙ ap₂ (λ es n. filter (has_conditional_output es) (numbers_below n)) c.as_slice-7.ensures.value count ∙ conditions_found g in (
+    let found : c.in-Some.conditions ≡ disjunctions g = c.in-Some.ensures.found ∙ ap₂ (λ es n. filter (has_conditional_output es) (numbers_below n)) c.as_slice-7.ensures.value count ∙
+    conditions_found g in (
       record {
         faults = search rules;
         deadline = search rules;
@@ -43,9 +63,19 @@ invariant_of-result c =
 
 pub returns-clause-within : goal.returns-clause-within
 returns-clause-within c =
-    let g : Graph = record { faults = c.args.faults; deadline = c.args.deadline; nodes = c.args.nodes.items; slots = c.args.slots.items; processes = c.args.processes.items; edges = c.args.edges.items; order = None } in
+    let g : Graph = record {
+      faults = c.args.faults;
+      deadline = c.args.deadline;
+      nodes = c.args.nodes.items;
+      slots = c.args.slots.items;
+      processes = c.args.processes.items;
+      edges =
+          c.args.edges.items;
+      order = None;
+    } in
     let count : c.len-8.result ≡ length c.args.processes.items = search rules in
-    let found : c.in-Some.conditions ≡ disjunctions g = c.in-Some.ensures.found ∙ ap₂ (λ es n. filter (has_conditional_output es) (numbers_below n)) c.as_slice-7.ensures.value count ∙ conditions_found g in
+    let found : c.in-Some.conditions ≡ disjunctions g = c.in-Some.ensures.found ∙ ap₂ (λ es n. filter (has_conditional_output es) (numbers_below n)) c.as_slice-7.ensures.value count ∙
+    conditions_found g in
     record {
       faults = search rules;
       deadline = search rules;

@@ -7,15 +7,34 @@ use Rattle.cpg_base.proofs.problem.Problem.of.Goals as goal
 
 pub unreachable-requires : goal.unreachable-requires
 unreachable-requires c =
-    let g : Graph = record { faults = c.args.faults; deadline = c.args.deadline; nodes = c.args.nodes.items; slots = c.args.slots.items; processes = c.args.processes.items; edges = c.args.edges.items; order = None } in
+    let g : Graph = record {
+      faults = c.args.faults;
+      deadline = c.args.deadline;
+      nodes = c.args.nodes.items;
+      slots = c.args.slots.items;
+      processes = c.args.processes.items;
+      edges =
+          c.args.edges.items;
+      order = None;
+    } in
     let count : c.len.result ≡ length c.args.processes.items = search rules in
-    let found : filter (has_conditional_output c.as_slice.result.now) (numbers_below c.len.result) ≡ disjunctions g = ap₂ (λ es n. filter (has_conditional_output es) (numbers_below n)) c.as_slice.ensures.value count ∙ conditions_found g in
+    let found : filter (has_conditional_output c.as_slice.result.now) (numbers_below c.len.result) ≡ disjunctions g =
+    ap₂ (λ es n. filter (has_conditional_output es) (numbers_below n)) c.as_slice.ensures.value count ∙ conditions_found g in
     let many : 32 < length (filter (has_conditional_output c.as_slice.result.now) (numbers_below c.len.result)) = c.in_default.ensures.many in
     let over : 32 < length (disjunctions g) = rw found at many in
     omega (arith, c.requires.few_conditions, over)
 
 pub invariant_of-result : goal.invariant_of-result
 invariant_of-result c =
-    let g : Graph = record { faults = c.args.faults; deadline = c.args.deadline; nodes = c.args.nodes.items; slots = c.args.slots.items; processes = c.args.processes.items; edges = c.args.edges.items; order = None } in
+    let g : Graph = record {
+      faults = c.args.faults;
+      deadline = c.args.deadline;
+      nodes = c.args.nodes.items;
+      slots = c.args.slots.items;
+      processes = c.args.processes.items;
+      edges =
+          c.args.edges.items;
+      order = None;
+    } in
     let count : c.len.result ≡ length c.args.processes.items = search rules in
     (c.requires, c.in-Some.ensures.found ∙ ap₂ (λ es n. filter (has_conditional_output es) (numbers_below n)) c.as_slice.ensures.value count ∙ conditions_found g)

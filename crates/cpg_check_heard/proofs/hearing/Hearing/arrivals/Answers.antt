@@ -5,7 +5,7 @@ use Rattle.cpg_base.specs.Numbers.{numbers_below}
 use Rattle.cpg_cube.specs.Fit.{IsKnown}
 use Rattle.cpg_cube.specs.Column.{Column}
 use Rattle.cpg_violation.proofs.Violations.{columns_known}
-use Rattle.cpg_check_heard.specs.declared.bound.Bound.{Bound}
+use Rattle.cpg_check_heard.specs.declared.bound.LiteralBound.{LiteralBound}
 use Rattle.cpg_check_heard.specs.Arrivals.{do_tell}
 use Rattle.cpg_check_heard.specs.Tellings.{CanTell}
 use Rattle.cpg_check_heard.specs.Untold.{item_tells}
@@ -42,7 +42,7 @@ loop-item-preserved c =
     let t = c.index-teller.result.now in
     let is = teller_at g tables (item_count g) c.args.self.now.tellers.items x t c.requires.hearing.tellers below c.index-teller.ensures in
     let known : All (λ (d : Column). IsKnown g d.cube) t.line.now.columns.now = rw is.line.all (columns_known c.requires.hearing.admitted tables c.requires.hearing.tables x) in
-    let can : (b : Bound) → CanTell g b t.telling = λ b. rw is.telling (heard_can g tables c.args.time b (record { values = []; faults = [] }) x c.args.node parts.1) in
+    let can : (b : LiteralBound) → CanTell g b t.telling = λ b. rw is.telling (heard_can g tables c.args.time b (record { values = []; faults = [] }) x c.args.node parts.1) in
     record {
       each = c.in_ok-add_row.ensures.each g known can c.loop-item.invariant.each;
       told = λ b s m. row_more (item_tells g tables c.args.time b s) c.args.items.now c.loop-item.item-index 0 c.loop-item-test.true

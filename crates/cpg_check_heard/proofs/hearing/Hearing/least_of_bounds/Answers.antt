@@ -13,5 +13,6 @@ loop-bound-preserved c =
     let g = c.args.self.now.admitted.now.graph in
     let tables = c.args.self.now.tables.now.nodes in
     rw (c.earlier-found.ensures, c.problem-problem.ensures.problem, c.order-order.ensures.order)
-    (first_any_more g c.args.self.now.admitted.now.order (matches c.args.column.now.cube) (λ s b. not (is_told g tables c.args.node c.args.column.now.time b s)) c.args.bounds.now c.loop-bound.bound-index _ c.loop-bound-test.true
+    (first_any_more g c.args.self.now.admitted.now.order (matches c.args.column.now.cube) (λ s b. not (is_told g tables c.args.node c.args.column.now.time b s)) c.args.bounds.now
+    c.loop-bound.bound-index _ c.loop-bound-test.true
     c.loop-bound.found c.in_ok-next.next c.loop-bound.invariant c.in_ok-next.ensures)

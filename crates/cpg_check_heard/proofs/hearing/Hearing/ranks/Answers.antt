@@ -3,7 +3,7 @@ use Rattle.std.proofs.lemmas.List.Elements.{All-push}
 use Rattle.std.proofs.lemmas.List.Sorted.{All-permutation}
 use Rattle.cpg_base.specs.Graph.{item_count}
 use Rattle.cpg_table.specs.Shape.{heard_by}
-use Rattle.cpg_check_heard.specs.declared.frames.Rank.{Rank}
+use Rattle.cpg_check_heard.specs.declared.frames.RowRank.{RowRank}
 use Rattle.cpg_check_heard.proofs.Framed.{heard_below}
 use Rattle.cpg_check_heard.proofs.hearing.Hearing.ranks.Goals as goal
 
@@ -16,10 +16,10 @@ index-teller-requires c =
 
 pub loop-item-preserved : goal.loop-item-preserved
 loop-item-preserved c =
-    let P = λ (r : Rank). Contains (heard_by c.args.self.now.admitted.now.graph c.args.node) r.item in
-    subst (All P) (sym {A = List Rank} c.in_ok-push.ensures.items) (All-push P c.loop-item.ranks.items _ c.loop-item.invariant (c.requires.items c.loop-item.item-index 0 c.loop-item-test.true))
+    let P = λ (r : RowRank). Contains (heard_by c.args.self.now.admitted.now.graph c.args.node) r.item in
+    subst (All P) (sym {A = List RowRank} c.in_ok-push.ensures.items) (All-push P c.loop-item.ranks.items _ c.loop-item.invariant (c.requires.items c.loop-item.item-index 0 c.loop-item-test.true))
 
 pub returns : goal.returns
 returns c =
-    let P = λ (r : Rank). Contains (heard_by c.args.self.now.admitted.now.graph c.args.node) r.item in
+    let P = λ (r : RowRank). Contains (heard_by c.args.self.now.admitted.now.graph c.args.node) r.item in
     All-permutation P c.loop-item.ranks.items c.sort_unstable.new.self.items c.sort_unstable.ensures.permutation c.loop-item.invariant

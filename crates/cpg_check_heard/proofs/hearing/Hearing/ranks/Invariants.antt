@@ -1,7 +1,7 @@
 use Rattle.std.proofs.Common.{All, Contains}
 use Rattle.cpg_table.specs.Shape.{heard_by}
-use Rattle.cpg_check_heard.specs.declared.frames.Rank.{Rank}
+use Rattle.cpg_check_heard.specs.declared.frames.RowRank.{RowRank}
 use Rattle.cpg_check_heard.proofs.hearing.Hearing.ranks.Given as goal
 
 abbrev pub invariant-loop-item : goal.invariant-loop-item
-invariant-loop-item l = All (λ (r : Rank). Contains (heard_by l.self.admitted.now.graph l.node) r.item) l.ranks.items
+invariant-loop-item l = All (λ (r : RowRank). Contains (heard_by l.self.admitted.now.graph l.node) r.item) l.ranks.items

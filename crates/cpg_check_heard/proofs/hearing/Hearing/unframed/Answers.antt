@@ -25,6 +25,7 @@ loop-rank-preserved c =
     record {
       known = rw c.problem-problem.ensures.problem at c.in_ok-left.ensures.known;
       untold = λ s law m. left s (λ b. not (is_told g tables c.args.node time b s)) law m
-          (λ b v told. frame_told g tables time b s few (variable_within g (variable_of b) few v) c.args.node _ (c.requires.ranks c.loop-rank.rank-index _ c.loop-rank-test.true) (sym (c.in_ok-arrivals.ensures.told b s m) ∙ told))
+          (λ b v told. frame_told g tables time b s few (variable_within g (variable_of b) few v) c.args.node _ (c.requires.ranks c.loop-rank.rank-index _ c.loop-rank-test.true)
+          (sym (c.in_ok-arrivals.ensures.told b s m) ∙ told))
           ∙ c.loop-rank.invariant.untold s law m;
     }

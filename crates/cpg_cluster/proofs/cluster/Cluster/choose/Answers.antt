@@ -10,39 +10,72 @@ pub loop-asked-init : goal.loop-asked-init
 loop-asked-init c = record { same = refl; choosing = choosing_none c.args.self.now.graph c.args.self.now.world c.args.self.now.cluster c.len-nodes.result c.args.first }
 
 count-t : (c : goal.In-Took) → c.len-nodes.result ≡ length c.args.self.now.graph.nodes
-count-t c = omega (arith, c.len-nodes.ensures, ap (λ (p : Playing). length p.graph.nodes) c.self.view_is, c.self.invariant.playing.shape.count, length-map c.self.inside.members.items (λ (m : Member). m.node.dispatcher.table))
+count-t c = omega (
+  arith,
+  c.len-nodes.ensures,
+  ap (λ (p : Playing). length p.graph.nodes) c.self.view_is,
+  c.self.invariant.playing.shape.count,
+  length-map c.self.inside.members.items (λ (m : Member). m.node.dispatcher.table),
+)
 
 pub returns-in-Took-clause-state : goal.returns-in-Took-clause-state
-returns-in-Took-clause-state c = took_state c.args.self.now c.loop-asked.self c.step.new.self c.len-nodes.result c.args.first c.loop-asked.asked c.loop-asked.waits (count-t c) c.loop-asked.invariant.same c.in-Took.ensures.step
+returns-in-Took-clause-state c = took_state c.args.self.now c.loop-asked.self c.step.new.self c.len-nodes.result c.args.first c.loop-asked.asked c.loop-asked.waits
+    (count-t c) c.loop-asked.invariant.same c.in-Took.ensures.step
     c.loop-asked.invariant.choosing c.loop-asked-test.true c.in-Took.ensures.answer
 
 pub returns-in-Took-clause-waits : goal.returns-in-Took-clause-waits
-returns-in-Took-clause-waits c = took_waits c.args.self.now c.loop-asked.self c.step.new.self c.len-nodes.result c.args.first c.loop-asked.asked c.loop-asked.waits (count-t c) c.loop-asked.invariant.same c.in-Took.ensures.step
+returns-in-Took-clause-waits c = took_waits c.args.self.now c.loop-asked.self c.step.new.self c.len-nodes.result c.args.first c.loop-asked.asked c.loop-asked.waits
+    (count-t c) c.loop-asked.invariant.same c.in-Took.ensures.step
     c.loop-asked.invariant.choosing c.loop-asked-test.true c.in-Took.ensures.answer
 
 count-j : (c : goal.Joined-step) → c.len-nodes.result ≡ length c.args.self.now.graph.nodes
-count-j c = omega (arith, c.len-nodes.ensures, ap (λ (p : Playing). length p.graph.nodes) c.self.view_is, c.self.invariant.playing.shape.count, length-map c.self.inside.members.items (λ (m : Member). m.node.dispatcher.table))
+count-j c = omega (
+  arith,
+  c.len-nodes.ensures,
+  ap (λ (p : Playing). length p.graph.nodes) c.self.view_is,
+  c.self.invariant.playing.shape.count,
+  length-map c.self.inside.members.items (λ (m : Member). m.node.dispatcher.table),
+)
 
 pub loop-asked-preserved : goal.loop-asked-preserved
 loop-asked-preserved c = elim c.match-step.branch [
   | in-Waits w ↦
-      let r = waits_more c.args.self.now c.loop-asked.self c.step.new.self c.len-nodes.result c.args.first c.loop-asked.asked c.loop-asked.waits (count-j c) c.loop-asked.invariant.same c.step.ensures.step
+      let r = waits_more c.args.self.now c.loop-asked.self c.step.new.self c.len-nodes.result c.args.first c.loop-asked.asked c.loop-asked.waits
+      (count-j c) c.loop-asked.invariant.same c.step.ensures.step
       c.loop-asked.invariant.choosing c.loop-asked-test.true w.in-Waits.on (w.in-Waits.ensures.answer) in
-      record { same = r.0; choosing = subst (λ n. IsChoosing c.args.self.now.graph c.args.self.now.world c.args.self.now.cluster c.len-nodes.result c.args.first (c.loop-asked.asked + 1) n) (sym w.waits-is) r.1 }
+      record {
+        same = r.0;
+        choosing = subst (λ n. IsChoosing c.args.self.now.graph c.args.self.now.world c.args.self.now.cluster c.len-nodes.result c.args.first (c.loop-asked.asked + 1) n)
+            (sym w.waits-is) r.1;
+      }
   | in-Done w ↦
-      let r = done_more c.args.self.now c.loop-asked.self c.step.new.self c.len-nodes.result c.args.first c.loop-asked.asked c.loop-asked.waits (count-j c) c.loop-asked.invariant.same c.step.ensures.step
+      let r = done_more c.args.self.now c.loop-asked.self c.step.new.self c.len-nodes.result c.args.first c.loop-asked.asked c.loop-asked.waits
+      (count-j c) c.loop-asked.invariant.same c.step.ensures.step
       c.loop-asked.invariant.choosing c.loop-asked-test.true (w.in-Done.ensures.answer) in
-      record { same = r.0; choosing = subst (λ n. IsChoosing c.args.self.now.graph c.args.self.now.world c.args.self.now.cluster c.len-nodes.result c.args.first (c.loop-asked.asked + 1) n) (sym w.waits-is) r.1 }
+      record {
+        same = r.0;
+        choosing = subst (λ n. IsChoosing c.args.self.now.graph c.args.self.now.world c.args.self.now.cluster c.len-nodes.result c.args.first (c.loop-asked.asked + 1) n)
+            (sym w.waits-is) r.1;
+      }
 ]
 
 count-n : (c : goal.After-loop-asked) → c.len-nodes.result ≡ length c.args.self.now.graph.nodes
-count-n c = omega (arith, c.len-nodes.ensures, ap (λ (p : Playing). length p.graph.nodes) c.self.view_is, c.self.invariant.playing.shape.count, length-map c.self.inside.members.items (λ (m : Member). m.node.dispatcher.table))
+count-n c = omega (
+  arith,
+  c.len-nodes.ensures,
+  ap (λ (p : Playing). length p.graph.nodes) c.self.view_is,
+  c.self.invariant.playing.shape.count,
+  length-map c.self.inside.members.items (λ (m : Member). m.node.dispatcher.table),
+)
 
 pub returns-clause-state : goal.returns-clause-state
-returns-clause-state c = none_state c.args.self.now c.loop-asked.self c.len-nodes.result c.args.first c.loop-asked.asked c.loop-asked.waits (count-n c) c.loop-asked.invariant.same c.loop-asked.invariant.choosing c.loop-asked-test.false
+returns-clause-state c = none_state c.args.self.now c.loop-asked.self c.len-nodes.result c.args.first c.loop-asked.asked c.loop-asked.waits
+    (count-n c) c.loop-asked.invariant.same c.loop-asked.invariant.choosing c.loop-asked-test.false
 
 pub returns-clause-waits : goal.returns-clause-waits
-returns-clause-waits c = none_waits c.args.self.now c.loop-asked.self c.len-nodes.result c.args.first c.loop-asked.asked c.loop-asked.waits (count-n c) c.loop-asked.invariant.same c.loop-asked.invariant.choosing c.loop-asked-test.false
+returns-clause-waits c = none_waits c.args.self.now c.loop-asked.self c.len-nodes.result c.args.first c.loop-asked.asked c.loop-asked.waits
+    (count-n c) c.loop-asked.invariant.same c.loop-asked.invariant.choosing c.loop-asked-test.false
 
 pub returns-clause-nearer : goal.returns-clause-nearer
-returns-clause-nearer c e = absurd (none_took c.args.self.now c.loop-asked.self c.len-nodes.result c.args.first c.loop-asked.asked c.loop-asked.waits (count-n c) c.loop-asked.invariant.same c.loop-asked.invariant.choosing c.loop-asked-test.false e)
+returns-clause-nearer c e = absurd (none_took c.args.self.now c.loop-asked.self c.len-nodes.result c.args.first c.loop-asked.asked c.loop-asked.waits
+    (count-n c) c.loop-asked.invariant.same c.loop-asked.invariant.choosing c.loop-asked-test.false e)

@@ -21,7 +21,14 @@ left : (c : goal.After-choose-waits) → list_any (λ (m : Member). is_some (nex
 left c = sym (c.loop-self-test.ensures.left ∙ ap (list_any (λ (m : Member). is_some (next m.node.dispatcher))) c.as_slice.ensures.value)
 
 count : (c : goal.After-choose-waits) → c.len-nodes.result ≡ length c.loop-self.self.graph.nodes
-count c = omega (arith, c.len-nodes.ensures, ap (λ (p : Playing). length p.graph.nodes) c.self.view_is, c.self.invariant.playing.shape.count, length-map c.self.inside.members.items (λ (m : Member). m.node.dispatcher.table), ap (λ (p : Playing). length p.graph.nodes) c.loop-self.invariant.same)
+count c = omega (
+  arith,
+  c.len-nodes.ensures,
+  ap (λ (p : Playing). length p.graph.nodes) c.self.view_is,
+  c.self.invariant.playing.shape.count,
+  length-map c.self.inside.members.items (λ (m : Member). m.node.dispatcher.table),
+  ap (λ (p : Playing). length p.graph.nodes) c.loop-self.invariant.same,
+)
 
 some : (c : goal.After-choose-waits) → 0 < c.len-nodes.result
 some c = omega (
@@ -39,7 +46,8 @@ nearer : (c : goal.After-choose-waits) → remaining c.choose-waits.new.self.clu
 nearer c =
     let n = c.self-in-loop-self.inside in
     let v = c.self-in-loop-self.invariant in
-    c.choose-waits.ensures.nearer (takes_at n.problem (record { scenario = n.scenario; lengths = n.lengths }) n.members.items c.loop-self.self c.self-in-loop-self.view_is v.playing (left c) _ (subst (λ n. (c.next_number-drawn.result / 2 ^ 33) % c.len-nodes.result < n) (count c) (mod-lt (c.next_number-drawn.result / 2 ^ 33) (some c))))
+    c.choose-waits.ensures.nearer (takes_at n.problem (record { scenario = n.scenario; lengths = n.lengths }) n.members.items c.loop-self.self c.self-in-loop-self.view_is v.playing (left c) _
+    (subst (λ n. (c.next_number-drawn.result / 2 ^ 33) % c.len-nodes.result < n) (count c) (mod-lt (c.next_number-drawn.result / 2 ^ 33) (some c))))
 
 spent : (c : goal.After-choose-waits) → c.loop-self.waits + c.choose-waits.result + 16 * remaining c.choose-waits.new.self.cluster ≤ 16 * remaining c.args.self.now.cluster
 spent c = omega (
@@ -65,8 +73,10 @@ pub loop-self-preserved : goal.loop-self-preserved
 loop-self-preserved c =
     let n = c.self-in-loop-self.inside in
     let v = c.self-in-loop-self.invariant in
-    let r = drive_step c.args.self.now c.loop-self.self c.choose-waits.new.self c.args.number c.loop-self.drawn c.loop-self.waits c.next_number-drawn.result _ c.choose-waits.result c.loop-self.invariant.same c.loop-self.invariant.driving
-    (left_at n.problem (record { scenario = n.scenario; lengths = n.lengths }) n.members.items c.loop-self.self c.self-in-loop-self.view_is v.playing (left c)) c.next_number-drawn.ensures (ap (λ n. (c.next_number-drawn.result / 2 ^ 33) % n) (count c)) c.choose-waits.ensures.state c.choose-waits.ensures.waits in
+    let r = drive_step c.args.self.now c.loop-self.self c.choose-waits.new.self c.args.number c.loop-self.drawn c.loop-self.waits c.next_number-drawn.result _ c.choose-waits.result
+    c.loop-self.invariant.same c.loop-self.invariant.driving
+    (left_at n.problem (record { scenario = n.scenario; lengths = n.lengths }) n.members.items c.loop-self.self c.self-in-loop-self.view_is v.playing (left c)) c.next_number-drawn.ensures
+    (ap (λ n. (c.next_number-drawn.result / 2 ^ 33) % n) (count c)) c.choose-waits.ensures.state c.choose-waits.ensures.waits in
     record { same = r.0; driving = r.1; spent = spent c }
 
 pub returns-clause-driven : goal.returns-clause-driven
@@ -74,7 +84,10 @@ returns-clause-driven c =
     let n = c.self-in-loop-self.inside in
     let v = c.self-in-loop-self.invariant in
     driving_done c.args.self.now.graph c.args.self.now.world c.args.number c.args.self.now.cluster c.loop-self.self.cluster c.loop-self.drawn c.loop-self.waits c.loop-self.invariant.driving
-    (subst (λ (g : Graph). AllDone g c.loop-self.self.cluster) (ap (λ (p : Playing). p.graph) c.loop-self.invariant.same) (done_at n.problem (record { scenario = n.scenario; lengths = n.lengths }) n.members.items c.loop-self.self c.self-in-loop-self.view_is v.playing (sym (c.loop-self-test.ensures.left ∙ ap (list_any (λ (m : Member). is_some (next m.node.dispatcher))) c.as_slice.ensures.value))))
+    (subst (λ (g : Graph). AllDone g c.loop-self.self.cluster) (ap (λ (p : Playing). p.graph) c.loop-self.invariant.same)
+    (done_at n.problem (record { scenario = n.scenario; lengths = n.lengths }) n.members.items c.loop-self.self c.self-in-loop-self.view_is v.playing
+    (sym (c.loop-self-test.ensures.left ∙ ap (list_any (λ (m : Member). is_some (next m.node.dispatcher))) c.as_slice.ensures.value))))
 
 pub returns-clause-whole : goal.returns-clause-whole
-returns-clause-whole c = whole_play c.args.self.now c.loop-self.self c.loop-self.invariant.same (subst IsPlaying c.self-in-loop-self.view_is c.self-in-loop-self.invariant.playing) (returns-clause-driven c).done
+returns-clause-whole c = whole_play c.args.self.now c.loop-self.self c.loop-self.invariant.same (subst IsPlaying c.self-in-loop-self.view_is c.self-in-loop-self.invariant.playing)
+    (returns-clause-driven c).done

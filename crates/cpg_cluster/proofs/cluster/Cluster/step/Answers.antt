@@ -15,7 +15,8 @@ use Rattle.cpg_cluster.specs.Driving.{remaining}
 use Rattle.cpg_cluster.proofs.Answering.{takes_at, all_at}
 use Rattle.cpg_cluster.proofs.Between.{dispatcher_is}
 use Rattle.cpg_cluster.proofs.Noted.{all_noted, hears_there}
-use Rattle.cpg_cluster.proofs.Stepping.{indexed, asked, waits_step, own_all, finish_all, ready_next, frames_fit, turn_may, acts_fit, ends_fit, reports_fit, play_then, playing_then, nearer_then, fits_then, heard_then}
+use Rattle.cpg_cluster.proofs.Stepping.{indexed, asked, waits_step, own_all, finish_all, ready_next, frames_fit, turn_may, acts_fit, ends_fit, reports_fit, play_then, playing_then, nearer_then}
+use Rattle.cpg_cluster.proofs.Stepping.{fits_then, heard_then}
 use Rattle.cpg_cluster.proofs.cluster.Cluster.step.Goals as goal
 
 pub waited_on-requires-clause-few : goal.waited_on-requires-clause-few
@@ -33,7 +34,13 @@ waited_on-requires-clause-indexed c =
 -- A node that waits.
 
 within-w : (c : goal.In-Some-waited_on) → c.args.node < length c.self.inside.members.items
-within-w c = omega (arith, c.requires, ap (λ (p : Playing). length p.graph.nodes) c.self.view_is, c.self.invariant.playing.shape.count, length-map c.self.inside.members.items (λ (m : Member). m.node.dispatcher.table))
+within-w c = omega (
+  arith,
+  c.requires,
+  ap (λ (p : Playing). length p.graph.nodes) c.self.view_is,
+  c.self.invariant.playing.shape.count,
+  length-map c.self.inside.members.items (λ (m : Member). m.node.dispatcher.table),
+)
 
 comes-w : (c : goal.In-Some-waited_on) → next c.index-member.result.now.node.dispatcher ≡ Some c.in-Some.time
 comes-w c = sym c.next.ensures.next ∙ c.in-Some.is
@@ -42,8 +49,11 @@ waits : (c : goal.In-Some-waited_on) → Waits c.in-Some-waited_on.on ≡ answer
 waits c =
     let n = c.self.inside in
     let v = c.self.invariant in
-    asked n.problem (record { scenario = n.scenario; lengths = n.lengths }) n.members.items v.playing v.members c.args.node c.index-member.result.now c.index-member.ensures (within-w c) c.in-Some.time (comes-w c) (Waits c.in-Some-waited_on.on) c.index-member.result.now
-    (sym (ap answer_if c.in-Some-waited_on.is) ∙ c.waited_on.ensures c.index-member.result.now ∙ ap (λ (ms : List Member). answer_by (filter (λ b. waits_between c.in-Some.time c.index-member.result.now b (get_or ms b c.index-member.result.now)) (numbers_below (length ms)))) c.as_slice.ensures.value)
+    asked n.problem (record { scenario = n.scenario; lengths = n.lengths }) n.members.items v.playing v.members c.args.node c.index-member.result.now c.index-member.ensures
+    (within-w c) c.in-Some.time (comes-w c) (Waits c.in-Some-waited_on.on) c.index-member.result.now
+    (sym (ap answer_if c.in-Some-waited_on.is) ∙ c.waited_on.ensures c.index-member.result.now ∙
+    ap (λ (ms : List Member). answer_by (filter (λ b. waits_between c.in-Some.time c.index-member.result.now b (get_or ms b c.index-member.result.now)) (numbers_below (length ms))))
+    c.as_slice.ensures.value)
 
 pub returns-in-Some-waited_on-clause-answer : goal.returns-in-Some-waited_on-clause-answer
 returns-in-Some-waited_on-clause-answer c = waits c ∙ ap (λ (p : Playing). answer p.graph p.cluster c.args.node) c.self.view_is
@@ -53,7 +63,8 @@ returns-in-Some-waited_on-clause-step c =
     let n = c.self.inside in
     let v = c.self.invariant in
     subst (λ (p : Playing). p ≡ stepped p c.args.node) c.self.view_is (ap (λ (d : Cluster). record (playing_of n) { cluster = d })
-    (sym (waits_step n.problem (record { scenario = n.scenario; lengths = n.lengths }) n.members.items v.playing v.members c.args.node c.index-member.result.now c.index-member.ensures (within-w c) c.in-Some.time (comes-w c) c.in-Some-waited_on.on (waits c))))
+    (sym (waits_step n.problem (record { scenario = n.scenario; lengths = n.lengths }) n.members.items v.playing v.members c.args.node c.index-member.result.now c.index-member.ensures
+    (within-w c) c.in-Some.time (comes-w c) c.in-Some-waited_on.on (waits c))))
 
 pub returns-in-Some-waited_on-clause-nearer : goal.returns-in-Some-waited_on-clause-nearer
 returns-in-Some-waited_on-clause-nearer c e = let x : Waits c.in-Some-waited_on.on ≡ Took = waits c ∙ ap (λ (p : Playing). answer p.graph p.cluster c.args.node) c.self.view_is ∙ e in cc
@@ -61,7 +72,13 @@ returns-in-Some-waited_on-clause-nearer c e = let x : Waits c.in-Some-waited_on.
 -- A node that takes its turn.
 
 within-f : (c : goal.After-gather_frames-arg-3-1) → c.args.node < length c.self.inside.members.items
-within-f c = omega (arith, c.requires, ap (λ (p : Playing). length p.graph.nodes) c.self.view_is, c.self.invariant.playing.shape.count, length-map c.self.inside.members.items (λ (m : Member). m.node.dispatcher.table))
+within-f c = omega (
+  arith,
+  c.requires,
+  ap (λ (p : Playing). length p.graph.nodes) c.self.view_is,
+  c.self.invariant.playing.shape.count,
+  length-map c.self.inside.members.items (λ (m : Member). m.node.dispatcher.table),
+)
 
 comes-f : (c : goal.After-gather_frames-arg-3-1) → next c.index-member.result.now.node.dispatcher ≡ Some c.in-Some.time
 comes-f c = sym c.next.ensures.next ∙ c.in-Some.is
@@ -85,16 +102,25 @@ gather_frames-requires-clause-room c =
     let n = c.self.inside in
     let v = c.self.invariant in
     let is : frames_by n.problem n.scenario.values c.as_slice-2.result.now c.in-Some.time c.hears.result.now c.as_slice-3.result.now
-    ≡ frames_by n.problem n.scenario.values n.members.items c.in-Some.time c.index-member.result.now.node.dispatcher.table.hears c.index-member.result.now.senders.items = (λ i. frames_by n.problem n.scenario.values (c.as_slice-2.ensures.value i) c.in-Some.time ((c.hears.ensures.hears ∙ ap (λ (t : NodeTable). t.hears) c.table.ensures) i) (c.as_slice-3.ensures.value i)) in
+    ≡ frames_by n.problem n.scenario.values n.members.items c.in-Some.time c.index-member.result.now.node.dispatcher.table.hears c.index-member.result.now.senders.items =
+    (λ i. frames_by n.problem n.scenario.values (c.as_slice-2.ensures.value i) c.in-Some.time ((c.hears.ensures.hears ∙ ap (λ (t : NodeTable). t.hears) c.table.ensures) i)
+    (c.as_slice-3.ensures.value i)) in
     omega (
       arith,
       ap (λ (l : List Frame). length l) is,
-      frames_fit n.problem (record { scenario = n.scenario; lengths = n.lengths }) n.members.items v.playing v.members c.args.node c.index-member.result.now c.index-member.ensures (within-f c) c.in-Some.time (comes-f c),
+      frames_fit n.problem (record { scenario = n.scenario; lengths = n.lengths }) n.members.items v.playing v.members c.args.node c.index-member.result.now c.index-member.ensures
+          (within-f c) c.in-Some.time (comes-f c),
       subst (λ (m : Member). length m.node.dispatcher.table.hears ≤ vec_capacity n.frames) (sym c.index-member.ensures) (v.frames c.args.node c.index-member.result.now (within-f c)),
     )
 
 within-t : (c : goal.After-as_slice-4) → c.args.node < length c.self.inside.members.items
-within-t c = omega (arith, c.requires, ap (λ (p : Playing). length p.graph.nodes) c.self.view_is, c.self.invariant.playing.shape.count, length-map c.self.inside.members.items (λ (m : Member). m.node.dispatcher.table))
+within-t c = omega (
+  arith,
+  c.requires,
+  ap (λ (p : Playing). length p.graph.nodes) c.self.view_is,
+  c.self.invariant.playing.shape.count,
+  length-map c.self.inside.members.items (λ (m : Member). m.node.dispatcher.table),
+)
 
 comes-t : (c : goal.After-as_slice-4) → next c.index-member.result.now.node.dispatcher ≡ Some c.in-Some.time
 comes-t c = sym c.next.ensures.next ∙ c.in-Some.is
@@ -109,63 +135,81 @@ took-t : (c : goal.After-as_slice-4) → Took ≡ answer c.self.inside.problem (
 took-t c =
     let n = c.self.inside in
     let v = c.self.invariant in
-    asked n.problem (record { scenario = n.scenario; lengths = n.lengths }) n.members.items v.playing v.members c.args.node c.index-member.result.now c.index-member.ensures (within-t c) c.in-Some.time (comes-t c) Took c.index-member.result.now
-    (sym (ap answer_if c.in_default-waited_on.is) ∙ c.waited_on.ensures c.index-member.result.now ∙ ap (λ (ms : List Member). answer_by (filter (λ b. waits_between c.in-Some.time c.index-member.result.now b (get_or ms b c.index-member.result.now)) (numbers_below (length ms)))) c.as_slice.ensures.value)
+    asked n.problem (record { scenario = n.scenario; lengths = n.lengths }) n.members.items v.playing v.members c.args.node c.index-member.result.now c.index-member.ensures
+    (within-t c) c.in-Some.time (comes-t c) Took c.index-member.result.now
+    (sym (ap answer_if c.in_default-waited_on.is) ∙ c.waited_on.ensures c.index-member.result.now ∙
+    ap (λ (ms : List Member). answer_by (filter (λ b. waits_between c.in-Some.time c.index-member.result.now b (get_or ms b c.index-member.result.now)) (numbers_below (length ms))))
+    c.as_slice.ensures.value)
 
-frames-t : (c : goal.After-as_slice-4) → c.as_slice-4.result.now ≡ frames_by c.self.inside.problem c.self.inside.scenario.values c.self.inside.members.items c.in-Some.time c.index_mut-member.result.now.node.dispatcher.table.hears c.index_mut-member.result.now.senders.items
+frames-t : (c : goal.After-as_slice-4) → c.as_slice-4.result.now ≡ frames_by c.self.inside.problem c.self.inside.scenario.values c.self.inside.members.items c.in-Some.time
+    c.index_mut-member.result.now.node.dispatcher.table.hears c.index_mut-member.result.now.senders.items
 frames-t c =
     let n = c.self.inside in
     let v = c.self.invariant in
     c.as_slice-4.ensures.value ∙ c.gather_frames.ensures.frames
-    ∙ (λ i. frames_by n.problem n.scenario.values (c.as_slice-2.ensures.value i) c.in-Some.time ((c.hears.ensures.hears ∙ ap (λ (t : NodeTable). t.hears) c.table.ensures) i) (c.as_slice-3.ensures.value i))
+    ∙ (λ i. frames_by n.problem n.scenario.values (c.as_slice-2.ensures.value i) c.in-Some.time ((c.hears.ensures.hears ∙ ap (λ (t : NodeTable). t.hears) c.table.ensures) i)
+    (c.as_slice-3.ensures.value i))
     ∙ ap (λ (m : Member). frames_by n.problem n.scenario.values n.members.items c.in-Some.time m.node.dispatcher.table.hears m.senders.items) (sym (same-t c))
 
 pub take_turn-requires-clause-own : goal.take_turn-requires-clause-own
 take_turn-requires-clause-own c =
     let n = c.self.inside in
     let v = c.self.invariant in
-    own_all n.problem (record { scenario = n.scenario; lengths = n.lengths }) n.members.items v.playing v.members c.args.node c.index_mut-member.result.now c.index_mut-member.ensures.value (within-t c) c.in-Some.time (mut-t c)
+    own_all n.problem (record { scenario = n.scenario; lengths = n.lengths }) n.members.items v.playing v.members c.args.node c.index_mut-member.result.now c.index_mut-member.ensures.value
+    (within-t c) c.in-Some.time (mut-t c)
 
 pub take_turn-requires-clause-finish : goal.take_turn-requires-clause-finish
 take_turn-requires-clause-finish c =
     let n = c.self.inside in
     let v = c.self.invariant in
-    finish_all n.problem (record { scenario = n.scenario; lengths = n.lengths }) n.members.items v.playing v.members c.args.node c.index_mut-member.result.now c.index_mut-member.ensures.value (within-t c) c.in-Some.time (mut-t c)
+    finish_all n.problem (record { scenario = n.scenario; lengths = n.lengths }) n.members.items v.playing v.members c.args.node c.index_mut-member.result.now c.index_mut-member.ensures.value
+    (within-t c) c.in-Some.time (mut-t c)
 
 pub take_turn-requires-clause-turn : goal.take_turn-requires-clause-turn
 take_turn-requires-clause-turn c =
     let n = c.self.inside in
     let v = c.self.invariant in
-    turn_may n.problem (record { scenario = n.scenario; lengths = n.lengths }) n.members.items v.playing v.members c.args.node c.index_mut-member.result.now c.index_mut-member.ensures.value (within-t c) c.in-Some.time (mut-t c) c.as_slice-4.result.now (frames-t c)
+    turn_may n.problem (record { scenario = n.scenario; lengths = n.lengths }) n.members.items v.playing v.members c.args.node c.index_mut-member.result.now c.index_mut-member.ensures.value
+    (within-t c) c.in-Some.time (mut-t c) c.as_slice-4.result.now (frames-t c)
 
 pub take_turn-requires-clause-next : goal.take_turn-requires-clause-next
 take_turn-requires-clause-next c =
     let n = c.self.inside in
     let v = c.self.invariant in
-    ready_next n.problem (record { scenario = n.scenario; lengths = n.lengths }) n.members.items v.playing v.members c.args.node c.index_mut-member.result.now c.index_mut-member.ensures.value (within-t c) c.in-Some.time (mut-t c)
+    ready_next n.problem (record { scenario = n.scenario; lengths = n.lengths }) n.members.items v.playing v.members c.args.node c.index_mut-member.result.now c.index_mut-member.ensures.value
+    (within-t c) c.in-Some.time (mut-t c)
 
 pub take_turn-requires-clause-reports_fit : goal.take_turn-requires-clause-reports_fit
 take_turn-requires-clause-reports_fit c =
     let n = c.self.inside in
     let v = c.self.invariant in
-    reports_fit n.problem (record { scenario = n.scenario; lengths = n.lengths }) n.members.items v.playing v.members c.args.node c.index_mut-member.result.now c.index_mut-member.ensures.value (within-t c) c.in-Some.time (mut-t c) c.as_slice-4.result.now (frames-t c) (took-t c)
+    reports_fit n.problem (record { scenario = n.scenario; lengths = n.lengths }) n.members.items v.playing v.members c.args.node c.index_mut-member.result.now c.index_mut-member.ensures.value
+    (within-t c) c.in-Some.time (mut-t c) c.as_slice-4.result.now (frames-t c) (took-t c)
 
 pub take_turn-requires-clause-ends_fit : goal.take_turn-requires-clause-ends_fit
 take_turn-requires-clause-ends_fit c =
     let n = c.self.inside in
     let v = c.self.invariant in
-    ends_fit n.problem (record { scenario = n.scenario; lengths = n.lengths }) n.members.items v.playing v.members c.args.node c.index_mut-member.result.now c.index_mut-member.ensures.value (within-t c) c.in-Some.time (mut-t c) c.as_slice-4.result.now (frames-t c) (took-t c)
+    ends_fit n.problem (record { scenario = n.scenario; lengths = n.lengths }) n.members.items v.playing v.members c.args.node c.index_mut-member.result.now c.index_mut-member.ensures.value
+    (within-t c) c.in-Some.time (mut-t c) c.as_slice-4.result.now (frames-t c) (took-t c)
 
 pub take_turn-requires-clause-acts_fit : goal.take_turn-requires-clause-acts_fit
 take_turn-requires-clause-acts_fit c =
     let n = c.self.inside in
     let v = c.self.invariant in
-    acts_fit n.problem (record { scenario = n.scenario; lengths = n.lengths }) n.members.items v.playing v.members c.args.node c.index_mut-member.result.now c.index_mut-member.ensures.value (within-t c) c.in-Some.time (mut-t c) c.as_slice-4.result.now (frames-t c) (took-t c)
+    acts_fit n.problem (record { scenario = n.scenario; lengths = n.lengths }) n.members.items v.playing v.members c.args.node c.index_mut-member.result.now c.index_mut-member.ensures.value
+    (within-t c) c.in-Some.time (mut-t c) c.as_slice-4.result.now (frames-t c) (took-t c)
 
 -- After the turn.
 
 within-a : (c : goal.After-self-1) → c.args.node < length c.self.inside.members.items
-within-a c = omega (arith, c.requires, ap (λ (p : Playing). length p.graph.nodes) c.self.view_is, c.self.invariant.playing.shape.count, length-map c.self.inside.members.items (λ (m : Member). m.node.dispatcher.table))
+within-a c = omega (
+  arith,
+  c.requires,
+  ap (λ (p : Playing). length p.graph.nodes) c.self.view_is,
+  c.self.invariant.playing.shape.count,
+  length-map c.self.inside.members.items (λ (m : Member). m.node.dispatcher.table),
+)
 
 comes-a : (c : goal.After-self-1) → next c.index-member.result.now.node.dispatcher ≡ Some c.in-Some.time
 comes-a c = sym c.next.ensures.next ∙ c.in-Some.is
@@ -180,15 +224,20 @@ took-a : (c : goal.After-self-1) → Took ≡ answer c.self.inside.problem (clus
 took-a c =
     let n = c.self.inside in
     let v = c.self.invariant in
-    asked n.problem (record { scenario = n.scenario; lengths = n.lengths }) n.members.items v.playing v.members c.args.node c.index-member.result.now c.index-member.ensures (within-a c) c.in-Some.time (comes-a c) Took c.index-member.result.now
-    (sym (ap answer_if c.in_default-waited_on.is) ∙ c.waited_on.ensures c.index-member.result.now ∙ ap (λ (ms : List Member). answer_by (filter (λ b. waits_between c.in-Some.time c.index-member.result.now b (get_or ms b c.index-member.result.now)) (numbers_below (length ms)))) c.as_slice.ensures.value)
+    asked n.problem (record { scenario = n.scenario; lengths = n.lengths }) n.members.items v.playing v.members c.args.node c.index-member.result.now c.index-member.ensures
+    (within-a c) c.in-Some.time (comes-a c) Took c.index-member.result.now
+    (sym (ap answer_if c.in_default-waited_on.is) ∙ c.waited_on.ensures c.index-member.result.now ∙
+    ap (λ (ms : List Member). answer_by (filter (λ b. waits_between c.in-Some.time c.index-member.result.now b (get_or ms b c.index-member.result.now)) (numbers_below (length ms))))
+    c.as_slice.ensures.value)
 
-frames-a : (c : goal.After-self-1) → c.as_slice-4.result.now ≡ frames_by c.self.inside.problem c.self.inside.scenario.values c.self.inside.members.items c.in-Some.time c.index_mut-member.result.now.node.dispatcher.table.hears c.index_mut-member.result.now.senders.items
+frames-a : (c : goal.After-self-1) → c.as_slice-4.result.now ≡ frames_by c.self.inside.problem c.self.inside.scenario.values c.self.inside.members.items c.in-Some.time
+    c.index_mut-member.result.now.node.dispatcher.table.hears c.index_mut-member.result.now.senders.items
 frames-a c =
     let n = c.self.inside in
     let v = c.self.invariant in
     c.as_slice-4.ensures.value ∙ c.gather_frames.ensures.frames
-    ∙ (λ i. frames_by n.problem n.scenario.values (c.as_slice-2.ensures.value i) c.in-Some.time ((c.hears.ensures.hears ∙ ap (λ (t : NodeTable). t.hears) c.table.ensures) i) (c.as_slice-3.ensures.value i))
+    ∙ (λ i. frames_by n.problem n.scenario.values (c.as_slice-2.ensures.value i) c.in-Some.time ((c.hears.ensures.hears ∙ ap (λ (t : NodeTable). t.hears) c.table.ensures) i)
+    (c.as_slice-3.ensures.value i))
     ∙ ap (λ (m : Member). frames_by n.problem n.scenario.values n.members.items c.in-Some.time m.node.dispatcher.table.hears m.senders.items) (sym (same-a c))
 
 pub invariant_of-self : goal.invariant_of-self
@@ -196,10 +245,19 @@ invariant_of-self c =
     let n = c.self.inside in
     let v = c.self.invariant in
     record {
-      playing = (playing_then n.problem (record { scenario = n.scenario; lengths = n.lengths }) n.members.items v.playing v.members c.args.node c.index_mut-member.result.now c.index_mut-member.ensures.value (within-a c) c.in-Some.time (mut-a c) c.as_slice-4.result.now (frames-a c) (took-a c) c.take_turn.new.member c.take_turn.ensures.node c.take_turn.ensures.acts c.take_turn.ensures.noted c.take_turn.ensures.ends c.take_turn.ensures.reports c.take_turn.ensures.same c.take_turn.ensures.room);
+      playing = (playing_then n.problem (record { scenario = n.scenario; lengths = n.lengths }) n.members.items v.playing v.members c.args.node c.index_mut-member.result.now
+          c.index_mut-member.ensures.value (within-a c) c.in-Some.time (mut-a c) c.as_slice-4.result.now (frames-a c)
+          (took-a c) c.take_turn.new.member c.take_turn.ensures.node c.take_turn.ensures.acts c.take_turn.ensures.noted c.take_turn.ensures.ends c.take_turn.ensures.reports c.take_turn.ensures.same
+          c.take_turn.ensures.room);
       few = omega (arith, v.few, length-set n.members.items c.args.node c.take_turn.new.member);
-      members = (fits_then n.problem (record { scenario = n.scenario; lengths = n.lengths }) n.members.items v.playing v.members c.args.node c.index_mut-member.result.now c.index_mut-member.ensures.value (within-a c) c.in-Some.time (mut-a c) c.as_slice-4.result.now (frames-a c) (took-a c) c.take_turn.new.member c.take_turn.ensures.node c.take_turn.ensures.acts c.take_turn.ensures.noted c.take_turn.ensures.ends c.take_turn.ensures.reports c.take_turn.ensures.same c.take_turn.ensures.room);
-      frames = (heard_then n.problem (record { scenario = n.scenario; lengths = n.lengths }) n.members.items v.playing v.members c.args.node c.index_mut-member.result.now c.index_mut-member.ensures.value (within-a c) c.in-Some.time (mut-a c) c.as_slice-4.result.now (frames-a c) (took-a c) c.take_turn.new.member c.take_turn.ensures.node c.take_turn.ensures.acts c.take_turn.ensures.noted c.take_turn.ensures.ends c.take_turn.ensures.reports c.take_turn.ensures.same c.take_turn.ensures.room _ (subst (λ (most : ℕ). All (λ (m : Member). length m.node.dispatcher.table.hears ≤ most) n.members.items) (sym c.gather_frames.ensures.room) v.frames));
+      members = (fits_then n.problem (record { scenario = n.scenario; lengths = n.lengths }) n.members.items v.playing v.members c.args.node c.index_mut-member.result.now
+          c.index_mut-member.ensures.value (within-a c) c.in-Some.time (mut-a c) c.as_slice-4.result.now (frames-a c)
+          (took-a c) c.take_turn.new.member c.take_turn.ensures.node c.take_turn.ensures.acts c.take_turn.ensures.noted c.take_turn.ensures.ends c.take_turn.ensures.reports c.take_turn.ensures.same
+          c.take_turn.ensures.room);
+      frames = (heard_then n.problem (record { scenario = n.scenario; lengths = n.lengths }) n.members.items v.playing v.members c.args.node c.index_mut-member.result.now
+          c.index_mut-member.ensures.value (within-a c) c.in-Some.time (mut-a c) c.as_slice-4.result.now (frames-a c)
+          (took-a c) c.take_turn.new.member c.take_turn.ensures.node c.take_turn.ensures.acts c.take_turn.ensures.noted c.take_turn.ensures.ends c.take_turn.ensures.reports c.take_turn.ensures.same
+          c.take_turn.ensures.room _ (subst (λ (most : ℕ). All (λ (m : Member). length m.node.dispatcher.table.hears ≤ most) n.members.items) (sym c.gather_frames.ensures.room) v.frames));
     }
 
 pub returns-clause-answer : goal.returns-clause-answer
@@ -209,25 +267,38 @@ pub returns-clause-step : goal.returns-clause-step
 returns-clause-step c =
     let n = c.self.inside in
     let v = c.self.invariant in
-    (play_then n.problem (record { scenario = n.scenario; lengths = n.lengths }) n.members.items v.playing v.members c.args.node c.index_mut-member.result.now c.index_mut-member.ensures.value (within-a c) c.in-Some.time (mut-a c) c.as_slice-4.result.now (frames-a c) (took-a c) c.take_turn.new.member c.take_turn.ensures.node c.take_turn.ensures.acts c.take_turn.ensures.noted c.take_turn.ensures.ends c.take_turn.ensures.reports c.take_turn.ensures.same c.take_turn.ensures.room) ∙ ap (λ (p : Playing). stepped p c.args.node) c.self.view_is
+    (play_then n.problem (record { scenario = n.scenario; lengths = n.lengths }) n.members.items v.playing v.members c.args.node c.index_mut-member.result.now c.index_mut-member.ensures.value
+    (within-a c) c.in-Some.time (mut-a c) c.as_slice-4.result.now (frames-a c) (took-a c) c.take_turn.new.member c.take_turn.ensures.node c.take_turn.ensures.acts c.take_turn.ensures.noted
+    c.take_turn.ensures.ends c.take_turn.ensures.reports c.take_turn.ensures.same c.take_turn.ensures.room) ∙ ap (λ (p : Playing). stepped p c.args.node) c.self.view_is
 
 pub returns-clause-nearer : goal.returns-clause-nearer
 returns-clause-nearer c e =
     let n = c.self.inside in
     let v = c.self.invariant in
     subst (λ (p : Playing). remaining (cluster_of (set n.members.items c.args.node c.take_turn.new.member)) < remaining p.cluster) c.self.view_is
-    (nearer_then n.problem (record { scenario = n.scenario; lengths = n.lengths }) n.members.items v.playing v.members c.args.node c.index_mut-member.result.now c.index_mut-member.ensures.value (within-a c) c.in-Some.time (mut-a c) c.as_slice-4.result.now (frames-a c) (took-a c) c.take_turn.new.member c.take_turn.ensures.node c.take_turn.ensures.acts c.take_turn.ensures.noted c.take_turn.ensures.ends c.take_turn.ensures.reports c.take_turn.ensures.same c.take_turn.ensures.room)
+    (nearer_then n.problem (record { scenario = n.scenario; lengths = n.lengths }) n.members.items v.playing v.members c.args.node c.index_mut-member.result.now c.index_mut-member.ensures.value
+    (within-a c) c.in-Some.time (mut-a c) c.as_slice-4.result.now (frames-a c) (took-a c) c.take_turn.new.member c.take_turn.ensures.node c.take_turn.ensures.acts c.take_turn.ensures.noted
+    c.take_turn.ensures.ends c.take_turn.ensures.reports c.take_turn.ensures.same c.take_turn.ensures.room)
 
 -- What the answers tell.
 
 pub returns-in-Some-waited_on-clause-least : goal.returns-in-Some-waited_on-clause-least
-returns-in-Some-waited_on-clause-least c h = waits c ∙ ap (λ (p : Playing). answer p.graph p.cluster c.args.node) c.self.view_is ∙ takes_at (playing_of c.self.inside) c.args.self.now c.self.view_is c.self.invariant.playing c.args.node c.requires h
+returns-in-Some-waited_on-clause-least c h = waits c ∙ ap (λ (p : Playing). answer p.graph p.cluster c.args.node) c.self.view_is ∙
+    takes_at (playing_of c.self.inside) c.args.self.now c.self.view_is c.self.invariant.playing c.args.node c.requires h
 
 pub returns-in_default-clause-whole : goal.returns-in_default-clause-whole
 returns-in_default-clause-whole c _ =
     let n = c.self.inside in
-    let within : c.args.node < length n.members.items = omega (arith, c.requires, ap (λ (p : Playing). length p.graph.nodes) c.self.view_is, c.self.invariant.playing.shape.count, length-map n.members.items (λ (m : Member). m.node.dispatcher.table)) in
-    let none = ap next (dispatcher_is n.members.items c.args.node c.index-member.result.now within ∙ ap (λ (m : Member). m.node.dispatcher) (sym c.index-member.ensures)) ∙ sym c.next.ensures.next ∙ c.in_default.is in
+    let within : c.args.node < length n.members.items =
+    omega (
+      arith,
+      c.requires,
+      ap (λ (p : Playing). length p.graph.nodes) c.self.view_is,
+      c.self.invariant.playing.shape.count,
+      length-map n.members.items (λ (m : Member). m.node.dispatcher.table),
+    ) in
+    let none = ap next (dispatcher_is n.members.items c.args.node c.index-member.result.now within ∙ ap (λ (m : Member). m.node.dispatcher) (sym c.index-member.ensures)) ∙ sym c.next.ensures.next ∙
+    c.in_default.is in
     all_at (playing_of n) c.args.self.now c.self.view_is c.self.invariant.playing c.args.node c.requires
     (ap (λ (p : Playing). answer p.graph p.cluster c.args.node) (sym c.self.view_is) ∙ ap (answer_at n.problem (cluster_of n.members.items) c.args.node) none)
 

@@ -14,7 +14,8 @@ use Rattle.cpg_cluster.proofs.Opening.{hears_items, play_is, playing_open, fits_
 use Rattle.cpg_cluster.proofs.cluster.Cluster.with_lengths.Goals as goal
 
 pub open_members-requires : goal.open_members-requires
-open_members-requires c = subst (λ (g : Graph). (i : ℕ) → i < length c.args.tables.nodes → HearsItems g (table_at c.args.tables.nodes i)) (sym c.problem.ensures.problem) (hears_items c.args.admitted.now.graph c.args.tables.nodes c.requires.valid)
+open_members-requires c = subst (λ (g : Graph). (i : ℕ) → i < length c.args.tables.nodes → HearsItems g (table_at c.args.tables.nodes i)) (sym c.problem.ensures.problem)
+    (hears_items c.args.admitted.now.graph c.args.tables.nodes c.requires.valid)
 
 -- the parts are those of the call
 parts : (c : goal.In_ok-lengths) → play_of c.in_ok-problem.problem (record { scenario = c.in_ok-scenario.scenario; lengths = c.in_ok-lengths.lengths }) c.in_ok-members.members.items
@@ -45,7 +46,8 @@ invariant_of-result c =
     }
 
 pub returns-clause-opened : goal.returns-clause-opened
-returns-clause-opened c = parts c ∙ play_is c.args.admitted.now.graph c.args.tables.nodes (record { scenario = c.args.scenario.now; lengths = c.args.lengths.now }) c.problem.ensures.admitted.limits (of c) c.in_ok-members.members.items (open' c)
+returns-clause-opened c = parts c ∙ play_is c.args.admitted.now.graph c.args.tables.nodes (record { scenario = c.args.scenario.now; lengths = c.args.lengths.now }) c.problem.ensures.admitted.limits
+    (of c) c.in_ok-members.members.items (open' c)
 
 pub returns-clause-correct : goal.returns-clause-correct
 returns-clause-correct c = correct_open c.args.admitted.now.graph c.args.tables.nodes c.problem.ensures.admitted.limits (of c) c.problem.ensures.admitted.well_formed c.requires.valid

@@ -46,4 +46,5 @@ returns-clause-lows c =
     let is_b : IsCube g b = record { rising = c.literals-literals.ensures.rising; known = c.requires.second } in
     let some : budget_left (is_open g.faults) asked_of_literal g.faults a ≡ Some c.in-Some.left = search rules in
     let are : AreBounds a c.of-bounds.result.low c.of-bounds.result.high = search rules in
-    lows_raised g c.faults-k.ensures.within a is_a b is_b c.of-bounds.result.low c.of-bounds.result.high are c.in-Some.left some c.raise.new.self.low (rw c.literals-literals.ensures.literals at c.raise.ensures)
+    lows_raised g c.faults-k.ensures.within a is_a b is_b c.of-bounds.result.low c.of-bounds.result.high are c.in-Some.left some c.raise.new.self.low
+    (rw c.literals-literals.ensures.literals at c.raise.ensures)

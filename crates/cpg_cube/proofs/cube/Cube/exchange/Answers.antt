@@ -16,7 +16,8 @@ invariant_of-self c =
     let written : slice_set c.as_mut_slice.result.now c.args.narrowed.place c.left-left.result ≡ slice_set xs c.args.narrowed.place c.left-left.result = rw c.as_mut_slice.ensures.value refl in
     let filled : refill (length xs) xs (slice_set c.as_mut_slice.result.now c.args.narrowed.place c.left-left.result) ≡ slice_set c.args.self.now c.args.narrowed.place c.left-left.result =
     rw written (items-with_items c.self.inside.literals _ (length-set xs c.args.narrowed.place c.left-left.result)) ∙ ap (λ ys. slice_set ys c.args.narrowed.place c.left-left.result) c.self.view_is in
-    subst IsRising (sym filled) (rising_exchanged c.args.literal c.args.self.now (subst IsRising c.self.view_is c.self.invariant) c.args.narrowed c.requires.place c.requires.on c.left-left.result c.left-left.ensures c.requires.rising)
+    subst IsRising (sym filled) (rising_exchanged c.args.literal c.args.self.now (subst IsRising c.self.view_is c.self.invariant) c.args.narrowed c.requires.place c.requires.on c.left-left.result
+    c.left-left.ensures c.requires.rising)
 
 pub returns-clause-narrowed : goal.returns-clause-narrowed
 returns-clause-narrowed c =
@@ -25,7 +26,8 @@ returns-clause-narrowed c =
     let filled : refill (length xs) xs (slice_set c.as_mut_slice.result.now c.args.narrowed.place c.left-left.result) ≡ slice_set c.args.self.now c.args.narrowed.place c.left-left.result =
     rw written (items-with_items c.self.inside.literals _ (length-set xs c.args.narrowed.place c.left-left.result)) ∙ ap (λ ys. slice_set ys c.args.narrowed.place c.left-left.result) c.self.view_is in
     let some : c.left-left.result.low ≤ c.left-left.result.high = omega (arith, c.if-left.false) in
-    some_exchanged c.args.literal c.args.self.now (subst IsRising c.self.view_is c.self.invariant) c.args.narrowed c.requires.place c.requires.on c.left-left.result c.left-left.ensures some ∙ ap Some (sym filled)
+    some_exchanged c.args.literal c.args.self.now (subst IsRising c.self.view_is c.self.invariant) c.args.narrowed c.requires.place c.requires.on c.left-left.result c.left-left.ensures some ∙
+    ap Some (sym filled)
 
 pub returns-clause-undo : goal.returns-clause-undo
 returns-clause-undo c =

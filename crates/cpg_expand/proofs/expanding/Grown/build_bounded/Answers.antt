@@ -26,10 +26,12 @@ tables_of-requires-clause-rows c =
     let frozen : List (Option ℕ) = c.args.self.trees.frozen in
     let forest : ForestState = c.args.self.trees.forest in
     let rows : List Row = c.in_ok-rows.rows.items in
-    let made : AreRowsOf g urgency forest.times rows = said_of (λ h us ts. AreRowsOf h us ts rows) g c.problem-problem.result.now urgency c.order-urgency.result.now forest.times c.into_times-times.result.items
+    let made : AreRowsOf g urgency forest.times rows = said_of (λ h us ts. AreRowsOf h us ts rows) g c.problem-problem.result.now urgency c.order-urgency.result.now forest.times
+    c.into_times-times.result.items
     c.problem-problem.ensures.problem c.order-urgency.ensures.order c.into_times-times.ensures c.in_ok-rows.ensures.rows in
     let found : AreRowsFound g urgency order frozen rows = grown_rows_found g urgency c.args.admitted.now.guards a order c.requires.topological frozen forest c.requires.grown.trees rows made in
-    let few : IfSome c.args.self.wide (λ item. DoRowsFit g rows) = subst (λ (h : Graph). IfSome c.args.self.wide (λ item. DoRowsFit h rows)) c.problem-problem.ensures.problem c.in_ok-rows.ensures.few in
+    let few : IfSome c.args.self.wide (λ item. DoRowsFit g rows) = subst (λ (h : Graph). IfSome c.args.self.wide (λ item. DoRowsFit h rows)) c.problem-problem.ensures.problem
+    c.in_ok-rows.ensures.few in
     let fits : DoRowsFit g rows = rows_fit g urgency order frozen rows a.limits admitted found c.args.self.wide c.requires.grown.wide few in
     subst (λ (h : Graph). AreWritable h rows) (sym c.problem-problem.ensures.problem) (found_rows_are_writable g urgency order frozen rows a.limits admitted found fits)
 
@@ -43,7 +45,8 @@ returns-clause-built c =
     let frozen : List (Option ℕ) = c.args.self.trees.frozen in
     let forest : ForestState = c.args.self.trees.forest in
     let rows : List Row = c.in_ok-rows.rows.items in
-    let made : AreRowsOf g urgency forest.times rows = said_of (λ h us ts. AreRowsOf h us ts rows) g c.problem-problem.result.now urgency c.order-urgency.result.now forest.times c.into_times-times.result.items
+    let made : AreRowsOf g urgency forest.times rows = said_of (λ h us ts. AreRowsOf h us ts rows) g c.problem-problem.result.now urgency c.order-urgency.result.now forest.times
+    c.into_times-times.result.items
     c.problem-problem.ensures.problem c.order-urgency.ensures.order c.into_times-times.ensures c.in_ok-rows.ensures.rows in
     found_tables_are_built g urgency order rows
     (record {
@@ -74,10 +77,12 @@ returns-clause-fit c =
     let frozen : List (Option ℕ) = c.args.self.trees.frozen in
     let forest : ForestState = c.args.self.trees.forest in
     let rows : List Row = c.in_ok-rows.rows.items in
-    let made : AreRowsOf g urgency forest.times rows = said_of (λ h us ts. AreRowsOf h us ts rows) g c.problem-problem.result.now urgency c.order-urgency.result.now forest.times c.into_times-times.result.items
+    let made : AreRowsOf g urgency forest.times rows = said_of (λ h us ts. AreRowsOf h us ts rows) g c.problem-problem.result.now urgency c.order-urgency.result.now forest.times
+    c.into_times-times.result.items
     c.problem-problem.ensures.problem c.order-urgency.ensures.order c.into_times-times.ensures c.in_ok-rows.ensures.rows in
     let found : AreRowsFound g urgency order frozen rows = grown_rows_found g urgency c.args.admitted.now.guards a order c.requires.topological frozen forest c.requires.grown.trees rows made in
-    let few : IfSome c.args.self.wide (λ item. DoRowsFit g rows) = subst (λ (h : Graph). IfSome c.args.self.wide (λ item. DoRowsFit h rows)) c.problem-problem.ensures.problem c.in_ok-rows.ensures.few in
+    let few : IfSome c.args.self.wide (λ item. DoRowsFit g rows) = subst (λ (h : Graph). IfSome c.args.self.wide (λ item. DoRowsFit h rows)) c.problem-problem.ensures.problem
+    c.in_ok-rows.ensures.few in
     tables_fit g rows c.in_ok-tables.tables made.count (rows_fit g urgency order frozen rows a.limits admitted found c.args.self.wide c.requires.grown.wide few)
     (subst (λ (h : Graph). AreTablesWith h rows c.in_ok-tables.tables) c.problem-problem.ensures.problem c.in_ok-tables.ensures)
 

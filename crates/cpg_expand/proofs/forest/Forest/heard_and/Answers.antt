@@ -17,7 +17,14 @@ returns-in_ok-both c =
     let end = c.index.result.now in
     let further = c.args.further.now in
     let both = c.in_ok-both.both in
-    let inside : ForestState = record { times = c.self.inside.times.items; ends = c.self.inside.ends.items; ready = c.self.inside.ready.items; free = c.self.inside.free.items; wide = c.self.inside.wide } in
+    let inside : ForestState = record {
+      times = c.self.inside.times.items;
+      ends = c.self.inside.ends.items;
+      ready = c.self.inside.ready.items;
+      free = c.self.inside.free.items;
+      wide =
+          c.self.inside.wide;
+    } in
     let same : end ≡ ends_of g f p = ends_read g f c.requires.forest inside c.self.view_is end p p c.index.ensures refl c.process_of-process.ensures.within in
     let of_end : IsTree g end = subst (IsTree g) (sym same) (ends_tree g f c.requires.forest p c.process_of-process.ensures.within) in
     record {
@@ -36,12 +43,20 @@ returns-in_ok-both-2 c =
     let further = c.args.further.now in
     let both = c.in_ok-both-2.both in
     let delay = c.slot_length-delay.result in
-    let inside : ForestState = record { times = c.self.inside.times.items; ends = c.self.inside.ends.items; ready = c.self.inside.ready.items; free = c.self.inside.free.items; wide = c.self.inside.wide } in
+    let inside : ForestState = record {
+      times = c.self.inside.times.items;
+      ends = c.self.inside.ends.items;
+      ready = c.self.inside.ready.items;
+      free = c.self.inside.free.items;
+      wide =
+          c.self.inside.wide;
+    } in
     let same : times ≡ times_of g f x = times_read g f c.requires.forest inside c.self.view_is times x x c.index-else-node_of-node.ensures refl c.broadcast_item-item.ensures.within in
     let of_times : IsTree g times = subst (IsTree g) (sym same) (times_tree g f c.requires.forest x c.broadcast_item-item.ensures.within) in
     record {
       tree = same_tree g times both of_times.faults c.in_ok-both-2.ensures.is.faults c.in_ok-both-2.ensures.each (c.in_ok-both-2.ensures.pass (is_variable g) of_times.known c.requires.further.known);
       both = heard_other g f c.args.node c.args.condition further both (λ e. c.if-node_of-node.false (c.node_of.ensures.node ∙ ap (node_of g) c.process_of-process.ensures.process ∙ e))
           (subst (λ y. IsLatest g.faults (later_by (slot_length g (home g y)) (times_of g f y)) further both) c.broadcast_item-item.ensures.item
-          (read_and_told g (λ n. n) delay (slot_length g (home g x)) (c.slot_length-delay.ensures ∙ ap (slot_length g) c.home.ensures.home) times (times_of g f x) same of_times further both c.requires.further c.in_ok-both-2.ensures.is));
+          (read_and_told g (λ n. n) delay (slot_length g (home g x)) (c.slot_length-delay.ensures ∙ ap (slot_length g) c.home.ensures.home) times
+          (times_of g f x) same of_times further both c.requires.further c.in_ok-both-2.ensures.is));
     }

@@ -17,7 +17,14 @@ returns-in_ok-start-in-After c =
     let end = c.index.result.now in
     let t = c.in_ok-start-in-After.start in
     let l : p < process_count g = subst (IsWait g) c.in-After.is c.requires.ready in
-    let inside : ForestState = record { times = c.self.inside.times.items; ends = c.self.inside.ends.items; ready = c.self.inside.ready.items; free = c.self.inside.free.items; wide = c.self.inside.wide } in
+    let inside : ForestState = record {
+      times = c.self.inside.times.items;
+      ends = c.self.inside.ends.items;
+      ready = c.self.inside.ready.items;
+      free = c.self.inside.free.items;
+      wide =
+          c.self.inside.wide;
+    } in
     let same : end ≡ ends_of g f p = ends_read g f c.requires.forest inside c.self.view_is end p p c.index.ensures refl l in
     let of : IsTree g end = subst (IsTree g) (sym same) (ends_tree g f c.requires.forest p l) in
     record {

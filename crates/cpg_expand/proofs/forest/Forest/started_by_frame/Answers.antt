@@ -21,15 +21,24 @@ returns-in_ok-start-in-After c =
     let start = c.in_ok-start-in-After.start in
     let delay = c.slot_length-delay.result in
     let l : p < process_count g = subst (IsWait g) c.in-After.is c.requires.ready in
-    let inside : ForestState = record { times = c.self.inside.times.items; ends = c.self.inside.ends.items; ready = c.self.inside.ready.items; free = c.self.inside.free.items; wide = c.self.inside.wide } in
+    let inside : ForestState = record {
+      times = c.self.inside.times.items;
+      ends = c.self.inside.ends.items;
+      ready = c.self.inside.ready.items;
+      free = c.self.inside.free.items;
+      wide =
+          c.self.inside.wide;
+    } in
     let same : times ≡ times_of g f x = times_read g f c.requires.forest inside c.self.view_is times x x c.index-times.ensures refl c.requires.item in
     let same_end : end ≡ ends_of g f p = ends_read g f c.requires.forest inside c.self.view_is end p p c.index.ensures refl l in
     let of_times : IsTree g times = subst (IsTree g) (sym same) (times_tree g f c.requires.forest x c.requires.item) in
     let of_end : IsTree g end = subst (IsTree g) (sym same_end) (ends_tree g f c.requires.forest p l) in
     record {
-      tree = same_tree g times start of_times.faults c.in_ok-start-in-After.ensures.is.faults c.in_ok-start-in-After.ensures.each (c.in_ok-start-in-After.ensures.pass (is_variable g) of_times.known of_end.known);
+      tree = same_tree g times start of_times.faults c.in_ok-start-in-After.ensures.is.faults c.in_ok-start-in-After.ensures.each
+          (c.in_ok-start-in-After.ensures.pass (is_variable g) of_times.known of_end.known);
       start = subst (λ (r : Ready). IsReleased g.faults (ready_by g f r) (later_by (slot_length g (home g x)) (times_of g f x)) c.args.release start) (sym c.in-After.is)
-          (ends_and_read g (λ n. Some (max n c.args.release)) delay (slot_length g (home g x)) (c.slot_length-delay.ensures ∙ ap (slot_length g) c.home.ensures.home) times (times_of g f x) same of_times end (ends_of g f p) start same_end of_end c.in_ok-start-in-After.ensures.is);
+          (ends_and_read g (λ n. Some (max n c.args.release)) delay (slot_length g (home g x)) (c.slot_length-delay.ensures ∙ ap (slot_length g) c.home.ensures.home) times
+          (times_of g f x) same of_times end (ends_of g f p) start same_end of_end c.in_ok-start-in-After.ensures.is);
     }
 
 pub returns-in_ok-start-in-At : goal.returns-in_ok-start-in-At
@@ -42,11 +51,19 @@ returns-in_ok-start-in-At c =
     let start = c.in_ok-start-in-At.start in
     let delay = c.slot_length-delay.result in
     let of : IsTree g ready = subst (IsWait g) c.in-At.is c.requires.ready in
-    let inside : ForestState = record { times = c.self.inside.times.items; ends = c.self.inside.ends.items; ready = c.self.inside.ready.items; free = c.self.inside.free.items; wide = c.self.inside.wide } in
+    let inside : ForestState = record {
+      times = c.self.inside.times.items;
+      ends = c.self.inside.ends.items;
+      ready = c.self.inside.ready.items;
+      free = c.self.inside.free.items;
+      wide =
+          c.self.inside.wide;
+    } in
     let same : times ≡ times_of g f x = times_read g f c.requires.forest inside c.self.view_is times x x c.index-times.ensures refl c.requires.item in
     let of_times : IsTree g times = subst (IsTree g) (sym same) (times_tree g f c.requires.forest x c.requires.item) in
     record {
       tree = same_tree g ready start of.faults c.in_ok-start-in-At.ensures.is.faults c.in_ok-start-in-At.ensures.each (c.in_ok-start-in-At.ensures.pass (is_variable g) of.known of_times.known);
       start = subst (λ (r : Ready). IsReleased g.faults (ready_by g f r) (later_by (slot_length g (home g x)) (times_of g f x)) c.args.release start) (sym c.in-At.is)
-          (told_and_read g (λ n. Some (max n c.args.release)) delay (slot_length g (home g x)) (c.slot_length-delay.ensures ∙ ap (slot_length g) c.home.ensures.home) times (times_of g f x) same of_times ready start of c.in_ok-start-in-At.ensures.is);
+          (told_and_read g (λ n. Some (max n c.args.release)) delay (slot_length g (home g x)) (c.slot_length-delay.ensures ∙ ap (slot_length g) c.home.ensures.home) times
+          (times_of g f x) same of_times ready start of c.in_ok-start-in-At.ensures.is);
     }

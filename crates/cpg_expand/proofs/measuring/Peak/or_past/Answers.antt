@@ -14,7 +14,8 @@ or-requires-clause-tree c =
 pub returns : goal.returns
 returns c =
     let g = c.args.problem.now in
-    let of : IsTree g c.in_ok-past.past = same_tree g c.args.end.now c.in_ok-past.past c.requires.tree.faults c.in_ok-past.ensures.is.faults c.in_ok-past.ensures.each (c.in_ok-past.ensures.pass (is_variable g) c.requires.tree.known) in
+    let of : IsTree g c.in_ok-past.past = same_tree g c.args.end.now c.in_ok-past.past c.requires.tree.faults c.in_ok-past.ensures.is.faults c.in_ok-past.ensures.each
+    (c.in_ok-past.ensures.pass (is_variable g) c.requires.tree.known) in
     record {
       tree = c.in_ok-past.past;
       of = of;

@@ -24,12 +24,16 @@ returns-then-not-is_sent c =
     let p = c.args.process in
     let values = c.args.asked.now.scenario.now.values in
     let here : get_or c.queue.result.now c.args.at 0 ≡ queued g p c.args.at = ap (λ xs. get_or xs c.args.at 0) c.queue.ensures in
-    lane_map g (HasSentTo c.args.setting.now c.args.frozen.now p (c.args.at + 1) c.args.at values) (HasSentTo c.args.setting.now c.args.frozen.now p (c.args.at + 1) (c.args.at + 1) values) c.args.self.now
-    (λ n course few s. unsent g order c.requires.setting.topological (IsDone g order p (c.args.at + 1)) c.args.frozen.now values p c.requires.process (on_graph g c.requires.setting.admitted.1.limits p c.requires.process) n few
+    lane_map g (HasSentTo c.args.setting.now c.args.frozen.now p (c.args.at + 1) c.args.at values)
+    (HasSentTo c.args.setting.now c.args.frozen.now p (c.args.at + 1) (c.args.at + 1) values) c.args.self.now
+    (λ n course few s. unsent g order c.requires.setting.topological (IsDone g order p (c.args.at + 1)) c.args.frozen.now values p c.requires.process
+    (on_graph g c.requires.setting.admitted.1.limits p c.requires.process) n few
     c.args.at c.requires.at course s (λ acts. subst (λ y. item_active g values (item_at g y) ≡ false) here (c.is_sent.ensures.unsent c.if-not-is_sent.true acts))) c.requires.lane
 
 pub loop-faults-init : goal.loop-faults-init
-loop-faults-init c = let lane = subst (IsLane c.args.setting.now.problem.now (HasSentTo c.args.setting.now c.args.frozen.now c.args.process (c.args.at + 1) c.args.at c.args.asked.now.scenario.now.values)) (sym c.self.view_is) c.requires.lane in half_first (HasSentTo c.args.setting.now c.args.frozen.now c.args.process (c.args.at + 1) c.args.at c.args.asked.now.scenario.now.values)
+loop-faults-init c = let lane = subst (IsLane c.args.setting.now.problem.now
+    (HasSentTo c.args.setting.now c.args.frozen.now c.args.process (c.args.at + 1) c.args.at c.args.asked.now.scenario.now.values)) (sym c.self.view_is) c.requires.lane in
+    half_first (HasSentTo c.args.setting.now c.args.frozen.now c.args.process (c.args.at + 1) c.args.at c.args.asked.now.scenario.now.values)
     (HasSentTo c.args.setting.now c.args.frozen.now c.args.process (c.args.at + 1) (c.args.at + 1) c.args.asked.now.scenario.now.values)
     (c.args.setting.now.problem.now.faults + 1) c.self.inside.courses.items lane.count lane.each
 
@@ -47,14 +51,16 @@ send-requires-clause-slot c =
 pub send-requires-clause-times : goal.send-requires-clause-times
 send-requires-clause-times c =
     let few : c.loop-faults.faults < c.args.setting.now.problem.now.faults + 1 = omega (arith, c.loop-faults-test.true, c.requires.lane.count, ap length c.self.view_is) in
-    let s = subst (HasSentTo c.args.setting.now c.args.frozen.now c.args.process (c.args.at + 1) c.args.at c.args.asked.now.scenario.now.values c.loop-faults.faults) (sym c.index_mut-course.ensures.value)
+    let s = subst (HasSentTo c.args.setting.now c.args.frozen.now c.args.process (c.args.at + 1) c.args.at c.args.asked.now.scenario.now.values c.loop-faults.faults)
+    (sym c.index_mut-course.ensures.value)
     (c.loop-faults.invariant.left c.loop-faults.faults c.index_mut-course.result.now (omega arith) few) in
     s.places.times
 
 pub send-requires-clause-free : goal.send-requires-clause-free
 send-requires-clause-free c =
     let few : c.loop-faults.faults < c.args.setting.now.problem.now.faults + 1 = omega (arith, c.loop-faults-test.true, c.requires.lane.count, ap length c.self.view_is) in
-    let s = subst (HasSentTo c.args.setting.now c.args.frozen.now c.args.process (c.args.at + 1) c.args.at c.args.asked.now.scenario.now.values c.loop-faults.faults) (sym c.index_mut-course.ensures.value)
+    let s = subst (HasSentTo c.args.setting.now c.args.frozen.now c.args.process (c.args.at + 1) c.args.at c.args.asked.now.scenario.now.values c.loop-faults.faults)
+    (sym c.index_mut-course.ensures.value)
     (c.loop-faults.invariant.left c.loop-faults.faults c.index_mut-course.result.now (omega arith) few) in
     s.places.free_count
 
@@ -69,7 +75,8 @@ send-requires-clause-early c =
     let s = subst (HasSentTo c.args.setting.now c.args.frozen.now p (c.args.at + 1) c.args.at values c.loop-faults.faults) (sym c.index_mut-course.ensures.value)
     (c.loop-faults.invariant.left c.loop-faults.faults c.index_mut-course.result.now (omega arith) few) in
     let sent = c.is_sent.ensures.sent c.if-not-is_sent.false in
-    (item_small g order c.requires.setting.topological c.args.frozen.now values p c.requires.process (on_graph g c.requires.setting.admitted.1.limits p c.requires.process) c.args.at c.requires.at c.loop-faults.faults few
+    (item_small g order c.requires.setting.topological c.args.frozen.now values p c.requires.process
+    (on_graph g c.requires.setting.admitted.1.limits p c.requires.process) c.args.at c.requires.at c.loop-faults.faults few
     c.index_mut-course.result.now s sent.0 (subst (λ y. item_active g values (item_at g y) ≡ true) here sent.1) c.requires.setting.admitted.1.limits c.requires.asked.long c.requires.early).0
 
 pub send-requires-clause-time : goal.send-requires-clause-time
@@ -84,7 +91,8 @@ send-requires-clause-time c =
     (c.loop-faults.invariant.left c.loop-faults.faults c.index_mut-course.result.now (omega arith) few) in
     let sent = c.is_sent.ensures.sent c.if-not-is_sent.false in
     subst (λ y. send_at g c.args.frozen.now p y c.index_mut-course.result.now < 2 ^ 59) (sym here)
-    (item_small g order c.requires.setting.topological c.args.frozen.now values p c.requires.process (on_graph g c.requires.setting.admitted.1.limits p c.requires.process) c.args.at c.requires.at c.loop-faults.faults few
+    (item_small g order c.requires.setting.topological c.args.frozen.now values p c.requires.process
+    (on_graph g c.requires.setting.admitted.1.limits p c.requires.process) c.args.at c.requires.at c.loop-faults.faults few
     c.index_mut-course.result.now s sent.0 (subst (λ y. item_active g values (item_at g y) ≡ true) here sent.1) c.requires.setting.admitted.1.limits c.requires.asked.long c.requires.early).1
 
 pub loop-faults-preserved : goal.loop-faults-preserved
@@ -101,8 +109,10 @@ loop-faults-preserved c =
     let sent = c.is_sent.ensures.sent c.if-not-is_sent.false in
     half_more (HasSentTo c.args.setting.now c.args.frozen.now p (c.args.at + 1) c.args.at values) (HasSentTo c.args.setting.now c.args.frozen.now p (c.args.at + 1) (c.args.at + 1) values)
     (g.faults + 1) c.loop-faults.faults c.loop-faults.self-inside.courses.items _ c.send.new.course c.loop-faults.invariant few
-    (subst (HasSentTo c.args.setting.now c.args.frozen.now p (c.args.at + 1) (c.args.at + 1) values c.loop-faults.faults) (sym (c.send.ensures ∙ ap (λ y. course_sent g c.args.frozen.now p y course) here))
-    (item_sent g order c.requires.setting.topological c.args.frozen.now values p c.requires.process (on_graph g c.requires.setting.admitted.1.limits p c.requires.process) c.args.at c.requires.at c.loop-faults.faults few
+    (subst (HasSentTo c.args.setting.now c.args.frozen.now p (c.args.at + 1) (c.args.at + 1) values c.loop-faults.faults)
+    (sym (c.send.ensures ∙ ap (λ y. course_sent g c.args.frozen.now p y course) here))
+    (item_sent g order c.requires.setting.topological c.args.frozen.now values p c.requires.process
+    (on_graph g c.requires.setting.admitted.1.limits p c.requires.process) c.args.at c.requires.at c.loop-faults.faults few
     course s sent.0 (subst (λ y. item_active g values (item_at g y) ≡ true) here sent.1))) refl
 
 pub returns : goal.returns

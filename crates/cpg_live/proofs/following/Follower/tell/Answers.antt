@@ -20,7 +20,8 @@ append_acts-requires g c =
 pub returns-clause-part : goal.returns-clause-part
 returns-clause-part g c =
     let lines : c.as_slice.result.now ≡ act_lines c.self.inside.head (drop c.self.inside.told c.self.inside.live.progress.acts) =
-    c.as_slice.ensures.value ∙ told_lines c.self.inside.head c.self.inside.head c.acts-acts.result.now c.self.inside.live.progress.acts c.self.inside.told c.clear.new.self.items c.append_acts.new.out.items
+    c.as_slice.ensures.value ∙ told_lines c.self.inside.head c.self.inside.head c.acts-acts.result.now c.self.inside.live.progress.acts c.self.inside.told c.clear.new.self.items
+    c.append_acts.new.out.items
     c.append_acts.ensures.bytes c.clear.ensures.items refl c.acts-acts.ensures in
     subst (λ bytes. OnErr c.write_all.result (TookPrefix (g.O.Sink.state c.args.out.now).taken (g.O.Sink.state c.write_all.new.sink).taken bytes))
     (lines ∙ ap (λ (f : Follower). act_lines f.head (drop f.told f.live.progress.acts)) c.self.view_is) c.write_all.ensures.part

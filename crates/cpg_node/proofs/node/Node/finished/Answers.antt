@@ -23,7 +23,8 @@ invariant_of-self c =
       entries = c.self.invariant.entries;
       times = c.self.invariant.times;
       instants = c.self.invariant.instants;
-      next = c.self.invariant.next ∙ sym (ap (λ (r : List (Option Running)). next (record { table = n.table; heard = n.heard.items; running = r; last = n.last })) (runs c) ∙ next_reported c.args.ended n.table n.heard.items n.running.items n.last);
+      next = c.self.invariant.next ∙ sym (ap (λ (r : List (Option Running)). next (record { table = n.table; heard = n.heard.items; running = r; last = n.last })) (runs c) ∙
+          next_reported c.args.ended n.table n.heard.items n.running.items n.last);
       room = c.self.invariant.room;
       due_room = c.self.invariant.due_room;
     }

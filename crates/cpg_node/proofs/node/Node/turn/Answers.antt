@@ -30,8 +30,10 @@ timed-8 c =
     let n = c.self.inside in
     let v = c.self.invariant in
     subst AreTimed (sym (runs-8 c)) (timed_turn (c.args.ended.now ++ c.gather_due.new.due.items) c.gather_acts.new.acts.items c.in-Some.time
-    (early_turn n.table n.heard.items n.running.items n.last c.in-Some.time n.plan.items c.as_slice-3.result.now c.deref.result.now n.plan_place c.past_entries-plan_end.result v.planned v.entries (sym v.next ∙ c.in-Some.is)
-    c.as_slice-3.ensures.value c.deref.ensures.value c.past_entries-plan_end.ensures.within c.past_entries-plan_end.ensures.before c.past_entries-plan_end.ensures.here c.as_slice-4.result.now c.gather_acts.new.acts.items c.gather_acts.ensures.acts v.early)
+    (early_turn n.table n.heard.items n.running.items n.last c.in-Some.time n.plan.items c.as_slice-3.result.now c.deref.result.now n.plan_place c.past_entries-plan_end.result v.planned v.entries
+    (sym v.next ∙ c.in-Some.is)
+    c.as_slice-3.ensures.value c.deref.ensures.value c.past_entries-plan_end.ensures.within c.past_entries-plan_end.ensures.before c.past_entries-plan_end.ensures.here c.as_slice-4.result.now
+    c.gather_acts.new.acts.items c.gather_acts.ensures.acts v.early)
     n.table.own n.running.items v.starts)
 
 pub earliest_end-end-requires-clause-starts : goal.earliest_end-end-requires-clause-starts
@@ -45,8 +47,10 @@ heard_length : (c : goal.After-self-6-1) → length (with_items c.self.inside.he
 heard_length c = ap length (with_items_is c.self.inside.heard c.hear_all.new.heard (omega arith)) ∙ omega (arith, ap length c.as_mut_slice.ensures.value)
 
 instants : (c : goal.After-self-6-1) → IsLine (λ t. t) (Some c.in-Some.time) c.self.inside.times.items c.past_times-self-inside.result
-instants c = moves_on_seen (λ t. t) c.self.inside.last c.self.inside.times.items c.as_slice-7.result.now c.self.inside.times_place c.past_times-self-inside.result c.in-Some.time c.self.invariant.instants
-    (next_is (dispatcher_of c.self.inside) c.in-Some.time (sym c.self.invariant.next ∙ c.in-Some.is)).after c.as_slice-7.ensures.value c.past_times-self-inside.ensures.within c.past_times-self-inside.ensures.before c.past_times-self-inside.ensures.here
+instants c = moves_on_seen (λ t. t) c.self.inside.last c.self.inside.times.items c.as_slice-7.result.now c.self.inside.times_place c.past_times-self-inside.result c.in-Some.time
+    c.self.invariant.instants
+    (next_is (dispatcher_of c.self.inside) c.in-Some.time (sym c.self.invariant.next ∙ c.in-Some.is)).after c.as_slice-7.ensures.value c.past_times-self-inside.ensures.within
+    c.past_times-self-inside.ensures.before c.past_times-self-inside.ensures.here
 
 -- the first of the table's times that is left
 left : (c : goal.After-self-6-1) → c.time_at-time.result ≡ slice_get c.self.inside.times.items c.past_times-self-inside.result
@@ -61,18 +65,23 @@ invariant_of-self c =
       count = ap length (runs c) ∙ length_zip (running_after (c.args.ended.now ++ c.gather_due.new.due.items) c.gather_acts.new.acts.items c.in-Some.time) n.table.own n.running.items v.count;
       mirror = heard_length c ∙ v.mirror;
       starts = subst AreTimed (sym (runs c)) (timed_turn (c.args.ended.now ++ c.gather_due.new.due.items) c.gather_acts.new.acts.items c.in-Some.time
-          (early_turn n.table n.heard.items n.running.items n.last c.in-Some.time n.plan.items c.as_slice-3.result.now c.deref.result.now n.plan_place c.past_entries-plan_end.result v.planned v.entries (sym v.next ∙ c.in-Some.is)
-          c.as_slice-3.ensures.value c.deref.ensures.value c.past_entries-plan_end.ensures.within c.past_entries-plan_end.ensures.before c.past_entries-plan_end.ensures.here c.as_slice-4.result.now c.gather_acts.new.acts.items c.gather_acts.ensures.acts v.early)
+          (early_turn n.table n.heard.items n.running.items n.last c.in-Some.time n.plan.items c.as_slice-3.result.now c.deref.result.now n.plan_place c.past_entries-plan_end.result v.planned
+          v.entries (sym v.next ∙ c.in-Some.is)
+          c.as_slice-3.ensures.value c.deref.ensures.value c.past_entries-plan_end.ensures.within c.past_entries-plan_end.ensures.before c.past_entries-plan_end.ensures.here c.as_slice-4.result.now
+          c.gather_acts.new.acts.items c.gather_acts.ensures.acts v.early)
           n.table.own n.running.items v.starts);
       planned = v.planned;
       early = v.early;
-      entries = line_moves n.table n.heard.items n.running.items n.last c.in-Some.time n.plan.items c.as_slice-3.result.now c.deref.result.now n.plan_place c.past_entries-plan_end.result v.planned v.entries (sym v.next ∙ c.in-Some.is)
+      entries = line_moves n.table n.heard.items n.running.items n.last c.in-Some.time n.plan.items c.as_slice-3.result.now c.deref.result.now n.plan_place c.past_entries-plan_end.result v.planned
+          v.entries (sym v.next ∙ c.in-Some.is)
           c.as_slice-3.ensures.value c.deref.ensures.value c.past_entries-plan_end.ensures.within c.past_entries-plan_end.ensures.before c.past_entries-plan_end.ensures.here;
       times = v.times;
       instants = instants c;
       next = c.earlier-self-inside.ensures ∙ ap₂ earlier (left c) (c.earliest_end-end.ensures
-          ∙ ap₂ (λ (os : List Own) (rs : List (Option Running)). least_of (filter (is_after (Some c.in-Some.time)) (flat_map (λ ends. ends) (zip_with possible_ends os rs)))) c.own-3.ensures.own c.as_slice-8.ensures.value)
-          ∙ sym (next_found n.table (with_items n.heard c.hear_all.new.heard).items (with_items n.running c.turn_executions.new.running).items c.in-Some.time n.times.items c.past_times-self-inside.result v.times (instants c));
+          ∙ ap₂ (λ (os : List Own) (rs : List (Option Running)). least_of (filter (is_after (Some c.in-Some.time)) (flat_map (λ ends. ends) (zip_with possible_ends os rs)))) c.own-3.ensures.own
+          c.as_slice-8.ensures.value)
+          ∙ sym (next_found n.table (with_items n.heard c.hear_all.new.heard).items (with_items n.running c.turn_executions.new.running).items c.in-Some.time n.times.items
+          c.past_times-self-inside.result v.times (instants c));
       room = omega (arith, v.room, c.gather_acts.ensures.room);
       due_room = omega (arith, v.due_room, c.gather_due.ensures.room);
     }
@@ -87,15 +96,21 @@ turned c =
     let v = c.self.invariant in
     turn_is n.table n.heard.items n.running.items n.last c.in-Some.time c.args.ended.now c.gather_due.new.due.items c.args.frames.now
     (with_items n.heard c.hear_all.new.heard).items c.gather_acts.new.acts.items (with_items n.running c.turn_executions.new.running).items
-    (c.gather_due.ensures.reports ∙ ap₂ (λ (os : List Own) (rs : List (Option Running)). flat_map (λ es. es) (zip_with (due_reports_of c.in-Some.time) os rs)) c.own.ensures.own c.as_slice.ensures.value)
+    (c.gather_due.ensures.reports ∙ ap₂ (λ (os : List Own) (rs : List (Option Running)). flat_map (λ es. es) (zip_with (due_reports_of c.in-Some.time) os rs)) c.own.ensures.own
+    c.as_slice.ensures.value)
     (with_items_is n.heard c.hear_all.new.heard (omega arith) ∙ cc)
-    (acts_are n.table n.heard.items n.running.items n.last c.in-Some.time n.plan.items c.as_slice-3.result.now c.deref.result.now n.plan_place c.past_entries-plan_end.result v.planned v.entries (sym v.next ∙ c.in-Some.is)
-    c.as_slice-3.ensures.value c.deref.ensures.value c.past_entries-plan_end.ensures.within c.past_entries-plan_end.ensures.before c.past_entries-plan_end.ensures.here (with_items n.heard c.hear_all.new.heard).items c.gather_acts.new.acts.items
-    (c.gather_acts.ensures.acts ∙ ap (λ (h : List Range). map act_of (filter (takes (n.table.sends ++ n.table.starts) h) (take (c.past_entries-plan_end.result - n.plan_place) (drop n.plan_place c.deref.result.now)))) c.as_slice-4.ensures.value))
+    (acts_are n.table n.heard.items n.running.items n.last c.in-Some.time n.plan.items c.as_slice-3.result.now c.deref.result.now n.plan_place c.past_entries-plan_end.result v.planned v.entries
+    (sym v.next ∙ c.in-Some.is)
+    c.as_slice-3.ensures.value c.deref.ensures.value c.past_entries-plan_end.ensures.within c.past_entries-plan_end.ensures.before c.past_entries-plan_end.ensures.here
+    (with_items n.heard c.hear_all.new.heard).items c.gather_acts.new.acts.items
+    (c.gather_acts.ensures.acts ∙ ap (λ (h : List Range). map act_of
+    (filter (takes (n.table.sends ++ n.table.starts) h) (take (c.past_entries-plan_end.result - n.plan_place) (drop n.plan_place c.deref.result.now)))) c.as_slice-4.ensures.value))
     (runs c)
 
 pub returns-clause-turn : goal.returns-clause-turn
-returns-clause-turn c = returned_turn c.args.self.now (dispatcher_of c.self.inside) c.self.inside.acts.items c.in-Some.time _ c.args.ended.now c.args.frames.now c.self.view_is (sym c.self.invariant.next ∙ c.in-Some.is) (turned c).0
+returns-clause-turn c = returned_turn c.args.self.now (dispatcher_of c.self.inside) c.self.inside.acts.items c.in-Some.time _ c.args.ended.now c.args.frames.now c.self.view_is
+    (sym c.self.invariant.next ∙ c.in-Some.is) (turned c).0
 
 pub returns-clause-acts : goal.returns-clause-acts
-returns-clause-acts c = returned_acts c.args.self.now (dispatcher_of c.self.inside) c.self.inside.acts.items c.in-Some.time _ c.args.ended.now c.args.frames.now c.self.view_is (sym c.self.invariant.next ∙ c.in-Some.is) (turned c).1
+returns-clause-acts c = returned_acts c.args.self.now (dispatcher_of c.self.inside) c.self.inside.acts.items c.in-Some.time _ c.args.ended.now c.args.frames.now c.self.view_is
+    (sym c.self.invariant.next ∙ c.in-Some.is) (turned c).1

@@ -9,5 +9,6 @@ returns-then-self-literal-2 c s lies = holds-from s c.args.literal.now (omega (a
     (omega (arith, c.if-self-literal-2.true, lies.high c.args.literal.now.variable (search rules)))
 
 pub returns : goal.returns
-returns c = OnTrue_from (nat_le c.most.result c.args.literal.now.high) _ (λ e s lies. holds-from s c.args.literal.now (omega (arith, c.if-self-literal.false, lies.low c.args.literal.now.variable (search rules)))
+returns c = OnTrue_from (nat_le c.most.result c.args.literal.now.high) _
+    (λ e s lies. holds-from s c.args.literal.now (omega (arith, c.if-self-literal.false, lies.low c.args.literal.now.variable (search rules)))
     (omega (arith, c.most.ensures s lies, leb-true c.most.result c.args.literal.now.high e)))

@@ -7,7 +7,16 @@ pub loop-variable-init : goal.loop-variable-init
 loop-variable-init c = record { long = search rules; done = λ v l. absurd (omega arith); rest = λ v l h. get_or-replicate 256 v 1 0 h }
 
 pub returns-clause-is : goal.returns-clause-is
-returns-clause-is c = record { long = search rules; longer = c.loop-variable.invariant.long; lows = λ v l. get_or-replicate 256 v 0 0 l; counts = λ v l. c.loop-variable.invariant.done v (search rules); values = λ v l h. c.loop-variable.invariant.rest v (search rules) h; left = refl }
+returns-clause-is c = record {
+  long = search rules;
+  longer = c.loop-variable.invariant.long;
+  lows = λ v l. get_or-replicate 256 v 0 0 l;
+  counts =
+      λ v l. c.loop-variable.invariant.done v (search rules);
+  values = λ v l h. c.loop-variable.invariant.rest v (search rules) h;
+  left = refl;
+}
 
 pub returns-clause-lies : goal.returns-clause-lies
-returns-clause-lies c s few = lies_whole c.args.k s few _ (λ v l. get_or-replicate 256 v 0 0 l) (λ v l. c.loop-variable.invariant.done v (search rules)) (λ v l h. c.loop-variable.invariant.rest v (search rules) h) refl
+returns-clause-lies c s few = lies_whole c.args.k s few _ (λ v l. get_or-replicate 256 v 0 0 l) (λ v l. c.loop-variable.invariant.done v (search rules))
+    (λ v l h. c.loop-variable.invariant.rest v (search rules) h) refl

@@ -1,0 +1,6 @@
+use Rattle.std.proofs.Common.{inr}
+use Rattle.cpg_tree.proofs.Passes.{of_true}
+use Rattle.cpg_check_quick.proofs.course.Course.is_over_from.Goals as goal
+
+pub returns : goal.returns
+returns c = of_true c.passes.result c.passes.ensures (λ all s lies. inr (all s lies))

@@ -1,0 +1,5 @@
+use Rattle.cpg_check_quick.proofs.OrderLaws.{IsInTurnTo}
+use Rattle.cpg_check_quick.proofs.course.Courses.are_in_turn.Given as goal
+
+abbrev pub invariant-loop-place : goal.invariant-loop-place
+invariant-loop-place l = IsInTurnTo l.self l.items l.place l.start

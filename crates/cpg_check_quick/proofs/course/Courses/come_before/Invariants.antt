@@ -1,0 +1,13 @@
+use Rattle.std.proofs.Common.{ℕ, ◌≡◌, List, All, take, true}
+use Rattle.cpg_base.specs.Graph.{Graph}
+use Rattle.cpg_base.specs.Scenario.{Scenario, IsScenario}
+use Rattle.cpg_cube.specs.Cube.{matches}
+use Rattle.cpg_table.specs.Table.{NodeTable}
+use Rattle.cpg_cube.specs.Column.{Column}
+use Rattle.cpg_check_quick.specs.Courses.{AreCourses}
+use Rattle.cpg_check_quick.specs.Order.{IsOverBy}
+use Rattle.cpg_check_quick.proofs.course.Courses.come_before.Given as goal
+
+abbrev pub invariant-loop-column : goal.invariant-loop-column
+invariant-loop-column l = (g : Graph) (tables : List NodeTable) (lasts : ℕ → Scenario → ℕ) (s : Scenario) → AreCourses lasts g tables l.self → IsScenario g s →
+    All (λ (c : Column). matches c.cube s ≡ true → All (λ y. IsOverBy tables (lasts y s) y c.time s) l.items) (take l.column-index l.columns)

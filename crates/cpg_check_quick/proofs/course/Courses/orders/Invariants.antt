@@ -1,0 +1,13 @@
+use Rattle.std.proofs.Common.{ℕ, List, All}
+use Rattle.cpg_base.specs.Graph.{Graph}
+use Rattle.cpg_base.specs.Scenario.{Scenario}
+use Rattle.cpg_table.specs.Table.{NodeTable}
+use Rattle.cpg_table.specs.declared.rule.Rule.{Rule}
+use Rattle.cpg_violation.specs.Violation.{Holds}
+use Rattle.cpg_check_quick.specs.Courses.{AreCourses}
+use Rattle.cpg_check_quick.specs.Order.{IsInTurn}
+use Rattle.cpg_check_quick.proofs.course.Courses.orders.Given as goal
+
+abbrev pub invariant-loop-group : goal.invariant-loop-group
+invariant-loop-group l = (g : Graph) (tables : List NodeTable) (lasts : ℕ → Scenario → ℕ) → AreCourses lasts g tables l.self → Holds g tables Rule.Present →
+    All (λ order. IsInTurn lasts g tables order.items) l.orders.items

@@ -1,0 +1,6 @@
+use Rattle.cpg_table.specs.declared.rule.Rule.{Rule}
+use Rattle.cpg_violation.proofs.SureLaws.{AreSoFar}
+use Rattle.cpg_check_quick.proofs.heard.heard_marks.Given as goal
+
+abbrev pub invariant-loop-item : goal.invariant-loop-item
+invariant-loop-item l = AreSoFar l.admitted.graph l.tables.nodes Rule.Heard l.item l.marks.items

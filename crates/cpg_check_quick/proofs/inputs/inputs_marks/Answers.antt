@@ -1,0 +1,13 @@
+use Rattle.cpg_table.specs.declared.rule.Rule.{Rule}
+use Rattle.cpg_tree.proofs.Passes.{of_true}
+use Rattle.cpg_violation.proofs.SureLaws.{one_more}
+use Rattle.cpg_check_quick.proofs.inputs.inputs_marks.Goals as goal
+
+pub loop-item-preserved : goal.loop-item-preserved
+loop-item-preserved c = rw c.in_ok-push.ensures.items
+    (one_more c.args.admitted.now.graph c.args.tables.now.nodes Rule.Inputs c.loop-item.item c.loop-item.marks.items c.in_ok-sure.sure c.loop-item.invariant
+    (of_true c.in_ok-sure.sure c.in_ok-sure.ensures (λ sure. sure c.args.tables.now.nodes
+    (record { links = rw c.problem.ensures.problem at c.in_ok-links.ensures; turns = c.requires.turns; frames = c.requires.frames }) c.requires.rules c.columns_of.ensures.columns)))
+
+pub returns : goal.returns
+returns c = c.loop-item.invariant.sure

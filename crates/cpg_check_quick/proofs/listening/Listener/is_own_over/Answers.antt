@@ -1,0 +1,12 @@
+use Rattle.std.proofs.Common.{ap, sym, ◌∙◌}
+use Rattle.cpg_base.specs.Graph.{node_of}
+use Rattle.cpg_tree.proofs.Passes.{of_true}
+use Rattle.cpg_check_quick.proofs.listening.Listener.is_own_over.Goals as goal
+
+pub returns : goal.returns
+returns c = of_true c.is_over.result c.is_over.ensures (λ over tables s turns law lies. record {
+  process = c.in-Some.process;
+  owner = rw c.problem-problem.ensures.problem at c.in-Some.ensures;
+  near = sym (c.node_of-home.ensures.node ∙ ap (λ h. node_of h c.in-Some.process) c.problem-problem.ensures.problem) ∙ c.if-home-node.false;
+  over = over tables s turns law lies;
+})

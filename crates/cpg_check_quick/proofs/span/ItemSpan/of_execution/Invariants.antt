@@ -1,0 +1,9 @@
+use Rattle.std.proofs.Common.{ℕ, ◌<◌, ◌≡◌, length, get_or, min}
+use Rattle.cpg_base.specs.Duration.{duration}
+use Rattle.cpg_check_quick.proofs.span.ItemSpan.of_execution.Given as goal
+
+abbrev pub invariant-loop-count : goal.invariant-loop-count
+invariant-loop-count l = record {
+  long : length l.lengths ≡ 9;
+  done : (n : ℕ) → n < l.count → get_or l.lengths n 0 ≡ duration l.problem l.process (min l.faults n);
+}

@@ -1,0 +1,12 @@
+use Rattle.std.proofs.Common.{◌≡◌, ◌⊎◌, List, Some, inl, inr, subst}
+use Rattle.cpg_cube.specs.declared.literal.Literal.{Literal}
+use Rattle.cpg_check_quick.specs.Speakers.{IsToldIn}
+use Rattle.cpg_check_quick.proofs.SpeakerLaws.{told_alone}
+use Rattle.cpg_check_quick.proofs.speakers.Speaker.leave.Goals as goal
+
+pub returns-in_ok-leave_by-in-Some-clause-told : goal.returns-in_ok-leave_by-in-Some-clause-told
+returns-in_ok-leave_by-in-Some-clause-told c m h = elim (c.in_ok-leave_by-in-Some.ensures.told m h) [
+  | inl kept ↦ inl kept
+  | inr told ↦ inr (told_alone c.args.self.now.columns.now c.args.places.now c.in-Some.column.now m c.in-Some.ensures
+      (subst (λ (own : List Literal). (c.args.self.now.value ≡ Some m.variable) ⊎ IsToldIn own m) c.literals.ensures.literals told))
+]

@@ -1,0 +1,7 @@
+use Rattle.std.proofs.Common.{All, take}
+use Rattle.cpg_cube.specs.Column.{column_at}
+use Rattle.cpg_check_quick.specs.Speakers.{IsToldIn}
+use Rattle.cpg_check_quick.proofs.speakers.tell_at_all.Given as goal
+
+abbrev pub invariant-loop-place : goal.invariant-loop-place
+invariant-loop-place l = All (λ i. IsToldIn (column_at l.columns i).cube l.wanted) (take l.place-index l.places)

@@ -1,0 +1,49 @@
+-- What is known of the rows of items before their columns are compared.
+use Rattle.std.specs.Prelude.{ℕ, ◌+◌, ◌≡◌, ◌≤◌, ◌<◌, ◌⊎◌, true, List, Option, All, IfSome, length, get_or}
+use Rattle.cpg_base.specs.Graph.{Graph, item_count}
+use Rattle.cpg_base.specs.declared.limits.TheConstants.{MOST_FAULTS}
+use Rattle.cpg_base.specs.Scenario.{Scenario, IsScenario, number_of}
+use Rattle.cpg_cube.specs.Column.{column_at}
+use Rattle.cpg_table.specs.Table.{NodeTable, columns_of}
+use Rattle.cpg_tree.specs.Space.{Lies}
+use Rattle.cpg_tree.specs.declared.space.Space.{Space}
+use Rattle.cpg_row_trees.specs.Trees.{IsRowTree}
+use Rattle.cpg_violation.specs.Always.{IsUnconditional}
+use Rattle.cpg_check_quick.specs.declared.span.ItemSpan.{ItemSpan}
+use Rattle.cpg_check_quick.specs.declared.course.Course.{Course}
+use Rattle.cpg_check_quick.specs.declared.course.Courses.{Courses}
+
+-- for each number that the variable has at most, the item lasts no longer than the length of that number, nor than the longest
+pub record IsSpan (g : Graph) (lasts : Scenario → ℕ) (span : ItemSpan) : Type 0 where
+  pub enough : (s : Scenario) (n : ℕ) → IsScenario g s → number_of s span.variable ≤ n → n ≤ MOST_FAULTS → lasts s ≤ get_or span.lengths n 0
+  pub longest : (s : Scenario) → IsScenario g s → lasts s ≤ span.longest
+
+-- what starts at a time is over by another, with a length of a number that the variable has at most
+pub record IsPast (span : ItemSpan) (start time : ℕ) (s : Scenario) : Type 0 where
+  pub count : ℕ
+  pub most : number_of s span.variable ≤ count
+  pub known : count ≤ MOST_FAULTS
+  pub over : start + get_or span.lengths count 0 ≤ time
+
+-- an item is over by a time: by its last column, or from that at a place, if there is one
+abbrev pub IsOverAt : Course → ℕ → Option ℕ → Scenario → Type 0
+IsOverAt course time place s = (course.last + course.span.longest ≤ time) ⊎ IfSome place (λ i. IsPast course.span (column_at course.columns.now i).time time s)
+
+-- the columns of an item, their tree, the range of their times, how long it lasts, and whether it is always active
+pub record IsCourse (g : Graph) (tables : List NodeTable) (lasts : Scenario → ℕ) (x : ℕ) (course : Course) : Type 0 where
+  pub item : x < item_count g
+  pub columns : course.columns.now ≡ columns_of tables x
+  pub tree : IfSome course.tree.now (IsRowTree g (columns_of tables x))
+  pub first : All (λ d. course.first ≤ d.time) (columns_of tables x)
+  pub last : All (λ d. d.time ≤ course.last) (columns_of tables x)
+  pub span : IsSpan g lasts course.span
+  pub always : course.is_always ≡ true → IsUnconditional g x
+
+-- all scenarios lie in a space
+pub record HasAll (g : Graph) (space : Space) : Type 0 where
+  pub lies : (s : Scenario) → IsScenario g s → Lies space s
+
+-- the courses of the first items, and a space of all scenarios
+pub record AreCourses (lasts : ℕ → Scenario → ℕ) (g : Graph) (tables : List NodeTable) (courses : Courses) : Type 0 where
+  pub everywhere : HasAll g courses.everywhere
+  pub each : (x : ℕ) (d : Course) → x < length courses.list.items → IsCourse g tables (lasts x) x (get_or courses.list.items x d)

@@ -1,0 +1,54 @@
+-- Literals of columns that nodes have heard by the columns' times.
+use Rattle.std.specs.Prelude.{ℕ, ◌≡◌, ◌<◌, ◌⊎◌, true, false, Bool, List, Contains, get_or}
+use Rattle.cpg_base.specs.Activity.{active}
+use Rattle.cpg_base.specs.Graph.{Graph, IsVariable, home, node_of, process_count, process_of_variable}
+use Rattle.cpg_base.specs.Scenario.{Scenario, IsScenario}
+use Rattle.cpg_cube.specs.Cube.{matches}
+use Rattle.cpg_cube.specs.declared.literal.Literal.{Literal}
+use Rattle.cpg_table.specs.Heard.{facts, is_heard}
+use Rattle.cpg_table.specs.Table.{NodeTable, columns_of}
+use Rattle.cpg_cube.specs.Column.{Column}
+use Rattle.cpg_table.specs.Valid.{ends_of, is_by}
+use Rattle.cpg_check_quick.specs.Order.{IsOverBy, execution}
+
+-- wherever a column matches, a node has heard a literal by its time
+abbrev pub IsHeardIn : Graph → List NodeTable → ℕ → Column → Literal → Type 0
+IsHeardIn g tables node c l = (s : Scenario) → IsScenario g s → matches c.cube s ≡ true → is_heard g.faults (facts g tables node s c.time) l ≡ true
+
+-- wherever a column matches, a node has heard each of some literals by its time that isn't among those that are left
+pub record AreLeft (g : Graph) (tables : List NodeTable) (node : ℕ) (c : Column) (wanted left : List Literal) : Type 0 where
+  pub among : (l : Literal) → Contains left l → Contains wanted l
+  pub heard : (l : Literal) → Contains wanted l → Contains left l ⊎ IsHeardIn g tables node c l
+
+-- wherever a column matches, a node has heard all its literals by its time
+abbrev pub IsAllHeard : Graph → List NodeTable → ℕ → Column → Type 0
+IsAllHeard g tables node c = (l : Literal) → Contains c.cube l → IsHeardIn g tables node c l
+
+-- the process that a variable of the graph belongs to
+pub record IsOwner (g : Graph) (v p : ℕ) : Type 0 where
+  pub within : p < process_count g
+  pub known : IsVariable g v
+  pub owner : process_of_variable g v ≡ p
+
+-- wherever a column of an item matches and a process is active, it has ended by the column's time
+abbrev pub IsEndedBy : Graph → List NodeTable → ℕ → ℕ → Type 0
+IsEndedBy g tables q x = (s : Scenario) (c : Column) → IsScenario g s → Contains (columns_of tables x) c → matches c.cube s ≡ true →
+    active g s.values q ≡ true → is_by c.time (ends_of g tables s q) ≡ true
+
+-- a variable of a process on the item's node that has always ended by the item's columns
+pub record IsOwnEnded (g : Graph) (tables : List NodeTable) (x v : ℕ) : Type 0 where
+  pub process : ℕ
+  pub owner : IsOwner g v process
+  pub near : node_of g process ≡ home g x
+  pub ended : IsEndedBy g tables process x
+
+-- all variables that are marked are such
+abbrev pub AreOwnEnded : Graph → List NodeTable → ℕ → List Bool → Type 0
+AreOwnEnded g tables x marks = (v : ℕ) → get_or marks v false ≡ true → IsOwnEnded g tables x v
+
+-- the process of a variable is on a node and over by a time
+pub record IsOwnOver (g : Graph) (tables : List NodeTable) (node v time : ℕ) (s : Scenario) : Type 0 where
+  pub process : ℕ
+  pub owner : IsOwner g v process
+  pub near : node_of g process ≡ node
+  pub over : IsOverBy tables (execution g process s) process time s

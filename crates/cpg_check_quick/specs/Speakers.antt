@@ -1,0 +1,41 @@
+-- What a node hears of others, and which literals that tells.
+use Rattle.std.specs.Prelude.{ℕ, ◌+◌, ◌≡◌, ◌≤◌, ◌<◌, ◌⊎◌, true, List, Option, None, Some, IfSome, All, Contains}
+use Rattle.cpg_base.specs.Bus.{slot_length}
+use Rattle.cpg_base.specs.Graph.{Graph, home, is_heard_by, item_at, item_count}
+use Rattle.cpg_base.specs.Scenario.{Scenario, number_of}
+use Rattle.cpg_cube.specs.declared.literal.Literal.{Literal}
+use Rattle.cpg_table.specs.Heard.{exactly, frame_value}
+use Rattle.cpg_table.specs.Table.{NodeTable, columns_of}
+use Rattle.cpg_cube.specs.Column.{Column, column_at}
+use Rattle.cpg_row_trees.specs.Trees.{IsRowTree}
+use Rattle.cpg_check_quick.specs.declared.speakers.Speaker.{Speaker}
+
+-- an item that a node hears: its columns, their tree, how long its frames take, and the variable of the value that they carry
+pub record IsSpeaker (g : Graph) (tables : List NodeTable) (node : ℕ) (speaker : Speaker) : Type 0 where
+  pub item : speaker.item < item_count g
+  pub heard : is_heard_by g node (item_at g speaker.item) ≡ true
+  pub columns : speaker.columns.now ≡ columns_of tables speaker.item
+  pub tree : IsRowTree g (columns_of tables speaker.item) speaker.tree.now
+  pub delay : speaker.delay ≡ slot_length g (home g speaker.item)
+  pub value : IfSome speaker.value (λ v. (s : Scenario) → Contains (frame_value s (item_at g speaker.item)) (exactly v (number_of s v)))
+
+-- there is a place, and the frame of its column has come by a time
+abbrev pub HasCome : List Column → ℕ → ℕ → Option ℕ → Type 0
+HasCome columns delay time None = ⊥
+HasCome columns delay time (Some i) = (column_at columns i).time + delay ≤ time
+
+-- one of these literals bounds the variable at least as closely as another
+pub record IsToldIn (literals : List Literal) (l : Literal) : Type 0 where
+  pub by : Literal
+  pub there : Contains literals by
+  pub variable : by.variable ≡ l.variable
+  pub low : l.low ≤ by.low
+  pub high : by.high ≤ l.high
+
+-- a frame carries the value that a literal speaks of, or the column at each of these places has such a literal
+abbrev pub IsTold : Option ℕ → List Column → List ℕ → Literal → Type 0
+IsTold value columns places l = (value ≡ Some l.variable) ⊎ All (λ i. IsToldIn (column_at columns i).cube l) places
+
+-- one of some literals bounds each of others at least as closely
+abbrev pub AreToldIn : List Literal → List Literal → Type 0
+AreToldIn literals wanted = (l : Literal) → Contains wanted l → IsToldIn literals l

@@ -1,0 +1,196 @@
+//! Items of one node of which one is always over before the other begins, whichever of them.
+ghost use Rattle.std.specs.Prelude.{◌≡◌, ◌⊎◌, ℕ, All, Contains, IfOk, IfSome, List, true};
+ghost use Rattle.std.specs.Bool.{OnTrue};
+ghost use Rattle.cpg_base.specs.Graph.{Graph};
+ghost use Rattle.cpg_base.specs.Scenario.{Scenario, IsScenario};
+ghost use Rattle.cpg_cube.specs.Cube.{matches};
+ghost use Rattle.cpg_table.specs.Table.{NodeTable};
+ghost use Rattle.cpg_tree.specs.Space.{Lies};
+ghost use Rattle.cpg_cube.specs.Column.{column_at};
+ghost use Rattle.cpg_check_quick.specs.Courses.{AreCourses, IsCourse, IsPast};
+ghost use Rattle.cpg_check_quick.specs.Order.{IsApart, IsApartAt};
+ghost use Rattle.cpg_check_quick.specs.Turns.{AreTurns};
+
+use crate::course::{Course, Courses};
+use crate::span::ItemSpan;
+use crate::turns::Turns;
+use cpg_base::OutOfMemory;
+use cpg_cube::Entry;
+use cpg_row_trees::Test;
+use cpg_tree::Space;
+use std::alloc::Global;
+
+/// That what lasts so long is over by a time, from the column at each place, or what is at that time by the column's.
+#[derive(Drop)]
+struct TimeParts<'a> {
+    columns: &'a [Entry],
+    span: ItemSpan,
+    other: ItemSpan,
+    time: u64,
+}
+
+impl<'a> Test for TimeParts<'a> {
+    ghost tells = { λ test place s. IfSome place (λ i. IsPast test.span (column_at test.columns.now i).time test.time s ⊎
+        IsPast test.other test.time (column_at test.columns.now i).time s) };
+
+    fn passes(&self, place: Option<u32>, space: &Space) -> bool {
+        let Some(place) = place else {
+            return true;
+        };
+        let Some(column) = self.columns.get(place as usize) else {
+            return false;
+        };
+        if self.span.is_past(column.time, self.time, space) {
+            return true;
+        }
+        self.other.is_past(self.time, column.time, space)
+    }
+}
+
+impl<'a> Course<'a> {
+    /// Whether all columns are so early or so late that the item and another, which is at a time, are apart.
+    fn is_clear(&self, other: &Course<'_>, time: u64) -> bool
+        ensures { OnTrue result ((g : Graph) (tables : List NodeTable) (lasts : ℕ → Scenario → ℕ) (y x : ℕ) (s : Scenario) →
+            IsCourse g tables (lasts y) y self.now → IsCourse g tables (lasts x) x other.now → IsScenario g s →
+            IsApartAt tables (lasts y s) y (lasts x s) time s) }
+    {
+        if self.is_early(time) {
+            return true;
+        }
+        if self.first < time {
+            return false;
+        }
+        other.span.longest <= self.first - time
+    }
+
+    /// Whether the item and another, which is at a time, are apart in the scenarios of a space.
+    fn is_apart(&self, other: &Course<'_>, space: &Space, time: u64) -> bool
+        ensures { OnTrue result ((g : Graph) (tables : List NodeTable) (lasts : ℕ → Scenario → ℕ) (y x : ℕ) (s : Scenario) →
+            IsCourse g tables (lasts y) y self.now → IsCourse g tables (lasts x) x other.now → IsScenario g s → Lies space.now s →
+            IsApartAt tables (lasts y s) y (lasts x s) time s) }
+    {
+        if self.is_clear(other, time) {
+            return true;
+        }
+        let Some(tree) = self.tree else {
+            return false;
+        };
+        let test = TimeParts {
+            columns: self.columns,
+            span: self.span,
+            other: other.span,
+            time,
+        };
+        tree.do_pass(space, &test)
+    }
+}
+
+impl<'a> Courses<'a> {
+    /// Whether all columns of each of these items are so early or so late that it and another, which is at a time, are
+    /// apart.
+    fn are_clear(&self, items: &[u32], other: &Course<'_>, time: u64) -> bool
+        ensures { OnTrue result ((g : Graph) (tables : List NodeTable) (lasts : ℕ → Scenario → ℕ) (x : ℕ) (s : Scenario) →
+            AreCourses lasts g tables self.now → IsCourse g tables (lasts x) x other.now → IsScenario g s →
+            All (λ y. IsApartAt tables (lasts y s) y (lasts x s) time s) items.now) }
+    {
+        for item in items {
+            let Some(course) = self.list.get(*item as usize) else {
+                return false;
+            };
+            if !course.is_clear(other, time) {
+                return false;
+            }
+        }
+        true
+    }
+
+    /// Whether each of these items and another, which is at a time, are apart in the scenarios of a space.
+    fn are_apart_in(&self, items: &[u32], other: &Course<'_>, space: &Space, time: u64) -> bool
+        ensures { OnTrue result ((g : Graph) (tables : List NodeTable) (lasts : ℕ → Scenario → ℕ) (x : ℕ) (s : Scenario) →
+            AreCourses lasts g tables self.now → IsCourse g tables (lasts x) x other.now → IsScenario g s → Lies space.now s →
+            All (λ y. IsApartAt tables (lasts y s) y (lasts x s) time s) items.now) }
+    {
+        for item in items {
+            let Some(course) = self.list.get(*item as usize) else {
+                return false;
+            };
+            if !course.is_apart(other, space, time) {
+                return false;
+            }
+        }
+        true
+    }
+
+    /// Whether each of these items and another at one of its columns are apart, wherever that matches.
+    fn are_apart_at(&self, items: &[u32], other: &Course<'_>, column: &Entry) -> bool
+        ensures { OnTrue result ((g : Graph) (tables : List NodeTable) (lasts : ℕ → Scenario → ℕ) (x : ℕ) (s : Scenario) →
+            AreCourses lasts g tables self.now → IsCourse g tables (lasts x) x other.now → IsScenario g s →
+            matches column.now.cube s ≡ true → All (λ y. IsApartAt tables (lasts y s) y (lasts x s) column.now.time s) items.now) }
+    {
+        if self.are_clear(items, other, column.time) {
+            return true;
+        }
+        let mut space = self.everywhere;
+        if !space.narrow_to(column.cube.literals()) {
+            return true;
+        }
+        self.are_apart_in(items, other, &space, column.time)
+    }
+
+    /// Whether each of these items and another are apart wherever a column of each matches.
+    fn are_apart(&self, items: &[u32], other: &Course<'_>) -> bool
+        ensures { OnTrue result ((g : Graph) (tables : List NodeTable) (lasts : ℕ → Scenario → ℕ) (x : ℕ) →
+            AreCourses lasts g tables self.now → IsCourse g tables (lasts x) x other.now → All (λ y. IsApart lasts g tables y x) items.now) }
+    {
+        for column in other.columns {
+            if !self.are_apart_at(items, other, column) {
+                return false;
+            }
+        }
+        true
+    }
+}
+
+impl<'a> Turns<'a> {
+    /// Those of these items of a node of which it isn't known by the order whether they are apart from another.
+    fn untold(
+        &self,
+        alloc: Global,
+        node: u32,
+        items: &[u32],
+        other: u32,
+    ) -> Result<Vec<u32>, OutOfMemory>
+        ensures { IfOk result (λ left. (g : Graph) (tables : List NodeTable) (lasts : ℕ → Scenario → ℕ) → AreTurns lasts g tables self.now →
+            All (λ y. Contains left.items y ⊎ IsApart lasts g tables y other) items.now) }
+    {
+        let mut left = Vec::new(alloc);
+        for item in items {
+            if self.is_before(node, *item, other) {
+                continue;
+            }
+            if self.is_before(node, other, *item) {
+                continue;
+            }
+            left.push(*item)?;
+        }
+        Ok(left)
+    }
+
+    /// Whether each of these items of a node and another are apart wherever a column of each matches.
+    pub(crate) fn are_apart(
+        &self,
+        alloc: Global,
+        node: u32,
+        items: &[u32],
+        other: u32,
+    ) -> Result<bool, OutOfMemory>
+        ensures { IfOk result (λ r. OnTrue r ((g : Graph) (tables : List NodeTable) (lasts : ℕ → Scenario → ℕ) →
+            AreTurns lasts g tables self.now → All (λ y. IsApart lasts g tables y other) items.now)) }
+    {
+        let left = self.untold(alloc, node, items, other)?;
+        match self.courses.list.get(other as usize) {
+            Some(course) => Ok(self.courses.are_apart(left.as_slice(), course)),
+            None => Ok(false),
+        }
+    }
+}

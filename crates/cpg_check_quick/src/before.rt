@@ -1,0 +1,222 @@
+//! What is always over before something else begins.
+ghost use Rattle.std.specs.Prelude.{◌≡◌, ◌<◌, ℕ, All, IfSome, List, Some, true};
+ghost use Rattle.std.specs.Bool.{OnTrue};
+ghost use Rattle.cpg_base.specs.Graph.{Graph};
+ghost use Rattle.cpg_base.specs.Scenario.{Scenario, IsScenario};
+ghost use Rattle.cpg_cube.specs.Cube.{matches};
+ghost use Rattle.cpg_table.specs.Table.{NodeTable, columns_of};
+ghost use Rattle.cpg_tree.specs.Space.{Lies};
+ghost use Rattle.cpg_cube.specs.Column.{column_at};
+ghost use Rattle.cpg_check_quick.specs.Courses.{AreCourses, HasAll, IsCourse, IsOverAt, IsPast};
+ghost use Rattle.cpg_check_quick.specs.Order.{IsOver, IsOverBy};
+
+use crate::course::{Course, Courses};
+use crate::span::ItemSpan;
+use crate::speakers::has_come;
+use cpg_cube::Entry;
+use cpg_row_trees::{PairTest, Places, Test};
+use cpg_tree::Space;
+
+/// That what lasts so long is over by a time, from the column at each place.
+#[derive(Drop)]
+struct Ends<'a> {
+    columns: &'a [Entry],
+    span: ItemSpan,
+    time: u64,
+}
+
+impl<'a> Test for Ends<'a> {
+    ghost tells = { λ test place s. IfSome place (λ i. IsPast test.span (column_at test.columns.now i).time test.time s) };
+
+    fn passes(&self, place: Option<u32>, space: &Space) -> bool {
+        let Some(place) = place else {
+            return true;
+        };
+        let Some(column) = self.columns.get(place as usize) else {
+            return false;
+        };
+        self.span.is_past(column.time, self.time, space)
+    }
+}
+
+/// That an item is over by the time of another's column, from the columns at a place of each.
+#[derive(Drop)]
+struct Before<'a> {
+    course: &'a Course<'a>,
+    columns: &'a [Entry],
+}
+
+impl<'a> PairTest for Before<'a> {
+    ghost tells = { λ test place own s. IfSome place (λ i. IsOverAt test.course.now (column_at test.columns.now i).time own s) };
+
+    fn passes_with_any(&self, first: Option<u32>) -> bool {
+        let Some(place) = first else {
+            return true;
+        };
+        let Some(column) = self.columns.get(place as usize) else {
+            return false;
+        };
+        has_come(self.course.last, self.course.span.longest, column.time)
+    }
+
+    fn passes(&self, first: Option<u32>, second: Option<u32>, space: &Space) -> bool {
+        let Some(place) = first else {
+            return true;
+        };
+        let Some(column) = self.columns.get(place as usize) else {
+            return false;
+        };
+        self.course.is_over_from(second, space, column.time)
+    }
+}
+
+impl<'a> Course<'a> {
+    /// Whether the item is over by a time in every scenario, by its last column.
+    pub(crate) fn is_early(&self, time: u64) -> bool
+        ensures { OnTrue result ((g : Graph) (tables : List NodeTable) (lasts : Scenario → ℕ) (x : ℕ) (s : Scenario) →
+            IsCourse g tables lasts x self.now → IsScenario g s → IsOverBy tables (lasts s) x time s) }
+    {
+        has_come(self.last, self.span.longest, time)
+    }
+
+    /// Whether the item is over by a time in the scenarios of a space, from its column at a place.
+    fn is_over_from(&self, place: Option<u32>, space: &Space, time: u64) -> bool
+        ensures { OnTrue result ((s : Scenario) → Lies space.now s → IsOverAt self.now time place s) }
+    {
+        let test = Ends {
+            columns: self.columns,
+            span: self.span,
+            time,
+        };
+        test.passes(place, space)
+    }
+
+    /// Whether the item is over before another that has a tree: a walk down it and the own tree has the scenarios of each two
+    /// columns.
+    fn ends_before(&self, everywhere: &Space, other: &Course<'_>, tree: &Places) -> bool
+        ensures { OnTrue result ((g : Graph) (tables : List NodeTable) (lasts : ℕ → Scenario → ℕ) (y x : ℕ) → HasAll g everywhere.now →
+            IsCourse g tables (lasts y) y self.now → IsCourse g tables (lasts x) x other.now → other.now.tree.now ≡ Some tree.now → IsOver lasts g tables y x) }
+    {
+        if has_come(self.last, self.span.longest, other.first) {
+            return true;
+        }
+        let Some(own) = self.tree else {
+            return false;
+        };
+        let test = Before {
+            course: self,
+            columns: other.columns,
+        };
+        tree.do_pass_with(own, everywhere, &test)
+    }
+
+    /// Whether the item is over by a time in the scenarios of a space, by the columns that match there.
+    pub(crate) fn is_over(&self, space: &Space, time: u64) -> bool
+        ensures { OnTrue result ((g : Graph) (tables : List NodeTable) (lasts : Scenario → ℕ) (x : ℕ) (s : Scenario) →
+            IsCourse g tables lasts x self.now → IsScenario g s → Lies space.now s → IsOverBy tables (lasts s) x time s) }
+    {
+        if self.is_early(time) {
+            return true;
+        }
+        let Some(tree) = self.tree else {
+            return false;
+        };
+        let test = Ends {
+            columns: self.columns,
+            span: self.span,
+            time,
+        };
+        tree.do_pass(space, &test)
+    }
+}
+
+impl<'a> Courses<'a> {
+    /// Whether each of these items is over by a time in every scenario, by its last column.
+    fn are_early(&self, items: &[u32], time: u64) -> bool
+        ensures { OnTrue result ((g : Graph) (tables : List NodeTable) (lasts : ℕ → Scenario → ℕ) (s : Scenario) →
+            AreCourses lasts g tables self.now → IsScenario g s → All (λ y. IsOverBy tables (lasts y s) y time s) items.now) }
+    {
+        for item in items {
+            let Some(course) = self.list.get(*item as usize) else {
+                return false;
+            };
+            if !course.is_early(time) {
+                return false;
+            }
+        }
+        true
+    }
+
+    /// Whether each of these items is over by a time in the scenarios of a space, by the columns that match there.
+    fn are_over(&self, items: &[u32], space: &Space, time: u64) -> bool
+        ensures { OnTrue result ((g : Graph) (tables : List NodeTable) (lasts : ℕ → Scenario → ℕ) (s : Scenario) →
+            AreCourses lasts g tables self.now → IsScenario g s → Lies space.now s → All (λ y. IsOverBy tables (lasts y s) y time s) items.now) }
+    {
+        for item in items {
+            let Some(course) = self.list.get(*item as usize) else {
+                return false;
+            };
+            if !course.is_over(space, time) {
+                return false;
+            }
+        }
+        true
+    }
+
+    /// Whether each of these items is over by the time of a column, wherever that matches.
+    pub(crate) fn are_over_at(&self, items: &[u32], column: &Entry) -> bool
+        ensures { OnTrue result ((g : Graph) (tables : List NodeTable) (lasts : ℕ → Scenario → ℕ) (s : Scenario) →
+            AreCourses lasts g tables self.now → IsScenario g s → matches column.now.cube s ≡ true →
+            All (λ y. IsOverBy tables (lasts y s) y column.now.time s) items.now) }
+    {
+        if self.are_early(items, column.time) {
+            return true;
+        }
+        let mut space = self.everywhere;
+        if !space.narrow_to(column.cube.literals()) {
+            return true;
+        }
+        self.are_over(items, &space, column.time)
+    }
+
+    /// Whether each of these items is over before another, which has these columns: wherever a column of each matches.
+    pub(crate) fn come_before(&self, items: &[u32], columns: &[Entry]) -> bool
+        ensures { OnTrue result ((g : Graph) (tables : List NodeTable) (lasts : ℕ → Scenario → ℕ) (x : ℕ) →
+            AreCourses lasts g tables self.now → columns.now ≡ columns_of tables x → All (λ y. IsOver lasts g tables y x) items.now) }
+    {
+        for column in columns {
+            if !self.are_over_at(items, column) {
+                return false;
+            }
+        }
+        true
+    }
+
+    /// Whether each of these items is over before another, which has a tree: wherever a column of each matches.
+    fn end_before(&self, items: &[u32], course: &Course<'_>, tree: &Places) -> bool
+        ensures { OnTrue result ((g : Graph) (tables : List NodeTable) (lasts : ℕ → Scenario → ℕ) (x : ℕ) → AreCourses lasts g tables self.now →
+            IsCourse g tables (lasts x) x course.now → course.now.tree.now ≡ Some tree.now → All (λ y. IsOver lasts g tables y x) items.now) }
+    {
+        for item in items {
+            let Some(one) = self.list.get(*item as usize) else {
+                return false;
+            };
+            if !one.ends_before(&self.everywhere, course, tree) {
+                return false;
+            }
+        }
+        true
+    }
+
+    /// Whether each of these items is over before another, by the other's tree, if it has one: wherever a column of
+    /// each matches.
+    pub(crate) fn precede(&self, items: &[u32], course: &Course<'_>) -> bool
+        ensures { OnTrue result ((g : Graph) (tables : List NodeTable) (lasts : ℕ → Scenario → ℕ) (x : ℕ) →
+            AreCourses lasts g tables self.now → IsCourse g tables (lasts x) x course.now → All (λ y. IsOver lasts g tables y x) items.now) }
+    {
+        let Some(tree) = course.tree else {
+            return self.come_before(items, course.columns);
+        };
+        self.end_before(items, course, tree)
+    }
+}

@@ -1,0 +1,70 @@
+//! What a node has to hear of literals: lows and highs, which different items may tell it.
+ghost use Rattle.std.specs.Prelude.{◌≡◌, ◌++◌, if◌then◌else◌, IfOk, [], flat_map};
+ghost use Rattle.cpg_check_quick.specs.Bounds.{bounds_of, high_of, low_of, unknown_bounds};
+
+use cpg_base::{OutOfMemory, top};
+use cpg_cube::{Literal, VARIABLES};
+
+/// Adds the low of a literal, if it isn't 0.
+fn push_low(k: u8, literal: &Literal, bounds: &mut Vec<Literal>) -> Result<(), OutOfMemory>
+    ensures { IfOk result (λ _. bounds.new.items ≡ bounds.old.items ++ low_of k literal.now) }
+{
+    if literal.low == 0 {
+        return Ok(());
+    }
+    bounds.push(Literal {
+        variable: literal.variable,
+        low: literal.low,
+        high: literal.high.max(top(k, literal.variable)),
+    })?;
+    Ok(())
+}
+
+/// Adds its high, if the variable may be above it.
+fn push_high(k: u8, literal: &Literal, bounds: &mut Vec<Literal>) -> Result<(), OutOfMemory>
+    ensures { IfOk result (λ _. bounds.new.items ≡ bounds.old.items ++ high_of k literal.now) }
+{
+    if top(k, literal.variable) <= literal.high {
+        return Ok(());
+    }
+    bounds.push(Literal {
+        variable: literal.variable,
+        low: 0,
+        high: literal.high,
+    })?;
+    Ok(())
+}
+
+/// Adds both, unless a node knows the literal.
+fn push_unknown(
+    k: u8,
+    is_known: bool,
+    literal: &Literal,
+    bounds: &mut Vec<Literal>,
+) -> Result<(), OutOfMemory>
+    ensures { IfOk result (λ _. bounds.new.items ≡ bounds.old.items ++ (if is_known then [] else bounds_of k literal.now)) }
+{
+    if is_known {
+        return Ok(());
+    }
+    push_low(k, literal, bounds)?;
+    push_high(k, literal, bounds)?;
+    Ok(())
+}
+
+/// Lists the bounds of the literals on variables that aren't marked, in scenarios of at most `k` faults, in place of what the
+/// list held.
+pub(crate) fn list_unknown(
+    k: u8,
+    known: &[bool; VARIABLES],
+    literals: &[Literal],
+    bounds: &mut Vec<Literal>,
+) -> Result<(), OutOfMemory>
+    ensures { IfOk result (λ _. bounds.new.items ≡ flat_map (unknown_bounds k known.now) literals.now) }
+{
+    bounds.clear();
+    for literal in literals {
+        push_unknown(k, known[literal.variable as usize], literal, bounds)?;
+    }
+    Ok(())
+}

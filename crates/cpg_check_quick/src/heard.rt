@@ -1,0 +1,184 @@
+//! V4: each literal of a column that matches is heard at its node by its time.
+ghost use Rattle.std.specs.Prelude.{◌≡◌, ◌<◌, IfOk, List, true};
+ghost use Rattle.std.specs.Bool.{OnTrue};
+ghost use Rattle.cpg_base.specs.Graph.{item_count};
+ghost use Rattle.cpg_table.specs.Table.{NodeTable, columns_of};
+ghost use Rattle.cpg_table.specs.declared.rule.Rule.{Rule};
+ghost use Rattle.cpg_violation.specs.Sure.{AreSure, IsSure};
+ghost use Rattle.cpg_violation.specs.Violation.{AllHold, row_rules};
+ghost use Rattle.cpg_check_quick.specs.Courses.{AreCourses};
+ghost use Rattle.cpg_check_quick.specs.Order.{execution, frame};
+ghost use Rattle.cpg_check_quick.specs.Turns.{AreTurns};
+
+use crate::course::Courses;
+use crate::listening::{Listener, are_all_known, own_ended};
+use crate::speakers::speakers;
+use crate::turns::Turns;
+use cpg_base::{Item, OutOfMemory, Problem};
+use cpg_cube::Entry;
+use cpg_rules::Admitted;
+use cpg_table::Tables;
+use cpg_violation::is_marked;
+use std::alloc::Global;
+use std::cmp::Reverse;
+
+/// An item by the number of literals of its longest column.
+#[derive(Clone, Copy, PartialEq, Eq, PartialOrd, Ord)]
+struct LengthRank {
+    literals: Reverse<usize>,
+    item: u32,
+}
+
+/// The number of literals of the longest column.
+fn longest(columns: &[Entry]) -> usize {
+    let mut most = 0;
+    for column in columns {
+        most = column.cube.literals().len().max(most);
+    }
+    most
+}
+
+/// All items, those with the longest columns first: one that tells much tells mostly all.
+fn longest_first(
+    alloc: Global,
+    problem: &Problem,
+    frames: &Courses<'_>,
+) -> Result<Vec<u32>, OutOfMemory> {
+    let mut ranks = Vec::new(alloc);
+    ranks.reserve(frames.list.len())?;
+    for item in 0..problem.item_count() {
+        if let Some(course) = frames.list.get(item as usize) {
+            let literals = Reverse(longest(course.columns));
+            ranks.push(LengthRank { literals, item })?;
+        }
+    }
+    ranks.sort_unstable();
+    let mut items = Vec::new(alloc);
+    items.reserve(ranks.len())?;
+    for rank in ranks.as_slice() {
+        items.push(rank.item)?;
+    }
+    Ok(items)
+}
+
+/// Whether an item is a message to a process.
+fn is_input(problem: &Problem, process: u32, item: u32) -> bool {
+    if item >= problem.item_count() {
+        return false;
+    }
+    match problem.item(item) {
+        Item::Message(edge) => problem.target(edge) == process,
+        Item::Start(_) | Item::Broadcast(_) => false,
+    }
+}
+
+/// Adds the items that are messages to a process, or those that aren't.
+fn push_inputs(
+    problem: &Problem,
+    process: u32,
+    are_inputs: bool,
+    items: &[u32],
+    sorted: &mut Vec<u32>,
+) -> Result<(), OutOfMemory> {
+    for item in items {
+        if is_input(problem, process, *item) == are_inputs {
+            sorted.push(*item)?;
+        }
+    }
+    Ok(())
+}
+
+/// These items, the messages to a process first: these mostly tell all that its columns speak of.
+fn inputs_first(
+    alloc: Global,
+    problem: &Problem,
+    process: u32,
+    items: &[u32],
+) -> Result<Vec<u32>, OutOfMemory> {
+    let mut sorted = Vec::new(alloc);
+    sorted.reserve(items.len())?;
+    push_inputs(problem, process, true, items, &mut sorted)?;
+    push_inputs(problem, process, false, items, &mut sorted)?;
+    Ok(sorted)
+}
+
+/// What all nodes may hear: the executions in turn, and the frames of all items, those with the longest columns first.
+#[derive(Drop)]
+struct Hall<'a> {
+    admitted: &'a Admitted,
+    turns: &'a Turns<'a>,
+    frames: &'a Courses<'a>,
+    items: Vec<u32>,
+}
+
+impl<'a> Hall<'a> {
+    /// Whether a row keeps the rule. A send that is known to keep V5 is said to be in time.
+    fn is_sure(
+        &self,
+        alloc: Global,
+        item: u32,
+        is_sent_in_time: bool,
+        columns: &[Entry],
+    ) -> Result<bool, OutOfMemory>
+        requires item { item < item_count self.now.admitted.now.graph }
+        ensures { IfOk result (λ sure. OnTrue sure ((tables : List NodeTable) →
+            AreTurns (execution self.now.admitted.now.graph) self.now.admitted.now.graph tables self.now.turns.now →
+            AreCourses (frame self.now.admitted.now.graph) self.now.admitted.now.graph tables self.now.frames.now →
+            AllHold self.now.admitted.now.graph tables row_rules → (is_sent_in_time ≡ true →
+            IsSure self.now.admitted.now.graph tables Rule.Inputs item) → columns.now ≡ columns_of tables item →
+            IsSure self.now.admitted.now.graph tables Rule.Heard item)) }
+    {
+        let problem = self.admitted.problem();
+        let known = own_ended(self.admitted, self.turns, item, is_sent_in_time);
+        if are_all_known(&known, columns) {
+            return Ok(true);
+        }
+        let node = problem.home(item);
+        let process = problem.producer(item);
+        let items = inputs_first(alloc, problem, process, self.items.as_slice())?;
+        let speakers = speakers(alloc, problem, self.frames, node, items.as_slice())?;
+        let listener = Listener {
+            admitted: self.admitted,
+            turns: self.turns,
+            node,
+            known,
+            speakers,
+        };
+        let heard = listener.hears_all(alloc, columns)?;
+        Ok(heard)
+    }
+}
+
+/// The items of which each literal is heard by the time of its column, wherever that matches, by what is known of executions
+/// and frames, and of the sends that keep V5.
+pub(crate) fn heard_marks(
+    alloc: Global,
+    admitted: &Admitted,
+    tables: &Tables,
+    turns: &Turns<'_>,
+    frames: &Courses<'_>,
+    inputs: &[bool],
+) -> Result<Vec<bool>, OutOfMemory>
+    requires rules { AllHold admitted.now.graph tables.now.nodes row_rules }
+    requires turns { AreTurns (execution admitted.now.graph) admitted.now.graph tables.now.nodes turns.now }
+    requires frames { AreCourses (frame admitted.now.graph) admitted.now.graph tables.now.nodes frames.now }
+    requires inputs { AreSure admitted.now.graph tables.now.nodes Rule.Inputs inputs.now }
+    ensures { IfOk result (λ marks. AreSure admitted.now.graph tables.now.nodes Rule.Heard marks.items) }
+{
+    let items = longest_first(alloc, admitted.problem(), frames)?;
+    let hall = Hall {
+        admitted,
+        turns,
+        frames,
+        items,
+    };
+    let count = admitted.problem().item_count();
+    let mut marks = Vec::new(alloc);
+    marks.reserve(count as usize)?;
+    for item in 0..count {
+        let is_in_time = is_marked(inputs, item);
+        let sure = hall.is_sure(alloc, item, is_in_time, tables.columns_of(item))?;
+        marks.push(sure)?;
+    }
+    Ok(marks)
+}

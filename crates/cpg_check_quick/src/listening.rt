@@ -1,0 +1,312 @@
+//! What the node of an item knows by the times of the item's columns.
+ghost use Rattle.std.specs.Prelude.{◌≡◌, ◌<◌, ℕ, All, Contains, IfOk, IfSome, List, false, get_or, true};
+ghost use Rattle.std.specs.Bool.{OnTrue};
+ghost use Rattle.cpg_base.specs.Graph.{Graph, IsVariable, item_count, process_count};
+ghost use Rattle.cpg_base.specs.Scenario.{Scenario, IsScenario};
+ghost use Rattle.cpg_cube.specs.Cube.{IsRising, matches};
+ghost use Rattle.cpg_table.specs.Table.{NodeTable, columns_of};
+ghost use Rattle.cpg_table.specs.declared.rule.Rule.{Rule};
+ghost use Rattle.cpg_tree.specs.Space.{Lies};
+ghost use Rattle.cpg_violation.specs.Sure.{IsSure};
+ghost use Rattle.cpg_violation.specs.Violation.{AllHold, row_rules};
+ghost use Rattle.cpg_check_quick.specs.Hearing.{AreLeft, AreOwnEnded, IsAllHeard, IsEndedBy, IsOwnEnded, IsOwnOver, IsOwner};
+ghost use Rattle.cpg_check_quick.specs.Listening.{IsListener};
+ghost use Rattle.cpg_check_quick.specs.Order.{IsOverBy, execution};
+ghost use Rattle.cpg_check_quick.specs.Speakers.{AreToldIn, IsSpeaker};
+ghost use Rattle.cpg_check_quick.specs.Turns.{AreTurns};
+
+use crate::bounds::list_unknown;
+use crate::speakers::Speaker;
+use crate::turns::Turns;
+use cpg_base::{OutOfMemory, Problem, Variable};
+use cpg_cube::{Cube, Entry, Literal, VARIABLES};
+use cpg_rules::Admitted;
+use cpg_tree::Space;
+use std::alloc::Global;
+use std::mem;
+
+/// The process that a variable belongs to.
+fn owner(problem: &Problem, variable: u8) -> Option<u32>
+    ensures { IfSome result (IsOwner problem.now variable) }
+{
+    match Variable::of(variable) {
+        Variable::Count(process) => {
+            if (process as usize) < problem.processes().len() {
+                Some(process)
+            } else {
+                None
+            }
+        }
+        Variable::Value(condition) => {
+            if condition < problem.conditions() {
+                Some(problem.process_of(condition))
+            } else {
+                None
+            }
+        }
+    }
+}
+
+/// Whether a process on an item's node has always ended by the item's columns: before it in turn, or by the end of the
+/// producer of a send that keeps V5.
+fn has_ended(
+    admitted: &Admitted,
+    turns: &Turns<'_>,
+    item: u32,
+    is_sent_in_time: bool,
+    process: u32,
+) -> bool
+    requires item { item < item_count admitted.now.graph }
+    requires process { process < process_count admitted.now.graph }
+    ensures { OnTrue result ((tables : List NodeTable) → AreTurns (execution admitted.now.graph) admitted.now.graph tables turns.now →
+        AllHold admitted.now.graph tables row_rules → (is_sent_in_time ≡ true → IsSure admitted.now.graph tables Rule.Inputs item) →
+        IsEndedBy admitted.now.graph tables process item) }
+{
+    let problem = admitted.problem();
+    let node = problem.node_of(process);
+    if (item as usize) < problem.processes().len() {
+        return turns.is_before(node, process, item);
+    }
+    if !is_sent_in_time {
+        return false;
+    }
+    let producer = problem.producer(item);
+    if process == producer {
+        return true;
+    }
+    turns.is_before(node, process, producer)
+}
+
+/// Whether a variable's process is on an item's node and has always ended by the item's columns.
+fn is_own_ended(
+    admitted: &Admitted,
+    turns: &Turns<'_>,
+    item: u32,
+    is_sent_in_time: bool,
+    variable: u8,
+) -> bool
+    requires item { item < item_count admitted.now.graph }
+    ensures { OnTrue result ((tables : List NodeTable) → AreTurns (execution admitted.now.graph) admitted.now.graph tables turns.now →
+        AllHold admitted.now.graph tables row_rules → (is_sent_in_time ≡ true → IsSure admitted.now.graph tables Rule.Inputs item) →
+        IsOwnEnded admitted.now.graph tables item variable) }
+{
+    let problem = admitted.problem();
+    let Some(process) = owner(problem, variable) else {
+        return false;
+    };
+    if problem.node_of(process) != problem.home(item) {
+        return false;
+    }
+    has_ended(admitted, turns, item, is_sent_in_time, process)
+}
+
+/// The variables of which this is so, by number.
+pub(crate) fn own_ended(
+    admitted: &Admitted,
+    turns: &Turns<'_>,
+    item: u32,
+    is_sent_in_time: bool,
+) -> [bool; VARIABLES]
+    requires item { item < item_count admitted.now.graph }
+    ensures { (tables : List NodeTable) → AreTurns (execution admitted.now.graph) admitted.now.graph tables turns.now →
+        AllHold admitted.now.graph tables row_rules → (is_sent_in_time ≡ true → IsSure admitted.now.graph tables Rule.Inputs item) →
+        AreOwnEnded admitted.now.graph tables item result }
+{
+    let mut known = [false; VARIABLES];
+    for variable in 0..VARIABLES {
+        known[variable] = is_own_ended(admitted, turns, item, is_sent_in_time, variable as u8);
+    }
+    known
+}
+
+/// Whether all literals are on marked variables: without a way out before the last, so that the loop is taken in larger steps.
+fn are_known(known: &[bool; VARIABLES], literals: &[Literal]) -> bool
+    ensures { OnTrue result (All (λ l. get_or known.now l.variable false ≡ true) literals.now) }
+{
+    let mut are_known = true;
+    for literal in literals {
+        are_known &= known[literal.variable as usize];
+    }
+    are_known
+}
+
+/// Whether the variables of literals that rise are all below one, by the last.
+fn are_below(literals: &[Literal], variable: usize) -> bool
+    requires { IsRising literals.now }
+    ensures { OnTrue result (All (λ l. l.variable < variable) literals.now) }
+{
+    match literals.last() {
+        Some(last) => (last.variable as usize) < variable,
+        None => true,
+    }
+}
+
+/// How many variables from the first on are marked without a gap.
+fn marked_from_start(known: &[bool; VARIABLES]) -> usize
+    ensures marked { (v : ℕ) → v < result → get_or known.now v false ≡ true }
+    ensures gap { get_or known.now result false ≡ false }
+{
+    for variable in 0..VARIABLES {
+        if !known[variable] {
+            return variable;
+        }
+    }
+    VARIABLES
+}
+
+/// Whether all literals of a cube are on known variables, the first `first` variables being known. It is told at once
+/// if the last literal is on one of these, as the variables rise.
+fn is_cube_known(known: &[bool; VARIABLES], first: usize, cube: &Cube) -> bool
+    requires { (v : ℕ) → v < first → get_or known.now v false ≡ true }
+    ensures { OnTrue result (All (λ l. get_or known.now l.variable false ≡ true) cube.now) }
+{
+    let literals = cube.literals();
+    if are_below(literals, first) {
+        return true;
+    }
+    are_known(known, literals)
+}
+
+/// Whether all literals of all these columns are on known variables.
+pub(crate) fn are_all_known(known: &[bool; VARIABLES], columns: &[Entry]) -> bool
+    ensures { OnTrue result (All (λ c. All (λ l. get_or known.now l.variable false ≡ true) c.cube) columns.now) }
+{
+    let first = marked_from_start(known);
+    for column in columns {
+        if !is_cube_known(known, first, &column.cube) {
+            return false;
+        }
+    }
+    true
+}
+
+/// What the node of an item knows by the item's columns: the variables of its own processes that have always ended, and
+/// what it hears.
+#[derive(Drop)]
+pub(crate) struct Listener<'a> {
+    pub(crate) admitted: &'a Admitted,
+    pub(crate) turns: &'a Turns<'a>,
+    pub(crate) node: u32,
+    pub(crate) known: [bool; VARIABLES],
+    pub(crate) speakers: Vec<Speaker<'a>>,
+}
+
+impl<'a> Listener<'a> {
+    /// Whether a process is over by a time in the scenarios of a space.
+    fn is_over(&self, process: u32, space: &Space, time: u64) -> bool
+        ensures { OnTrue result ((tables : List NodeTable) (s : Scenario) →
+            AreTurns (execution self.now.admitted.now.graph) self.now.admitted.now.graph tables self.now.turns.now →
+            IsScenario self.now.admitted.now.graph s → Lies space.now s → IsOverBy tables (execution self.now.admitted.now.graph process s) process time s) }
+    {
+        let Some(course) = self.turns.courses.list.get(process as usize) else {
+            return false;
+        };
+        if course.is_early(time) {
+            return true;
+        }
+        course.is_over(space, time)
+    }
+
+    /// Whether the process of a variable is on the node, and over by a time in the scenarios of a space.
+    fn is_own_over(&self, variable: u8, space: &Space, time: u64) -> bool
+        ensures { OnTrue result ((tables : List NodeTable) (s : Scenario) →
+            AreTurns (execution self.now.admitted.now.graph) self.now.admitted.now.graph tables self.now.turns.now →
+            IsScenario self.now.admitted.now.graph s → Lies space.now s → IsOwnOver self.now.admitted.now.graph tables self.now.node variable time s) }
+    {
+        let problem = self.admitted.problem();
+        let Some(process) = owner(problem, variable) else {
+            return false;
+        };
+        let (home, node) = (problem.node_of(process), self.node);
+        if home != node {
+            return false;
+        }
+        self.is_over(process, space, time)
+    }
+
+    /// Whether this is so of the variables of all these literals.
+    fn are_over(&self, literals: &[Literal], space: &Space, time: u64) -> bool
+        ensures { OnTrue result ((tables : List NodeTable) (s : Scenario) →
+            AreTurns (execution self.now.admitted.now.graph) self.now.admitted.now.graph tables self.now.turns.now →
+            IsScenario self.now.admitted.now.graph s → Lies space.now s →
+            All (λ l. IsOwnOver self.now.admitted.now.graph tables self.now.node l.variable time s) literals.now) }
+    {
+        for literal in literals {
+            if !self.is_own_over(literal.variable, space, time) {
+                return false;
+            }
+        }
+        true
+    }
+
+    /// Keeps those of the wanted literals, each as wide as one of a column, that the node hasn't been told by others by the
+    /// column's time wherever that matches, in a space that has all these scenarios. `left` is for literals.
+    fn listen(
+        &self,
+        column: &Entry,
+        space: &Space,
+        places: &mut Vec<u32>,
+        wanted: &mut Vec<Literal>,
+        left: &mut Vec<Literal>,
+    ) -> Result<(), OutOfMemory>
+        ensures { IfOk result (λ _. (g : Graph) (tables : List NodeTable) →
+            All (IsSpeaker g tables self.now.node) self.now.speakers.items → AreToldIn column.now.cube wanted.old.items →
+            ((s : Scenario) → IsScenario g s → matches column.now.cube s ≡ true → Lies space.now s) →
+            AreLeft g tables self.now.node column.now wanted.old.items wanted.new.items) }
+    {
+        for speaker in self.speakers.as_slice() {
+            if wanted.is_empty() {
+                return Ok(());
+            }
+            let has_told = speaker.tell(column, wanted.as_slice(), space, places, left)?;
+            if !has_told {
+                continue;
+            }
+            mem::swap(wanted, left);
+        }
+        Ok(())
+    }
+
+    /// Whether the node has heard all literals of one of the item's columns by its time, wherever it matches: the low of
+    /// each and its high, which different items may have told.
+    fn hears(
+        &self,
+        column: &Entry,
+        places: &mut Vec<u32>,
+        wanted: &mut Vec<Literal>,
+        left: &mut Vec<Literal>,
+    ) -> Result<bool, OutOfMemory>
+        ensures { IfOk result (λ all. OnTrue all ((tables : List NodeTable) (x : ℕ) → IsListener tables x self.now →
+            AllHold self.now.admitted.now.graph tables row_rules → Contains (columns_of tables x) column.now →
+            IsAllHeard self.now.admitted.now.graph tables self.now.node column.now)) }
+    {
+        let literals = column.cube.literals();
+        let problem = self.admitted.problem();
+        // in place, since a space is long to copy
+        let mut space = self.turns.courses.everywhere;
+        if !space.narrow_to(literals) {
+            return Ok(true);
+        }
+        list_unknown(problem.faults(), &self.known, literals, wanted)?;
+        self.listen(column, &space, places, wanted, left)?;
+        Ok(self.are_over(wanted.as_slice(), &space, column.time))
+    }
+
+    /// Whether it has heard all literals of all of the item's columns.
+    pub(crate) fn hears_all(&self, alloc: Global, columns: &[Entry]) -> Result<bool, OutOfMemory>
+        ensures { IfOk result (λ all. OnTrue all ((tables : List NodeTable) (x : ℕ) → IsListener tables x self.now →
+            AllHold self.now.admitted.now.graph tables row_rules → columns.now ≡ columns_of tables x →
+            All (IsAllHeard self.now.admitted.now.graph tables self.now.node) columns.now)) }
+    {
+        let mut places = Vec::new(alloc);
+        let mut wanted = Vec::new(alloc);
+        let mut left = Vec::new(alloc);
+        for column in columns {
+            let heard = self.hears(column, &mut places, &mut wanted, &mut left)?;
+            if !heard {
+                return Ok(false);
+            }
+        }
+        Ok(true)
+    }
+}

@@ -1,0 +1,67 @@
+//! V6: no two executions on a processor overlap.
+ghost use Rattle.std.specs.Prelude.{◌≡◌, ◌<◌, ◌==◌, IfOk, List, filter};
+ghost use Rattle.std.specs.Bool.{OnTrue};
+ghost use Rattle.cpg_base.specs.Graph.{node_of, process_count};
+ghost use Rattle.cpg_base.specs.Numbers.{numbers_below};
+ghost use Rattle.cpg_table.specs.Table.{NodeTable};
+ghost use Rattle.cpg_table.specs.declared.rule.Rule.{Rule};
+ghost use Rattle.cpg_violation.specs.Sure.{AreSure, IsSure};
+ghost use Rattle.cpg_check_quick.specs.Order.{execution};
+ghost use Rattle.cpg_check_quick.specs.Turns.{AreTurns};
+
+use crate::turns::Turns;
+use cpg_base::{OutOfMemory, Problem};
+use std::alloc::Global;
+
+/// The processes of a process's node that have lower numbers.
+fn lower_on_node(alloc: Global, problem: &Problem, process: u32) -> Result<Vec<u32>, OutOfMemory>
+    requires { process < process_count problem.now }
+    ensures { IfOk result (λ lower. lower.items ≡ filter (λ q. node_of problem.now q == node_of problem.now process) (numbers_below process)) }
+{
+    let node = problem.node_of(process);
+    let mut lower = Vec::new(alloc);
+    for other in 0..process {
+        if problem.node_of(other) == node {
+            lower.push(other)?;
+        }
+    }
+    Ok(lower)
+}
+
+/// Whether the executions of an item are known to overlap with none of a process of a lower number. What is no process
+/// has none.
+fn is_alone(
+    alloc: Global,
+    problem: &Problem,
+    turns: &Turns<'_>,
+    item: u32,
+) -> Result<bool, OutOfMemory>
+    ensures { IfOk result (λ r. OnTrue r ((tables : List NodeTable) → AreTurns (execution problem.now) problem.now tables turns.now →
+        IsSure problem.now tables Rule.Processor item)) }
+{
+    if item as usize >= problem.processes().len() {
+        return Ok(true);
+    }
+    let lower = lower_on_node(alloc, problem, item)?;
+    let is_alone = turns.are_apart(alloc, problem.node_of(item), lower.as_slice(), item)?;
+    Ok(is_alone)
+}
+
+/// The items whose executions overlap with none of a process of a lower number, by the executions of each node in turn.
+pub(crate) fn processor_marks(
+    alloc: Global,
+    problem: &Problem,
+    turns: &Turns<'_>,
+) -> Result<Vec<bool>, OutOfMemory>
+    ensures { IfOk result (λ marks. (tables : List NodeTable) → AreTurns (execution problem.now) problem.now tables turns.now →
+        AreSure problem.now tables Rule.Processor marks.items) }
+{
+    let count = problem.item_count();
+    let mut marks = Vec::new(alloc);
+    marks.reserve(count as usize)?;
+    for item in 0..count {
+        let is_sure = is_alone(alloc, problem, turns, item)?;
+        marks.push(is_sure)?;
+    }
+    Ok(marks)
+}

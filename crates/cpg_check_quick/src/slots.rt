@@ -1,0 +1,178 @@
+//! V7: each send is at the start of a slot of its own node, and no two items of a node share one.
+ghost use Rattle.std.specs.Prelude.{◌≡◌, ◌<◌, ◌==◌, ◌&&◌, All, IfOk, filter, true};
+ghost use Rattle.std.specs.Bool.{OnTrue};
+ghost use Rattle.cpg_base.specs.Bus.{next_slot};
+ghost use Rattle.cpg_base.specs.Graph.{home, is_sent, item_count};
+ghost use Rattle.cpg_base.specs.Numbers.{numbers_below};
+ghost use Rattle.cpg_bus.specs.Share.{HasSlot};
+ghost use Rattle.cpg_cube.specs.Cube.{matches};
+ghost use Rattle.cpg_base.specs.Scenario.{Scenario, IsScenario};
+ghost use Rattle.cpg_table.specs.Table.{columns_of};
+ghost use Rattle.cpg_table.specs.declared.rule.Rule.{Rule};
+ghost use Rattle.cpg_violation.specs.Sure.{AreSure, IsSure};
+ghost use Rattle.cpg_violation.specs.Violation.{AllHold, row_rules};
+ghost use Rattle.cpg_check_quick.specs.Order.{sending};
+ghost use Rattle.cpg_row_trees.specs.Trees.{AreRowTrees};
+ghost use Rattle.cpg_check_quick.specs.Turns.{AreTurns};
+
+use crate::course::sends;
+use crate::turns::{Turns, processes_on};
+use cpg_base::{OutOfMemory, Problem};
+use cpg_bus::is_slot_start;
+use cpg_cube::Entry;
+use cpg_row_trees::Places;
+use cpg_rules::Admitted;
+use cpg_table::Tables;
+use cpg_tree::Space;
+use std::alloc::Global;
+
+/// Whether a node's slot starts at the time of a column, if the column matches.
+fn is_in_slot(problem: &Problem, node: u32, column: &Entry) -> bool
+    requires { HasSlot problem.now node }
+    ensures { OnTrue result ((s : Scenario) → IsScenario problem.now s → matches column.now.cube s ≡ true →
+        next_slot problem.now node column.now.time ≡ column.now.time) }
+{
+    if is_slot_start(problem, node, column.time) {
+        return true;
+    }
+    // a column that matches no scenario may be at any time
+    let Some(_space) = Space::of(problem.faults(), column.cube.literals()) else {
+        return true;
+    };
+    false
+}
+
+/// Whether a node's slot starts at the time of each of these columns, if the column matches.
+fn are_in_slots(problem: &Problem, node: u32, columns: &[Entry]) -> bool
+    requires { HasSlot problem.now node }
+    ensures { OnTrue result (All (λ c. (s : Scenario) → IsScenario problem.now s → matches c.cube s ≡ true →
+        next_slot problem.now node c.time ≡ c.time) columns.now) }
+{
+    for column in columns {
+        if !is_in_slot(problem, node, column) {
+            return false;
+        }
+    }
+    true
+}
+
+/// Adds the items that a process sends.
+fn push_sent(problem: &Problem, process: u32, items: &mut Vec<u32>) -> Result<(), OutOfMemory> {
+    for item in 0..problem.item_count() {
+        if problem.is_sent(item) && problem.producer(item) == process {
+            items.push(item)?;
+        }
+    }
+    Ok(())
+}
+
+/// What a node sends, by the urgency order of the senders.
+fn sent_by(alloc: Global, admitted: &Admitted, node: u32) -> Result<Vec<u32>, OutOfMemory> {
+    let problem = admitted.problem();
+    let processes = processes_on(alloc, admitted, node)?;
+    let mut items = Vec::new(alloc);
+    for process in processes {
+        push_sent(problem, process, &mut items)?;
+    }
+    Ok(items)
+}
+
+/// For each node what it sends, by the urgency order of the senders.
+fn sent_by_node(alloc: Global, admitted: &Admitted) -> Result<Vec<Vec<u32>>, OutOfMemory> {
+    let mut groups = Vec::new(alloc);
+    for node in 0..admitted.problem().nodes().len() as u32 {
+        let items = sent_by(alloc, admitted, node)?;
+        groups.push(items)?;
+    }
+    Ok(groups)
+}
+
+/// The sends of all items, with those of each node in turn.
+fn turns_of<'a>(
+    alloc: Global,
+    admitted: &Admitted,
+    tables: &'a Tables,
+    trees: &'a [Option<Places>],
+) -> Result<Turns<'a>, OutOfMemory>
+    requires rules { AllHold admitted.now.graph tables.now.nodes row_rules }
+    requires trees { AreRowTrees admitted.now.graph tables.now.nodes trees.now }
+    ensures { IfOk result (AreTurns sending admitted.now.graph tables.now.nodes) }
+{
+    let courses = sends(alloc, admitted, tables, trees)?;
+    let groups = sent_by_node(alloc, admitted)?;
+    let turns = Turns::of(alloc, courses, groups.as_slice())?;
+    Ok(turns)
+}
+
+/// Whether a node sends an item.
+fn is_sent_from(problem: &Problem, node: u32, item: u32) -> bool
+    requires { item < item_count problem.now }
+    ensures { result ≡ (is_sent problem.now item && (home problem.now item == node)) }
+{
+    if !problem.is_sent(item) {
+        return false;
+    }
+    problem.home(item) == node
+}
+
+/// The items with lower numbers that the home of an item sends.
+fn lower_sent(alloc: Global, problem: &Problem, item: u32) -> Result<Vec<u32>, OutOfMemory>
+    requires { item < item_count problem.now }
+    ensures { IfOk result (λ lower. lower.items ≡ filter (λ y. is_sent problem.now y && (home problem.now y == home problem.now item)) (numbers_below item)) }
+{
+    let node = problem.home(item);
+    let mut lower = Vec::new(alloc);
+    for other in 0..item {
+        if is_sent_from(problem, node, other) {
+            lower.push(other)?;
+        }
+    }
+    Ok(lower)
+}
+
+/// Whether an item is known to have slots of its own.
+fn has_own_slots(
+    alloc: Global,
+    admitted: &Admitted,
+    tables: &Tables,
+    turns: &Turns<'_>,
+    item: u32,
+) -> Result<bool, OutOfMemory>
+    requires turns { AreTurns sending admitted.now.graph tables.now.nodes turns.now }
+    requires item { item < item_count admitted.now.graph }
+    ensures { IfOk result (λ r. OnTrue r (IsSure admitted.now.graph tables.now.nodes Rule.Slot item)) }
+{
+    let problem = admitted.problem();
+    if !problem.is_sent(item) {
+        return Ok(true);
+    }
+    let node = problem.home(item);
+    if !are_in_slots(problem, node, tables.columns_of(item)) {
+        return Ok(false);
+    }
+    let lower = lower_sent(alloc, problem, item)?;
+    let is_alone = turns.are_apart(alloc, node, lower.as_slice(), item)?;
+    Ok(is_alone)
+}
+
+/// The items whose sends are at the start of a slot, and in none of an item of a lower number.
+pub(crate) fn slot_marks(
+    alloc: Global,
+    admitted: &Admitted,
+    tables: &Tables,
+    trees: &[Option<Places>],
+) -> Result<Vec<bool>, OutOfMemory>
+    requires rules { AllHold admitted.now.graph tables.now.nodes row_rules }
+    requires trees { AreRowTrees admitted.now.graph tables.now.nodes trees.now }
+    ensures { IfOk result (λ marks. AreSure admitted.now.graph tables.now.nodes Rule.Slot marks.items) }
+{
+    let turns = turns_of(alloc, admitted, tables, trees)?;
+    let count = admitted.problem().item_count();
+    let mut marks = Vec::new(alloc);
+    marks.reserve(count as usize)?;
+    for item in 0..count {
+        let is_sure = has_own_slots(alloc, admitted, tables, &turns, item)?;
+        marks.push(is_sure)?;
+    }
+    Ok(marks)
+}

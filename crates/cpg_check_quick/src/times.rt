@@ -1,0 +1,48 @@
+//! Items at which V4 to V9 hold.
+ghost use Rattle.std.specs.Prelude.{IfOk};
+ghost use Rattle.cpg_violation.specs.Violation.{AllHold, row_rules};
+ghost use Rattle.cpg_violation.specs.Sure.{AreTimeMarks};
+ghost use Rattle.cpg_row_trees.specs.Trees.{AreRowTrees};
+
+use crate::course::frames;
+use crate::heard::heard_marks;
+use crate::inputs::inputs_marks;
+use crate::processor::processor_marks;
+use crate::slots::slot_marks;
+use crate::turns::turns_of;
+use cpg_base::OutOfMemory;
+use cpg_row_trees::Places;
+use cpg_rules::Admitted;
+use cpg_table::Tables;
+use cpg_violation::{TimeMarks, due_marks, frozen_marks};
+use std::alloc::Global;
+
+/// Items at which V4 to V9 hold in every scenario, of tables that keep V1 to V3, by the trees of all rows. No scenario is
+/// looked for: an item that isn't marked may keep the rule too.
+pub fn time_marks(
+    alloc: Global,
+    admitted: &Admitted,
+    tables: &Tables,
+    trees: &[Option<Places>],
+) -> Result<TimeMarks, OutOfMemory>
+    requires rules { AllHold admitted.now.graph tables.now.nodes row_rules }
+    requires trees { AreRowTrees admitted.now.graph tables.now.nodes trees.now }
+    ensures { IfOk result (AreTimeMarks admitted.now.graph tables.now.nodes) }
+{
+    let turns = turns_of(alloc, admitted, tables, trees)?;
+    let frames = frames(alloc, admitted, tables, trees)?;
+    let inputs = inputs_marks(alloc, admitted, tables, &turns, &frames)?;
+    let heard = heard_marks(alloc, admitted, tables, &turns, &frames, inputs.as_slice())?;
+    let processor = processor_marks(alloc, admitted.problem(), &turns)?;
+    let slot = slot_marks(alloc, admitted, tables, trees)?;
+    let frozen = frozen_marks(alloc, admitted, tables)?;
+    let due = due_marks(alloc, admitted, tables)?;
+    Ok(TimeMarks {
+        heard,
+        inputs,
+        processor,
+        slot,
+        frozen,
+        due,
+    })
+}

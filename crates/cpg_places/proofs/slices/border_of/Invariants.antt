@@ -1,5 +1,0 @@
-use Rattle.std.proofs.Common.{◌-◌}
-use Rattle.cpg_places.proofs.slices.border_of.Given as goal
-
-abbrev pub decreases-loop-first : goal.decreases-loop-first
-decreases-loop-first l = l.end - l.first

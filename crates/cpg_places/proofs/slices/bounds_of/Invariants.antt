@@ -1,6 +1,0 @@
-use Rattle.std.proofs.Common.{take}
-use Rattle.cpg_places.specs.Slices.{AreBounds}
-use Rattle.cpg_places.proofs.slices.bounds_of.Given as goal
-
-abbrev pub invariant-loop-literal : goal.invariant-loop-literal
-invariant-loop-literal l = AreBounds l.k l.space (take l.literal-index l.literals) l.found

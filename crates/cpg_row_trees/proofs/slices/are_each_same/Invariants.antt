@@ -1,0 +1,5 @@
+use Rattle.std.proofs.Common.{◌≡◌, take}
+use Rattle.cpg_row_trees.proofs.slices.are_each_same.Given as goal
+
+abbrev pub invariant-loop-at : goal.invariant-loop-at
+invariant-loop-at l = take l.at l.literals ≡ take l.at l.others

@@ -1,0 +1,5 @@
+use Rattle.std.proofs.Common.{◌-◌}
+use Rattle.cpg_row_trees.proofs.slices.border_of.Given as goal
+
+abbrev pub decreases-loop-first : goal.decreases-loop-first
+decreases-loop-first l = l.end - l.first

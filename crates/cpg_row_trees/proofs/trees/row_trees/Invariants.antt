@@ -1,0 +1,5 @@
+use Rattle.cpg_row_trees.specs.Trees.{AreFirstTrees}
+use Rattle.cpg_row_trees.proofs.trees.row_trees.Given as goal
+
+abbrev pub invariant-loop-item : goal.invariant-loop-item
+invariant-loop-item l = AreFirstTrees l.problem l.tables.nodes l.item l.trees.items

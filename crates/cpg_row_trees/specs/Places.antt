@@ -1,0 +1,37 @@
+-- Cubes of which no scenario matches two, by their places.
+use Rattle.std.specs.Prelude.{ℕ, ◌≡◌, ◌<◌, true, List, [], Option, None, Some, Contains, length, get_or}
+use Rattle.cpg_base.specs.Scenario.{Scenario}
+use Rattle.cpg_cube.specs.Cube.{matches}
+use Rattle.cpg_cube.specs.declared.literal.Literal.{Literal}
+use Rattle.cpg_tree.specs.declared.node.TreeNode.{TreeNode}
+use Rattle.cpg_row_trees.specs.declared.places.Places.{Places}
+use Rattle.cpg_tree.specs.declared.space.Space.{Space}
+use Rattle.cpg_tree.specs.Space.{Lies}
+use Rattle.cpg_tree.specs.Decision.{value_at}
+
+-- the place that a scenario comes to, if it comes to one
+abbrev pub place_at : Places → Scenario → Option ℕ
+place_at places s = value_at places.root s
+
+-- the cube at a place
+abbrev pub cube_at : List (List Literal) → ℕ → List Literal
+cube_at cubes i = get_or cubes i []
+
+-- whether there is a cube at a place and the scenario matches it
+pub record IsMatched (cubes : List (List Literal)) (s : Scenario) (i : ℕ) : Type 0 where
+  pub there : i < length cubes
+  pub matched : matches (cube_at cubes i) s ≡ true
+
+-- the place of the one cube that the scenario matches, and none if it matches no cube
+abbrev pub tells_cube : List (List Literal) → Option ℕ → Scenario → Type 0
+tells_cube cubes None s = (j : ℕ) → IsMatched cubes s j → ⊥
+tells_cube cubes (Some i) s = IsMatched cubes s i × ((j : ℕ) → IsMatched cubes s j → j ≡ i)
+
+-- a fact holds of the value that each scenario of a space comes to
+abbrev pub IsToldAll : {T : Type 0} → (T → Scenario → Type 0) → Space → TreeNode T → Type 0
+IsToldAll fact room a = (s : Scenario) → Lies room s → fact (value_at a s) s
+
+-- there is a place, and it is one of these
+abbrev pub IsAmong : List ℕ → Option ℕ → Type 0
+IsAmong places None = ⊥
+IsAmong places (Some i) = Contains places i

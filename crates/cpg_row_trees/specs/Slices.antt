@@ -1,0 +1,93 @@
+-- Cubes that stand as a tree lists them, in slices.
+use Rattle.std.specs.Prelude.{ℕ, ◌+◌, ◌-◌, ◌≡◌, ◌≤◌, ◌<◌, Bool, ◌&&◌, ◌||◌, nat_lt, true, if◌then◌else◌, List, Option, None, Some, get_or, length, max, min, slice_set, sum_by, take, Contains}
+use Rattle.cpg_base.specs.Numbers.{numbers_below}
+use Rattle.cpg_base.specs.Variable.{top}
+use Rattle.cpg_base.specs.Scenario.{Scenario, number_of}
+use Rattle.cpg_cube.specs.Cube.{holds, matches}
+use Rattle.cpg_cube.specs.declared.literal.Literal.{Literal}
+use Rattle.cpg_row_trees.specs.declared.slices.Lead.{Lead}
+use Rattle.cpg_row_trees.specs.declared.slices.ForkSides.{ForkSides}
+use Rattle.cpg_row_trees.specs.declared.slices.Lead.TheVariants.{Leaf, Fork, Unknown}
+use Rattle.cpg_row_trees.specs.declared.places.Sorted.{Sorted}
+use Rattle.cpg_tree.specs.declared.space.Space.{Space}
+use Rattle.cpg_tree.specs.Space.{Lies, HasFew}
+use Rattle.cpg_tree.specs.Decision.{value_at}
+use Rattle.cpg_row_trees.specs.Places.{IsMatched}
+use Rattle.cpg_row_trees.specs.Spots.{AreOpen}
+
+-- each number is in range
+pub record IsInRange (room : Space) (s : Scenario) : Type 0 where
+  pub low : (v : ℕ) → v < 256 → get_or room.low v 0 ≤ number_of s v
+  pub high : (v : ℕ) → v < 256 → number_of s v ≤ get_or room.high v 0
+
+-- whether fewer numbers of a variable are in range than scenarios of at most k faults have
+abbrev pub is_narrow : ℕ → Space → ℕ → Bool
+is_narrow k room v = nat_lt 0 (get_or room.low v 0) || nat_lt (get_or room.high v 0) (top k v)
+
+-- 1 if they are
+abbrev pub narrowed : ℕ → Space → ℕ → ℕ
+narrowed k room v = if nat_lt v 256 && is_narrow k room v then 1 else 0
+
+-- a space that forks lead to: the ranges alone tell of at most k faults who lies in it, and no more of them than so many are narrow
+pub record IsReached (k : ℕ) (room : Space) (narrow : ℕ) : Type 0 where
+  pub by_ranges : (s : Scenario) → HasFew k s → IsInRange room s → Lies room s
+  pub few : sum_by (narrowed k room) (numbers_below 256) ≤ narrow
+
+-- a literal's numbers are in range
+pub record IsInside (room : Space) (l : Literal) : Type 0 where
+  pub low : get_or room.low l.variable 0 ≤ l.low
+  pub high : l.high ≤ get_or room.high l.variable 0
+
+-- each of some literals holds in the whole space and is inside it, and so many are on narrow variables at least
+pub record AreBounds (k : ℕ) (room : Space) (literals : List Literal) (found : ℕ) : Type 0 where
+  pub hold : (s : Scenario) → Lies room s → matches literals s ≡ true
+  pub inside : (l : Literal) → Contains literals l → IsInside room l
+  pub narrow : found ≤ sum_by (λ (l : Literal). narrowed k room l.variable) literals
+
+-- the scenarios of the space are those of at most k faults that match
+pub record IsOwn (k : ℕ) (room : Space) (literals : List Literal) : Type 0 where
+  pub hold : (s : Scenario) → HasFew k s → Lies room s → matches literals s ≡ true
+  pub come : (s : Scenario) → HasFew k s → matches literals s ≡ true → Lies room s
+
+-- places by scenarios: a place has a cube that the scenario matches, and who matches a cube of the slice lies in the space and comes to its place
+pub record Leads (cubes : List (List Literal)) (k : ℕ) (room : Space) (from to : ℕ) (place : Scenario → Option ℕ) : Type 0 where
+  pub is : (s : Scenario) (i : ℕ) → HasFew k s → Lies room s → place s ≡ Some i → IsMatched cubes s i
+  pub lies : (s : Scenario) (j : ℕ) → HasFew k s → from ≤ j → j < to → IsMatched cubes s j → Lies room s
+  pub comes : (s : Scenario) (j : ℕ) → HasFew k s → from ≤ j → j < to → IsMatched cubes s j → place s ≡ Some j
+
+-- a leaf leads to its place, and a fork is open on both sides
+abbrev pub IsLead : List (List Literal) → ℕ → Space → ℕ → ℕ → Lead → Type 0
+IsLead cubes k room from to (Leaf x) = Leads cubes k room from to (λ s. x)
+IsLead cubes k room from to (Fork p) = AreOpen room p.cut.variable p.cut.most
+IsLead cubes k room from to Unknown = Unit {0}
+
+-- a tree that leads to the places of a slice, with no more nodes left than there were
+pub record IsLed (cubes : List (List Literal)) (k : ℕ) (room : Space) (from to left : ℕ) (r : Sorted) : Type 0 where
+  pub leads : Leads cubes k room from to (value_at r.node)
+  pub fewer : r.left ≤ left
+
+-- what a fork says of its sides
+pub record AreSides (k v cut : ℕ) (sides : ForkSides) : Type 0 where
+  pub below : sides.below ≡ record { variable = v; low = 0; high = cut }
+  pub above : sides.above ≡ record { variable = v; low = cut + 1; high = top k v }
+
+-- what two ranges of a variable have in common
+abbrev pub met_by : Literal → Literal → Literal
+met_by l m = record { variable = l.variable; low = max l.low m.low; high = min l.high m.high }
+
+-- literals as they were before one was added, or before the last one was changed
+abbrev pub left_by : Option Literal → List Literal → List Literal
+left_by None ls = take (length ls - 1) ls
+left_by (Some l) ls = slice_set ls (length ls - 1) l
+
+-- the last of some literals, which is on a variable
+pub record IsLastOn (ls : List Literal) (v : ℕ) (l : Literal) : Type 0 where
+  pub some : 0 < length ls
+  pub last : get_or ls (length ls - 1) l ≡ l
+  pub on : l.variable ≡ v
+
+-- one more is said than before, and what is left without it is what was before
+pub record IsEntered (old : List Literal) (l : Literal) (new : List Literal) (was : Option Literal) : Type 0 where
+  pub both : (s : Scenario) → matches new s ≡ (matches old s && holds s l)
+  pub back : left_by was new ≡ old
+  pub some : 0 < length new

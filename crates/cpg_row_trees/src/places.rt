@@ -1,0 +1,720 @@
+//! The tree of the places of cubes of which no scenario matches two.
+ghost use Rattle.std.specs.Prelude.{◌≡◌, ◌≤◌, ◌<◌, ℕ, Contains, IfOk, IfSome, OnOk, false, length, map, true};
+ghost use Rattle.std.specs.Bool.{OnFalse, OnTrue};
+ghost use Rattle.cpg_base.specs.Scenario.{Scenario, number_of};
+ghost use Rattle.cpg_base.specs.declared.limits.TheConstants.{MOST_LOAD};
+ghost use Rattle.cpg_cube.specs.Cube.{IsRising, matches};
+ghost use Rattle.cpg_tree.specs.Space.{Lies, HasFew};
+ghost use Rattle.cpg_tree.specs.Decision.{value_at};
+ghost use Rattle.cpg_row_trees.specs.Places.{IsAmong, IsMatched, place_at, tells_cube};
+ghost use Rattle.cpg_row_trees.specs.Spots.{IsSaid, IsSaidBy, IsTop, IsKept, IsSorted, KeepsWhere, AreOpen, places_of};
+
+use crate::gathering::gather;
+use crate::slices::led_out;
+use crate::walk::{PairTest, Test, do_pass, do_pass_with};
+use cpg_base::{FIRST_VALUE, OutOfMemory};
+use cpg_cube::{Cube, Literal};
+use cpg_tree::{Space, Tally, TreeNode};
+use std::alloc::Global;
+
+/// A tree has at most this many nodes for each cube, and `FEW` besides.
+const EACH: u32 = 6;
+/// How many nodes a tree of few cubes may have.
+const FEW: u32 = 64;
+/// The number for each cube if a cube that goes to both sides of a fork counts as a node, too.
+const EACH_SHARED: u32 = 8;
+/// The number that is added to `EACH_SHARED` for each cube.
+const FEW_SHARED: u32 = 104;
+/// Room is made at once for at most this many of the places that go to a side of a fork: mostly for all of them.
+const AT_ONCE: usize = 32;
+
+/// A place, with what is known of its cube in the space where it stands: hints, that no clause speaks of.
+#[derive(Clone, Copy)]
+struct Spot {
+    place: u32,
+    /// At least this many of the first literals hold in the whole space.
+    held: u16,
+    /// How many faults are left beyond those that the cube asks for.
+    spare: u8,
+}
+
+/// A fork by whether a variable is at most a number.
+#[derive(Clone, Copy)]
+pub(crate) struct PlaceCut {
+    pub(crate) variable: u8,
+    pub(crate) most: u8,
+}
+
+/// A cut, with the numbers of its variable that a space leaves on both sides.
+#[derive(Clone, Copy)]
+struct CutSpan {
+    cut: PlaceCut,
+    least: u8,
+    /// The least number above the cut.
+    next: u8,
+    greatest: u8,
+    /// How many faults a scenario above the cut has on the variable, at least.
+    faults: u8,
+}
+
+/// What literals say of a variable: no number below `low`, and none above `high` but where that is the last of all.
+#[derive(Clone, Copy)]
+struct Said {
+    low: u8,
+    high: u8,
+    /// Whether the first literal says it that isn't known to hold in the whole space.
+    is_first: bool,
+}
+
+/// What stands at the top of the tree of some places.
+#[derive(Clone, Copy)]
+enum PlacesTop {
+    Leaf(Option<u32>),
+    Fork(PlaceCut),
+    /// Two cubes may match together.
+    Unknown,
+}
+
+/// The places that go to each side of a fork.
+#[derive(Drop)]
+struct PlaceSides {
+    low: Vec<Spot>,
+    high: Vec<Spot>,
+}
+
+/// A tree, and how many more nodes there may be.
+#[derive(Drop)]
+pub(crate) struct Sorted {
+    pub(crate) node: TreeNode<Option<u32>>,
+    pub(crate) left: u32,
+}
+
+/// The literal on a variable, if there is one from a place on.
+pub(crate) fn literal_from(literals: &[Literal], from: usize, variable: u8) -> Option<Literal>
+    ensures { IfSome result (IsSaidBy literals.now) }
+{
+    for at in from..literals.len() {
+        if literals[at].variable == variable {
+            return Some(literals[at]);
+        }
+        if literals[at].variable > variable {
+            return None;
+        }
+    }
+    None
+}
+
+/// The literal on a variable, if there is one before a place.
+pub(crate) fn literal_up_to(literals: &[Literal], end: usize, variable: u8) -> Option<Literal>
+    ensures { IfSome result (IsSaidBy literals.now) }
+{
+    let count = end.min(literals.len());
+    for later in 0..count {
+        let at = count - 1 - later;
+        if literals[at].variable == variable {
+            return Some(literals[at]);
+        }
+        if literals[at].variable < variable {
+            return None;
+        }
+    }
+    None
+}
+
+/// The literal on a variable, if there is one from a place on or if it is on a value: these are the last.
+fn literal_on(literals: &[Literal], from: usize, variable: u8) -> Option<Literal>
+    ensures { IfSome result (IsSaidBy literals.now) }
+{
+    if variable < FIRST_VALUE {
+        literal_from(literals, from, variable)
+    } else {
+        literal_up_to(literals, literals.len(), variable)
+    }
+}
+
+/// The first value from the last on that literals leave open, if there is one.
+pub(crate) fn open_value(space: &Space, literals: &[Literal]) -> Option<Literal> {
+    for later in 0..literals.len() {
+        let literal = literals[literals.len() - 1 - later];
+        if literal.variable < FIRST_VALUE {
+            return None;
+        }
+        if !space.tells(&literal) {
+            return Some(literal);
+        }
+    }
+    None
+}
+
+/// How many of the first literals hold in the whole space, up to the first that doesn't. The first `held` are known to.
+fn held_on(space: &Space, literals: &[Literal], held: usize) -> usize {
+    for at in held..literals.len() {
+        if !space.tells(&literals[at]) {
+            return at;
+        }
+    }
+    literals.len()
+}
+
+/// A literal that doesn't hold in the whole space, a value if there is one, or else the first.
+fn open_literal(space: &Space, literals: &[Literal], held: u16) -> Option<Literal> {
+    let value = open_value(space, literals);
+    if value.is_some() {
+        return value;
+    }
+    literals
+        .get(held_on(space, literals, held as usize))
+        .copied()
+}
+
+/// The literal at a place, if it is on this variable.
+fn literal_at(literals: &[Literal], place: usize, variable: u8) -> Option<Literal>
+    ensures said { IfSome result (IsSaidBy literals.now) }
+    ensures on { IfSome result (λ l. l.variable ≡ variable) }
+{
+    if place >= literals.len() {
+        return None;
+    }
+    if literals[place].variable != variable {
+        return None;
+    }
+    Some(literals[place])
+}
+
+/// What a literal says of its variable.
+fn said_by(literal: Literal, is_first: bool) -> Said
+    ensures { result ≡ record { low = literal.low; high = literal.high; is_first = is_first } }
+{
+    Said {
+        low: literal.low,
+        high: literal.high,
+        is_first,
+    }
+}
+
+/// What literals say of a variable, but for the first `held`, which hold in the whole space.
+fn said_on(literals: &[Literal], held: usize, variable: u8) -> Said
+    ensures { IsSaid literals.now variable result }
+{
+    // mostly the first of them
+    if let Some(first) = literal_at(literals, held, variable) {
+        return said_by(first, true);
+    }
+    if let Some(literal) = literal_on(literals, held, variable) {
+        if literal.variable == variable {
+            return said_by(literal, false);
+        }
+    }
+    Said {
+        low: 0,
+        high: u8::MAX,
+        is_first: false,
+    }
+}
+
+/// How many of the first literals are known to hold in the whole space. The first `held` are. More are counted if a
+/// literal before a variable is next, so that the way to that is short.
+fn held_at(space: &Space, literals: &[Literal], held: u16, variable: u8) -> u16 {
+    match literals.get(held as usize) {
+        Some(literal) if literal.variable < variable && variable < FIRST_VALUE => {
+            held_on(space, literals, held as usize).min(u16::MAX as usize) as u16
+        }
+        _ => held,
+    }
+}
+
+/// How many of the first literals hold if a variable is in this range. The first `held` are known to hold in the
+/// whole space.
+fn held_with(held: u16, said: Said, least: u8, greatest: u8) -> u16 {
+    if said.is_first && said.low <= least && greatest <= said.high {
+        held.saturating_add(1)
+    } else {
+        held
+    }
+}
+
+/// Adds a place as it stands up to a cut, unless what is said of the variable is above it.
+fn keep_below(low: &mut Vec<Spot>, said: Said, spot: Spot, span: CutSpan) -> Result<(), OutOfMemory>
+    ensures { OnOk result (IsKept (λ s. (number_of s span.cut.variable ≤ span.cut.most) × (said.low ≤ number_of s span.cut.variable))
+        spot.place low.old.items low.new.items) }
+{
+    if said.low > span.cut.most {
+        return Ok(());
+    }
+    low.push(Spot {
+        place: spot.place,
+        held: held_with(spot.held, said, span.least, span.cut.most),
+        spare: spot.spare,
+    })?;
+    Ok(())
+}
+
+/// Whether the faults that are left above a cut suffice for literals: mostly it is known. The space is as before.
+fn do_suffice_above(
+    space: &mut Space,
+    literals: &[Literal],
+    spot: Spot,
+    taken: u8,
+    cut: PlaceCut,
+) -> bool
+    requires rising { IsRising literals.now }
+    requires open { AreOpen space.old cut.variable cut.most }
+    ensures none { OnFalse result ((s : Scenario) → Lies space.old s → cut.most < number_of s cut.variable → matches literals.now s ≡ false) }
+    ensures same { space.new ≡ space.old }
+{
+    if taken <= spot.spare {
+        return true;
+    }
+    let was = space.close_below(cut.variable, cut.most);
+    let do_suffice = space.affords(literals, spot.held as usize);
+    space.reopen_below(cut.variable, was);
+    do_suffice
+}
+
+/// Adds a place as it stands above a cut, unless what is said of the variable is up to the cut, or there are too few faults
+/// left. The space is as before.
+fn keep_above(
+    high: &mut Vec<Spot>,
+    space: &mut Space,
+    literals: &[Literal],
+    said: Said,
+    spot: Spot,
+    span: CutSpan,
+) -> Result<(), OutOfMemory>
+    requires rising { IsRising literals.now }
+    requires said { IsSaid literals.now span.cut.variable said }
+    requires open { AreOpen space.old span.cut.variable span.cut.most }
+    ensures kept { OnOk result (IsKept (λ s. (Lies space.old s × (span.cut.most < number_of s span.cut.variable)) × (matches literals.now s ≡ true))
+        spot.place high.old.items high.new.items) }
+    ensures same { space.new ≡ space.old }
+{
+    if said.high < span.cut.most.saturating_add(1) {
+        return Ok(());
+    }
+    // the fork takes those faults that the literal doesn't ask for
+    let taken = span.faults.saturating_sub(said.low.max(span.least));
+    if !do_suffice_above(space, literals, spot, taken, span.cut) {
+        return Ok(());
+    }
+    high.push(Spot {
+        place: spot.place,
+        held: held_with(spot.held, said, span.next, span.greatest),
+        spare: spot.spare.saturating_sub(taken),
+    })?;
+    Ok(())
+}
+
+/// Adds a place to the sides of a fork that have scenarios which match its cube. The space is as before.
+fn keep(
+    low: &mut Vec<Spot>,
+    high: &mut Vec<Spot>,
+    space: &mut Space,
+    cubes: &[&Cube],
+    spot: Spot,
+    span: CutSpan,
+) -> Result<(), OutOfMemory>
+    requires { AreOpen space.old span.cut.variable span.cut.most }
+    ensures low { OnOk result (IsKept (λ s. (number_of s span.cut.variable ≤ span.cut.most) × IsMatched (map (λ b. b.now) cubes.now) s spot.place)
+        spot.place low.old.items low.new.items) }
+    ensures high { OnOk result (IsKept (λ s. (Lies space.old s × (span.cut.most < number_of s span.cut.variable)) ×
+        IsMatched (map (λ b. b.now) cubes.now) s spot.place) spot.place high.old.items high.new.items) }
+    ensures same { OnOk result (space.new ≡ space.old) }
+{
+    let Some(cube) = cubes.get(spot.place as usize) else {
+        return Ok(());
+    };
+    let literals = cube.literals();
+    let held = held_at(space, literals, spot.held, span.cut.variable);
+    let said = said_on(literals, held as usize, span.cut.variable);
+    let here = Spot {
+        place: spot.place,
+        held,
+        spare: spot.spare,
+    };
+    keep_below(low, said, here, span)?;
+    keep_above(high, space, literals, said, here, span)?;
+    Ok(())
+}
+
+/// A cut, with the numbers that a space leaves.
+fn span_of(space: &Space, cut: PlaceCut) -> CutSpan
+    ensures { result.cut ≡ cut }
+{
+    let next = cut.most.saturating_add(1);
+    CutSpan {
+        cut,
+        least: space.least(cut.variable),
+        next,
+        greatest: space.most(cut.variable),
+        faults: if cut.variable < FIRST_VALUE { next } else { 0 },
+    }
+}
+
+/// The places whose cubes some scenario of each side of a fork may match. The space is as before if it answers.
+fn parted(
+    alloc: Global,
+    space: &mut Space,
+    cubes: &[&Cube],
+    spots: &[Spot],
+    span: CutSpan,
+) -> Result<PlaceSides, OutOfMemory>
+    requires { AreOpen space.old span.cut.variable span.cut.most }
+    ensures low { IfOk result (λ r. KeepsWhere (map (λ b. b.now) cubes.now) (λ s. number_of s span.cut.variable ≤ span.cut.most)
+        (places_of spots.now) (places_of r.low.items)) }
+    ensures high { IfOk result (λ r. KeepsWhere (map (λ b. b.now) cubes.now) (λ s. Lies space.old s × (span.cut.most < number_of s span.cut.variable))
+        (places_of spots.now) (places_of r.high.items)) }
+    ensures same { IfOk result (λ _. space.new ≡ space.old) }
+{
+    let count = spots.len().min(AT_ONCE);
+    let mut low = Vec::with_capacity(alloc, count)?;
+    let mut high = Vec::with_capacity(alloc, count)?;
+    for spot in spots {
+        keep(&mut low, &mut high, space, cubes, *spot, span)?;
+    }
+    Ok(PlaceSides { low, high })
+}
+
+/// A cut that has numbers of the space on both sides.
+fn open_cut(space: &Space, variable: u8, most: u8) -> Option<PlaceCut>
+    ensures { IfSome result (λ r. AreOpen space.now r.variable r.most) }
+{
+    if !space.is_open_below(variable, most) {
+        return None;
+    }
+    if !space.is_open_above(variable, most) {
+        return None;
+    }
+    Some(PlaceCut { variable, most })
+}
+
+/// The cut at which a literal parts a space, if it does: just below its low, or at its high if the space leaves
+/// nothing below its low.
+pub(crate) fn cut_of(space: &Space, literal: Literal) -> Option<PlaceCut>
+    ensures { IfSome result (λ r. AreOpen space.now r.variable r.most) }
+{
+    let most = if literal.low > space.least(literal.variable) {
+        literal.low - 1
+    } else {
+        literal.high
+    };
+    open_cut(space, literal.variable, most)
+}
+
+/// Whether literals hold in the whole space.
+fn do_hold(space: &Space, literals: &[Literal]) -> bool
+    ensures { OnTrue result ((s : Scenario) → Lies space.now s → matches literals.now s ≡ true) }
+{
+    for literal in literals {
+        if !space.tells(literal) {
+            return false;
+        }
+    }
+    true
+}
+
+/// The literals of a place's cube from the first on that doesn't hold in the whole space.
+fn open_literals<'a>(space: &Space, cubes: &[&'a Cube], spot: Spot) -> &'a [Literal] {
+    let Some(cube) = cubes.get(spot.place as usize) else {
+        return &[];
+    };
+    let literals = cube.literals();
+    let from = literals
+        .len()
+        .min(held_on(space, literals, spot.held as usize));
+    &literals[from..]
+}
+
+/// Counts the open literals of some places.
+fn count_all(space: &Space, cubes: &[&Cube], spots: &[Spot], tally: &mut Tally) {
+    for spot in spots {
+        tally.add(open_literals(space, cubes, *spot));
+    }
+}
+
+/// Takes these counts away.
+fn clear_all(space: &Space, cubes: &[&Cube], spots: &[Spot], tally: &mut Tally) {
+    for spot in spots {
+        tally.clear(open_literals(space, cubes, *spot));
+    }
+}
+
+/// The cut that parts some places best, by a tally that has tables.
+fn best_cut(space: &Space, cubes: &[&Cube], spots: &[Spot], tally: &mut Tally) -> Option<PlaceCut>
+    ensures { IfSome result (λ r. AreOpen space.now r.variable r.most) }
+{
+    if !tally.is_kept() {
+        return None;
+    }
+    let first = *spots.first()?;
+    let count = u32::try_from(spots.len()).ok()?;
+    count_all(space, cubes, spots, tally);
+    let found = tally.best_by(open_literals(space, cubes, first), count);
+    clear_all(space, cubes, spots, tally);
+    let parting = found?;
+    open_cut(space, parting.variable, parting.most)
+}
+
+/// Where to part two or more places: where a tally says, or else at the first one's open literal.
+fn fork_at(
+    space: &Space,
+    cubes: &[&Cube],
+    spots: &[Spot],
+    literal: Literal,
+    tally: &mut Tally,
+) -> Option<PlaceCut>
+    ensures { IfSome result (λ r. AreOpen space.now r.variable r.most) }
+{
+    if spots.len() > 1 {
+        let best = best_cut(space, cubes, spots, tally);
+        if best.is_some() {
+            return best;
+        }
+    }
+    cut_of(space, literal)
+}
+
+/// The top of the tree of some places for the scenarios of a space.
+fn top_of(space: &Space, cubes: &[&Cube], spots: &[Spot], tally: &mut Tally) -> PlacesTop
+    ensures { IsTop (map (λ b. b.now) cubes.now) space.now (places_of spots.now) result }
+{
+    let Some((first, rest)) = spots.split_first() else {
+        return PlacesTop::Leaf(None);
+    };
+    let Some(cube) = cubes.get(first.place as usize) else {
+        return PlacesTop::Unknown;
+    };
+    let literals = cube.literals();
+    if let Some(literal) = open_literal(space, literals, first.held) {
+        return match fork_at(space, cubes, spots, literal, tally) {
+            Some(cut) => PlacesTop::Fork(cut),
+            None => PlacesTop::Unknown,
+        };
+    }
+    if !rest.is_empty() {
+        return PlacesTop::Unknown;
+    }
+    if !do_hold(space, literals) {
+        return PlacesTop::Unknown;
+    }
+    PlacesTop::Leaf(Some(first.place))
+}
+
+/// How many more nodes there may be if a fork parts so many places: each that goes to both sides counts as one.
+fn left_after(left: u32, count: usize, sides: &PlaceSides) -> u32
+    ensures { result ≤ left }
+{
+    let both = sides.low.len().saturating_add(sides.high.len());
+    let shared = both.saturating_sub(count).min(u32::MAX as usize);
+    left.saturating_sub(shared as u32)
+}
+
+/// The tree of places that a fork parts. The space is as before if there is a tree.
+#[cycle(sorted)]
+fn forked(
+    alloc: Global,
+    space: &mut Space,
+    cubes: &[&Cube],
+    spots: Vec<Spot>,
+    cut: PlaceCut,
+    left: u32,
+    tally: &mut Tally,
+) -> Result<Option<Sorted>, OutOfMemory>
+    requires { AreOpen space.old cut.variable cut.most }
+    ensures sorted { IfOk result (λ r. IfSome r (IsSorted (map (λ b. b.now) cubes.now) space.old (places_of spots.items) left)) }
+    ensures same { IfOk result (λ r. IfSome r (λ _. space.new ≡ space.old)) }
+{
+    let count = spots.len();
+    let span = span_of(space, cut);
+    let sides = parted(alloc, space, cubes, spots.as_slice(), span)?;
+    drop(spots);
+    let rest = left_after(left, count, &sides);
+    let most = space.close_above(cut.variable, cut.most);
+    let Some(below) = sorted_out(alloc, space, cubes, sides.low, rest, tally)? else {
+        return Ok(None);
+    };
+    space.reopen_above(cut.variable, most);
+    let was = space.close_below(cut.variable, cut.most);
+    let Some(above) = sorted_out(alloc, space, cubes, sides.high, below.left, tally)? else {
+        return Ok(None);
+    };
+    space.reopen_below(cut.variable, was);
+    let node = TreeNode::fork_of(alloc, cut.variable, cut.most, below.node, above.node)?;
+    Ok(Some(Sorted {
+        node,
+        left: above.left,
+    }))
+}
+
+/// The tree of these places for the scenarios of a space, with at most so many nodes; `None` if two cubes may match
+/// together, or if there would be more nodes. The space is as before if there is a tree.
+#[cycle(sorted)]
+fn sorted_out(
+    alloc: Global,
+    space: &mut Space,
+    cubes: &[&Cube],
+    spots: Vec<Spot>,
+    left: u32,
+    tally: &mut Tally,
+) -> Result<Option<Sorted>, OutOfMemory>
+    ensures sorted { IfOk result (λ r. IfSome r (IsSorted (map (λ b. b.now) cubes.now) space.old (places_of spots.items) left)) }
+    ensures same { IfOk result (λ r. IfSome r (λ _. space.new ≡ space.old)) }
+{
+    if left == 0 {
+        return Ok(None);
+    }
+    match top_of(space, cubes, spots.as_slice(), tally) {
+        PlacesTop::Unknown => Ok(None),
+        PlacesTop::Leaf(place) => Ok(Some(Sorted {
+            node: TreeNode::Leaf(place),
+            left: left - 1,
+        })),
+        PlacesTop::Fork(cut) => forked(alloc, space, cubes, spots, cut, left - 1, tally),
+    }
+}
+
+/// How many faults literals ask for.
+fn faults_asked(literals: &[Literal]) -> u8 {
+    let mut faults: u8 = 0;
+    for literal in literals {
+        if literal.variable >= FIRST_VALUE {
+            return faults;
+        }
+        faults = faults.saturating_add(literal.low);
+    }
+    faults
+}
+
+/// Adds a place, unless there are too few faults for its cube in the space of all scenarios of at most `k`.
+fn admit(
+    spots: &mut Vec<Spot>,
+    k: u8,
+    space: &Space,
+    cubes: &[&Cube],
+    place: u32,
+) -> Result<(), OutOfMemory>
+    ensures { OnOk result (IsKept (λ s. Lies space.now s × IsMatched (map (λ b. b.now) cubes.now) s place) place spots.old.items spots.new.items) }
+{
+    let Some(cube) = cubes.get(place as usize) else {
+        return Ok(());
+    };
+    let literals = cube.literals();
+    let asked = faults_asked(literals);
+    if asked > k {
+        if !space.affords(literals, 0) {
+            return Ok(());
+        }
+    }
+    spots.push(Spot {
+        place,
+        held: 0,
+        spare: k.saturating_sub(asked),
+    })?;
+    Ok(())
+}
+
+/// The places whose cubes some scenario of the space of all scenarios of at most `k` faults may match.
+fn spots_of(alloc: Global, k: u8, space: &Space, cubes: &[&Cube]) -> Result<Vec<Spot>, OutOfMemory>
+    requires { length cubes.now ≤ MOST_LOAD }
+    ensures { IfOk result (λ r. (s : Scenario) (i : ℕ) → Lies space.now s → IsMatched (map (λ b. b.now) cubes.now) s i → Contains (places_of r.items) i) }
+{
+    let mut spots = Vec::with_capacity(alloc, cubes.len())?;
+    for place in 0..cubes.len() as u32 {
+        admit(&mut spots, k, space, cubes, place)?;
+    }
+    Ok(spots)
+}
+
+/// The tree of places of cubes in any order, in the scenarios of at most `k` faults and with at most so many nodes, by forks
+/// that a tally chooses.
+fn all_sorted_by(
+    alloc: Global,
+    k: u8,
+    cubes: &[&Cube],
+    nodes: u32,
+    tally: &mut Tally,
+) -> Result<Option<TreeNode<Option<u32>>>, OutOfMemory>
+    requires { length cubes.now ≤ MOST_LOAD }
+    ensures { IfOk result (λ r. IfSome r (λ n. (s : Scenario) → HasFew k s → tells_cube (map (λ b. b.now) cubes.now) (value_at n s) s)) }
+{
+    let mut space = Space::whole(k);
+    let spots = spots_of(alloc, k, &space, cubes)?;
+    match sorted_out(alloc, &mut space, cubes, spots, nodes, tally)? {
+        Some(sorted) => Ok(Some(sorted.node)),
+        None => Ok(None),
+    }
+}
+
+/// As `all_sorted_by`, by forks at the first literal that is open, or, if that leads to no tree, by those that part
+/// the cubes best. The first is mostly a way, and takes less time.
+fn all_sorted_out(
+    alloc: Global,
+    k: u8,
+    cubes: &[&Cube],
+    nodes: u32,
+) -> Result<Option<TreeNode<Option<u32>>>, OutOfMemory>
+    requires { length cubes.now ≤ MOST_LOAD }
+    ensures { IfOk result (λ r. IfSome r (λ n. (s : Scenario) → HasFew k s → tells_cube (map (λ b. b.now) cubes.now) (value_at n s) s)) }
+{
+    let mut tally = Tally::new(alloc);
+    if let Some(root) = all_sorted_by(alloc, k, cubes, nodes, &mut tally)? {
+        return Ok(Some(root));
+    }
+    tally.keep(alloc)?;
+    let root = all_sorted_by(alloc, k, cubes, nodes, &mut tally)?;
+    Ok(root)
+}
+
+/// For each scenario the place of the one cube that it matches, if it matches one.
+#[derive(Drop)]
+pub struct Places {
+    root: TreeNode<Option<u32>>,
+}
+
+impl Places {
+    /// The places of cubes in the scenarios of at most `k` faults. `None` says nothing: two cubes may match together, or the
+    /// tree would be too large.
+    pub fn of(alloc: Global, k: u8, cubes: &[&Cube]) -> Result<Option<Places>, OutOfMemory>
+        requires { length cubes.now ≤ MOST_LOAD }
+        ensures { IfOk result (λ r. IfSome r (λ t. (s : Scenario) → HasFew k s → tells_cube (map (λ b. b.now) cubes.now) (place_at t s) s)) }
+    {
+        let nodes = cubes.len() as u32 * EACH + FEW;
+        // rows mostly stand as a tree lists them, and then this is faster
+        if let Some(root) = led_out(alloc, k, cubes, nodes)? {
+            return Ok(Some(Places { root }));
+        }
+        let nodes = cubes.len() as u32 * EACH_SHARED + FEW_SHARED;
+        let Some(root) = all_sorted_out(alloc, k, cubes, nodes)? else {
+            return Ok(None);
+        };
+        Ok(Some(Places { root }))
+    }
+
+    /// Whether a test passes at each place that scenarios of a space come to.
+    pub fn do_pass<J: Test>(&self, space: &Space, test: &J) -> bool
+        ensures { OnTrue result ((s : Scenario) → Lies space.now s → J.tells test.now (place_at self.now s) s) }
+    {
+        do_pass(&self.root, space, test)
+    }
+
+    /// Whether a test passes at each two places that scenarios of a space come to here and in another tree.
+    pub fn do_pass_with<J: PairTest>(&self, other: &Places, space: &Space, test: &J) -> bool
+        ensures { OnTrue result ((s : Scenario) → Lies space.now s → J.tells test.now (place_at self.now s) (place_at other.now s) s) }
+    {
+        do_pass_with(&self.root, &other.root, space, test)
+    }
+
+    /// Adds the places that scenarios of a space come to, as long as there is one and a test passes at each; false if it
+    /// stopped before the last.
+    pub fn gather<J: Test>(
+        &self,
+        space: &Space,
+        test: &J,
+        found: &mut Vec<u32>,
+    ) -> Result<bool, OutOfMemory>
+        ensures { IfOk result (λ all. OnTrue all ((s : Scenario) → Lies space.now s → J.tells test.now (place_at self.now s) s ×
+            IsAmong found.new.items (place_at self.now s))) }
+    {
+        let all = gather(&self.root, space, test, found)?;
+        Ok(all)
+    }
+}

@@ -1,0 +1,581 @@
+//! The tree of the places of cubes that stand as a tree lists them: each fork parts the cubes in two slices, so that no cube
+//! is visited but at its own leaf, and where a border is looked for.
+ghost use Rattle.std.specs.Prelude.{◌+◌, ◌≡◌, ◌≤◌, ◌<◌, IfOk, IfSome, Some, length, map, true};
+ghost use Rattle.std.specs.Bool.{OnTrue};
+ghost use Rattle.cpg_base.specs.Scenario.{Scenario};
+ghost use Rattle.cpg_base.specs.declared.limits.TheConstants.{MOST_LOAD};
+ghost use Rattle.cpg_cube.specs.Cube.{IsRising, holds};
+ghost use Rattle.cpg_tree.specs.Space.{Lies, HasFew, is_open_above};
+ghost use Rattle.cpg_tree.specs.Decision.{value_at};
+ghost use Rattle.cpg_row_trees.specs.Places.{tells_cube};
+ghost use Rattle.cpg_row_trees.specs.Spots.{AreOpen};
+ghost use Rattle.cpg_row_trees.specs.Slices.{IsReached, IsLead, IsLed, IsInside, IsLastOn, IsEntered, IsOwn, AreBounds, AreSides, is_narrow, left_by, met_by, narrowed};
+
+use crate::places::{PlaceCut, Sorted, cut_of, literal_from, literal_up_to, open_value};
+use cpg_base::{OutOfMemory, top};
+use cpg_cube::{Cube, Literal};
+use cpg_tree::{Space, TreeNode};
+use std::alloc::Global;
+
+/// How the variable is found at which a slice parts: a guess, that no clause speaks of.
+#[derive(Clone, Copy)]
+enum GuessedWay {
+    /// By the first literal that doesn't hold in the whole space: in cubes that stand by the numbers of the variables.
+    ByNumber,
+    /// By the first on which the last cube asks for more than the first cube does: in cubes that stand by another order.
+    ByEnds,
+}
+
+/// Cubes that stand together, from a place up to another, in a space in which so many variables are narrower than in all
+/// scenarios. `held` is where to look first in the literals: a hint, that no clause speaks of.
+#[derive(Clone, Copy)]
+struct Slice {
+    from: u32,
+    to: u32,
+    narrow: u32,
+    held: usize,
+    way: GuessedWay,
+}
+
+/// Where a slice parts, and how many of its first cube's literals stand before the one that tells it.
+#[derive(Clone, Copy)]
+struct SlicePart {
+    cut: PlaceCut,
+    held: usize,
+}
+
+/// What a fork says of its sides.
+#[derive(Clone, Copy)]
+struct ForkSides {
+    below: Literal,
+    above: Literal,
+}
+
+/// What stands at the top of the tree of a slice.
+#[derive(Clone, Copy)]
+enum Lead {
+    Leaf(Option<u32>),
+    Fork(SlicePart),
+    /// The cubes don't stand as a tree lists them.
+    Unknown,
+}
+
+/// Whether a space leaves fewer numbers of a variable than all scenarios of at most `k` faults do.
+fn is_narrow(k: u8, space: &Space, variable: u8) -> bool
+    ensures { result ≡ is_narrow k space.now variable }
+{
+    if space.low[variable as usize] > 0 {
+        return true;
+    }
+    space.high[variable as usize] < top(k, variable)
+}
+
+/// Whether all of a literal's numbers are in range.
+fn is_inside(space: &Space, literal: &Literal) -> bool
+    ensures { OnTrue result (IsInside space.now literal.now) }
+{
+    if literal.low < space.low[literal.variable as usize] {
+        return false;
+    }
+    literal.high <= space.high[literal.variable as usize]
+}
+
+/// Whether all numbers in range are a literal's.
+fn is_filled(space: &Space, literal: &Literal) -> bool
+    ensures { OnTrue result ((s : Scenario) → Lies space.now s → holds s literal.now ≡ true) }
+{
+    if space.low[literal.variable as usize] < literal.low {
+        return false;
+    }
+    space.high[literal.variable as usize] <= literal.high
+}
+
+/// Whether a literal holds in the whole space and doesn't go beyond it.
+fn is_bound(space: &Space, literal: &Literal) -> bool
+    ensures hold { OnTrue result ((s : Scenario) → Lies space.now s → holds s literal.now ≡ true) }
+    ensures inside { OnTrue result (IsInside space.now literal.now) }
+{
+    if !is_inside(space, literal) {
+        return false;
+    }
+    // mostly so, and then the faults that are left don't matter
+    if is_filled(space, literal) {
+        return true;
+    }
+    space.tells(literal)
+}
+
+/// 1 for a variable that is narrow.
+fn narrowed(k: u8, space: &Space, variable: u8) -> u32
+    ensures { result ≡ narrowed k space.now variable }
+{
+    if is_narrow(k, space, variable) { 1 } else { 0 }
+}
+
+/// How many variables are narrow if this one is narrowed too, unless that is too great a number.
+fn narrow_with(k: u8, space: &Space, variable: u8, narrow: u32) -> Option<u32>
+    ensures { IfSome result (λ n. narrow + 1 ≤ n + narrowed k space.now variable) }
+{
+    narrow.checked_add(1 - narrowed(k, space, variable))
+}
+
+/// How many of the literals are on narrow variables, if each of them holds in the whole space and none goes beyond it.
+fn bounds_of(k: u8, space: &Space, literals: &[Literal]) -> Option<u32>
+    ensures { IfSome result (AreBounds k space.now literals.now) }
+{
+    let mut found: u32 = 0;
+    for literal in literals {
+        if !is_bound(space, literal) {
+            return None;
+        }
+        found = found.saturating_add(narrowed(k, space, literal.variable));
+    }
+    Some(found)
+}
+
+/// Whether the scenarios of a space are those of at most `k` faults that literals match.
+fn is_their_own(k: u8, space: &Space, narrow: u32, literals: &[Literal]) -> bool
+    requires rising { IsRising literals.now }
+    requires reached { IsReached k space.now narrow }
+    ensures { OnTrue result (IsOwn k space.now literals.now) }
+{
+    match bounds_of(k, space, literals) {
+        Some(found) => narrow <= found,
+        None => false,
+    }
+}
+
+/// What a fork says of its sides; and how long the lists of a space are, which is known where they are read.
+fn sides_of(k: u8, space: &Space, cut: PlaceCut) -> ForkSides
+    requires { is_open_above space.now cut.variable cut.most ≡ true }
+    ensures sides { AreSides k cut.variable cut.most result }
+    ensures lows { length space.now.low ≡ 256 }
+    ensures highs { length space.now.high ≡ 256 }
+{
+    // each read tells that its list has 256 numbers, and that the high fits its type tells that `cut.most + 1` does
+    let _low = space.low[cut.variable as usize];
+    let _high = space.high[cut.variable as usize];
+    ForkSides {
+        below: Literal {
+            variable: cut.variable,
+            low: 0,
+            high: cut.most,
+        },
+        above: Literal {
+            variable: cut.variable,
+            low: cut.most + 1,
+            high: top(k, cut.variable),
+        },
+    }
+}
+
+/// What two ranges of a variable have in common.
+fn met_by(last: Literal, literal: Literal) -> Literal
+    ensures { result ≡ met_by last literal }
+{
+    Literal {
+        variable: last.variable,
+        low: last.low.max(literal.low),
+        high: last.high.min(literal.high),
+    }
+}
+
+/// The last of some literals, if it is on this variable.
+fn last_on(literals: &[Literal], variable: u8) -> Option<Literal>
+    ensures { IfSome result (IsLastOn literals.now variable) }
+{
+    let last = *literals.last()?;
+    if last.variable != variable {
+        return None;
+    }
+    Some(last)
+}
+
+/// Puts a literal in place of the last.
+fn put_last(path: &mut Vec<Literal>, literal: Literal)
+    requires { 0 < length path.old.items }
+    ensures { path.new.items ≡ left_by (Some literal) path.old.items }
+{
+    let last = path.len() - 1;
+    path[last] = literal;
+}
+
+/// Adds to the literals of a path what a fork says of a side: to the last one, if that is on its variable. What that was is
+/// for `leave`.
+fn enter(path: &mut Vec<Literal>, literal: Literal) -> Result<Option<Literal>, OutOfMemory>
+    ensures { IfOk result (IsEntered path.old.items literal path.new.items) }
+{
+    match last_on(path.as_slice(), literal.variable) {
+        Some(last) => {
+            put_last(path, met_by(last, literal));
+            Ok(Some(last))
+        }
+        None => {
+            path.push(literal)?;
+            Ok(None)
+        }
+    }
+}
+
+/// Takes back what `enter` added.
+fn leave(path: &mut Vec<Literal>, was: Option<Literal>)
+    requires { 0 < length path.old.items }
+    ensures { path.new.items ≡ left_by was path.old.items }
+{
+    match was {
+        Some(literal) => put_last(path, literal),
+        None => path.truncate(path.len() - 1),
+    }
+}
+
+fn is_same(literal: Literal, other: Literal) -> bool
+    ensures { OnTrue result (literal ≡ other) }
+{
+    (literal.variable == other.variable) & (literal.low == other.low) & (literal.high == other.high)
+}
+
+/// Whether eight literals are the same: without a way out before the last, so that the compiler compares them at once.
+fn are_eight_same(literals: &[Literal; 8], others: &[Literal; 8]) -> bool
+    ensures { OnTrue result (literals.now ≡ others.now) }
+{
+    let mut are = true;
+    for at in 0..8 {
+        are &= is_same(literals[at], others[at]);
+    }
+    are
+}
+
+/// Whether literals are the same, one after another.
+fn are_each_same(literals: &[Literal], others: &[Literal]) -> bool
+    ensures { OnTrue result (literals.now ≡ others.now) }
+{
+    if literals.len() != others.len() {
+        return false;
+    }
+    for at in 0..literals.len() {
+        if !is_same(literals[at], others[at]) {
+            return false;
+        }
+    }
+    true
+}
+
+/// Whether literals are the same.
+fn are_same(literals: &[Literal], others: &[Literal]) -> bool
+    ensures { OnTrue result (literals.now ≡ others.now) }
+{
+    let Some((block, rest)) = literals.split_first_chunk::<8>() else {
+        return are_each_same(literals, others);
+    };
+    let Some((other, behind)) = others.split_first_chunk::<8>() else {
+        return false;
+    };
+    if !are_eight_same(block, other) {
+        return false;
+    }
+    are_same(rest, behind)
+}
+
+/// The first literal from a place on that doesn't hold in the whole space, as a part of it.
+fn part_from(space: &Space, literals: &[Literal], from: usize) -> Option<SlicePart>
+    ensures { IfSome result (λ r. AreOpen space.now r.cut.variable r.cut.most) }
+{
+    for at in from..literals.len() {
+        if !space.tells(&literals[at]) {
+            let cut = cut_of(space, literals[at])?;
+            return Some(SlicePart { cut, held: at });
+        }
+    }
+    None
+}
+
+/// The literal on a variable, if there is one, looked for from a place on to both sides.
+fn literal_near(literals: &[Literal], place: usize, variable: u8) -> Option<Literal> {
+    let Some(here) = literals.get(place) else {
+        return literal_up_to(literals, literals.len(), variable);
+    };
+    if here.variable > variable {
+        return literal_up_to(literals, place, variable);
+    }
+    literal_from(literals, place, variable)
+}
+
+/// Whether literals ask for more than a literal allows, looked for from a place on.
+fn asks_more(literals: &[Literal], place: usize, literal: Literal) -> bool {
+    match literal_near(literals, place, literal.variable) {
+        Some(other) => literal.high < other.low,
+        None => false,
+    }
+}
+
+/// The place of the first literal for which other literals ask for more, if there is one.
+fn place_apart(literals: &[Literal], others: &[Literal]) -> Option<usize> {
+    for at in 0..literals.len() {
+        if asks_more(others, at, literals[at]) {
+            return Some(at);
+        }
+    }
+    None
+}
+
+/// Where the first and the last cube of a slice part a space: where its part did, if they do there still.
+fn part_by_ends(
+    space: &Space,
+    first: &[Literal],
+    last: &[Literal],
+    held: usize,
+) -> Option<SlicePart>
+    ensures { IfSome result (λ r. AreOpen space.now r.cut.variable r.cut.most) }
+{
+    let mut at = held;
+    if at >= first.len() || !asks_more(last, at, first[at]) {
+        at = place_apart(first, last)?;
+    }
+    let cut = cut_of(space, *first.get(at)?)?;
+    Some(SlicePart { cut, held: at })
+}
+
+/// Where a slice parts a space, by its first cube's literals and by the last cube, if it is to be seen by these.
+fn part_apart(
+    space: &Space,
+    cubes: &[&Cube],
+    literals: &[Literal],
+    slice: Slice,
+) -> Option<SlicePart>
+    ensures { IfSome result (λ r. AreOpen space.now r.cut.variable r.cut.most) }
+{
+    match slice.way {
+        GuessedWay::ByNumber => None,
+        GuessedWay::ByEnds => {
+            let last = cubes.get(slice.to.saturating_sub(1) as usize)?;
+            part_by_ends(space, literals, last.literals(), slice.held)
+        }
+    }
+}
+
+/// Where a slice parts a space: by a value of its first cube if one doesn't hold in the whole space, or else by a count.
+fn part_of(space: &Space, cubes: &[&Cube], literals: &[Literal], slice: Slice) -> Option<SlicePart>
+    ensures { IfSome result (λ r. AreOpen space.now r.cut.variable r.cut.most) }
+{
+    if let Some(value) = open_value(space, literals) {
+        let cut = cut_of(space, value)?;
+        return Some(SlicePart {
+            cut,
+            held: slice.held,
+        });
+    }
+    if let Some(part) = part_apart(space, cubes, literals, slice) {
+        return Some(part);
+    }
+    if let Some(part) = part_from(space, literals, slice.held) {
+        return Some(part);
+    }
+    // the hint may be wrong
+    part_from(space, literals, 0)
+}
+
+/// The top of the tree of a slice for the scenarios of a space, which are those that the literals of a path match.
+fn lead_of(k: u8, space: &Space, path: &[Literal], cubes: &[&Cube], slice: Slice) -> Lead
+    requires reached { IsReached k space.now slice.narrow }
+    requires own { IsOwn k space.now path.now }
+    ensures { IsLead (map (λ b. b.now) cubes.now) k space.now slice.from slice.to result }
+{
+    if slice.to <= slice.from {
+        return Lead::Leaf(None);
+    }
+    let Some(cube) = cubes.get(slice.from as usize) else {
+        return Lead::Unknown;
+    };
+    let literals = cube.literals();
+    if slice.to - slice.from == 1 {
+        // mostly so if the cubes stand by the numbers of the variables
+        if are_same(path, literals) {
+            return Lead::Leaf(Some(slice.from));
+        }
+        if is_their_own(k, space, slice.narrow, literals) {
+            return Lead::Leaf(Some(slice.from));
+        }
+    }
+    match part_of(space, cubes, literals, slice) {
+        Some(part) => Lead::Fork(part),
+        None => Lead::Unknown,
+    }
+}
+
+/// Whether the cube at a place asks for a number above a cut.
+fn is_above(cubes: &[&Cube], place: u32, part: SlicePart) -> bool {
+    let Some(cube) = cubes.get(place as usize) else {
+        return true;
+    };
+    match literal_near(cube.literals(), part.held, part.cut.variable) {
+        Some(literal) => literal.low > part.cut.most,
+        None => false,
+    }
+}
+
+/// Where in a slice the first place has to be from which on all cubes ask for a number above a cut, if those that do are the
+/// last: from a place up to another. Looked for from the end in steps that double, as mostly few cubes do, and those near by
+/// were looked at before.
+fn around_border(cubes: &[&Cube], slice: Slice, part: SlicePart) -> (u32, u32) {
+    let mut end = slice.to;
+    let mut step: u32 = 1;
+    while end > slice.from {
+        let place = end - step.min(end - slice.from);
+        if !is_above(cubes, place, part) {
+            return (place + 1, end);
+        }
+        end = place;
+        step = step.saturating_mul(2);
+    }
+    (end, end)
+}
+
+/// The first place of a slice from which on all cubes ask for a number above a cut, if those that do are the last.
+fn border_of(cubes: &[&Cube], slice: Slice, part: SlicePart) -> u32 {
+    let (mut first, mut end) = around_border(cubes, slice, part);
+    while first < end {
+        let middle = first + (end - first) / 2;
+        if is_above(cubes, middle, part) {
+            end = middle;
+        } else {
+            first = middle + 1;
+        }
+    }
+    first
+}
+
+/// The tree of a slice that a fork parts. The space and the path are as before if there is a tree.
+#[cycle(led)]
+fn led_apart(
+    k: u8,
+    space: &mut Space,
+    path: &mut Vec<Literal>,
+    cubes: &[&Cube],
+    slice: Slice,
+    part: SlicePart,
+    left: u32,
+) -> Result<Option<Sorted>, OutOfMemory>
+    requires open { AreOpen space.old part.cut.variable part.cut.most }
+    requires reached { IsReached k space.old slice.narrow }
+    requires own { IsOwn k space.old path.old.items }
+    ensures led { IfOk result (λ r. IfSome r (IsLed (map (λ b. b.now) cubes.now) k space.old slice.from slice.to left)) }
+    ensures same { IfOk result (λ r. IfSome r (λ _. space.new ≡ space.old)) }
+    ensures path { IfOk result (λ r. IfSome r (λ _. path.new.items ≡ path.old.items)) }
+{
+    let cut = part.cut;
+    let sides = sides_of(k, space, cut);
+    let Some(narrow) = narrow_with(k, space, cut.variable, slice.narrow) else {
+        return Ok(None);
+    };
+    let border = border_of(cubes, slice, part);
+    let low = Slice {
+        from: slice.from,
+        to: border,
+        narrow,
+        held: part.held,
+        way: slice.way,
+    };
+    let high = Slice {
+        from: border,
+        to: slice.to,
+        narrow,
+        held: part.held,
+        way: slice.way,
+    };
+    let most = space.close_above(cut.variable, cut.most);
+    let under = enter(path, sides.below)?;
+    let Some(below) = led(k, space, path, cubes, low, left)? else {
+        return Ok(None);
+    };
+    leave(path, under);
+    space.reopen_above(cut.variable, most);
+    let was = space.close_below(cut.variable, cut.most);
+    let over = enter(path, sides.above)?;
+    let Some(above) = led(k, space, path, cubes, high, below.left)? else {
+        return Ok(None);
+    };
+    leave(path, over);
+    space.reopen_below(cut.variable, was);
+    let alloc = *path.allocator();
+    let node = TreeNode::fork_of(alloc, cut.variable, cut.most, below.node, above.node)?;
+    Ok(Some(Sorted {
+        node,
+        left: above.left,
+    }))
+}
+
+/// The tree of a slice for the scenarios of a space, which are those that the literals of a path match, with at most so many
+/// nodes; `None` if the cubes don't stand as a tree lists them, or if there would be more nodes. The space and the path
+/// are as before if there is a tree.
+#[cycle(led)]
+fn led(
+    k: u8,
+    space: &mut Space,
+    path: &mut Vec<Literal>,
+    cubes: &[&Cube],
+    slice: Slice,
+    left: u32,
+) -> Result<Option<Sorted>, OutOfMemory>
+    requires reached { IsReached k space.old slice.narrow }
+    requires own { IsOwn k space.old path.old.items }
+    ensures led { IfOk result (λ r. IfSome r (IsLed (map (λ b. b.now) cubes.now) k space.old slice.from slice.to left)) }
+    ensures same { IfOk result (λ r. IfSome r (λ _. space.new ≡ space.old)) }
+    ensures path { IfOk result (λ r. IfSome r (λ _. path.new.items ≡ path.old.items)) }
+{
+    if left == 0 {
+        return Ok(None);
+    }
+    match lead_of(k, space, path.as_slice(), cubes, slice) {
+        Lead::Unknown => Ok(None),
+        Lead::Leaf(place) => Ok(Some(Sorted {
+            node: TreeNode::Leaf(place),
+            left: left - 1,
+        })),
+        Lead::Fork(part) => led_apart(k, space, path, cubes, slice, part, left - 1),
+    }
+}
+
+/// The tree of the places of cubes that stand as a tree lists them, in the scenarios of at most `k` faults and with at most
+/// so many nodes, if the slices are found in one way.
+fn led_by(
+    alloc: Global,
+    k: u8,
+    cubes: &[&Cube],
+    nodes: u32,
+    way: GuessedWay,
+) -> Result<Option<TreeNode<Option<u32>>>, OutOfMemory>
+    requires { length cubes.now ≤ MOST_LOAD }
+    ensures { IfOk result (λ r. IfSome r (λ n. (s : Scenario) → HasFew k s → tells_cube (map (λ b. b.now) cubes.now) (value_at n s) s)) }
+{
+    let mut space = Space::whole(k);
+    let slice = Slice {
+        from: 0,
+        to: cubes.len() as u32,
+        narrow: 0,
+        held: 0,
+        way,
+    };
+    let mut path = Vec::new(alloc);
+    match led(k, &mut space, &mut path, cubes, slice, nodes)? {
+        Some(sorted) => Ok(Some(sorted.node)),
+        None => Ok(None),
+    }
+}
+
+/// The tree of the places of cubes that stand as a tree lists them, in the scenarios of at most `k` faults and with at most
+/// so many nodes; `None` if they don't, or if there would be more nodes.
+pub(crate) fn led_out(
+    alloc: Global,
+    k: u8,
+    cubes: &[&Cube],
+    nodes: u32,
+) -> Result<Option<TreeNode<Option<u32>>>, OutOfMemory>
+    requires { length cubes.now ≤ MOST_LOAD }
+    ensures { IfOk result (λ r. IfSome r (λ n. (s : Scenario) → HasFew k s → tells_cube (map (λ b. b.now) cubes.now) (value_at n s) s)) }
+{
+    if let Some(root) = led_by(alloc, k, cubes, nodes, GuessedWay::ByNumber)? {
+        return Ok(Some(root));
+    }
+    let root = led_by(alloc, k, cubes, nodes, GuessedWay::ByEnds)?;
+    Ok(root)
+}

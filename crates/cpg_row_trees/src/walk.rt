@@ -1,0 +1,185 @@
+//! Whether a test passes wherever scenarios of a space come to.
+ghost use Rattle.std.specs.Prelude.{◌≡◌, ℕ, Option};
+ghost use Rattle.std.specs.Bool.{OnTrue};
+ghost use Rattle.cpg_base.specs.Scenario.{Scenario};
+ghost use Rattle.cpg_tree.specs.Space.{Lies};
+ghost use Rattle.cpg_tree.specs.Decision.{value_at};
+
+use cpg_tree::{Space, TreeNode};
+
+/// A test of the places that scenarios come to: what it tells if it passes.
+pub trait Test {
+    ghost tells: { Self → Option ℕ → Scenario → Type 0 };
+
+    /// Whether a place passes, as far as scenarios of a space come to it.
+    fn passes(&self, place: Option<u32>, space: &Space) -> bool
+        ensures { OnTrue result ((s : Scenario) → Lies space.now s → tells self.now place s) };
+}
+
+/// A test of the places that scenarios come to in two trees: what it tells if it passes.
+pub trait PairTest {
+    ghost tells: { Self → Option ℕ → Option ℕ → Scenario → Type 0 };
+
+    /// Whether a place of the first tree passes with any of the second.
+    fn passes_with_any(&self, first: Option<u32>) -> bool
+        ensures { OnTrue result ((second : Option ℕ) (s : Scenario) → tells self.now first second s) };
+
+    /// Whether a place of each passes, as far as scenarios of a space come to both.
+    fn passes(&self, first: Option<u32>, second: Option<u32>, space: &Space) -> bool
+        ensures { OnTrue result ((s : Scenario) → Lies space.now s → tells self.now first second s) };
+}
+
+/// A test of the second tree's places, beside one of the first.
+#[derive(Drop)]
+struct Beside<'a, J> {
+    test: &'a J,
+    first: Option<u32>,
+}
+
+impl<'a, J: PairTest> Test for Beside<'a, J> {
+    ghost tells = { λ beside second s. J.tells beside.test.now beside.first second s };
+
+    fn passes(&self, place: Option<u32>, space: &Space) -> bool {
+        self.test.passes(self.first, place, space)
+    }
+}
+
+/// Whether a test passes at each place that scenarios of a space come to. The space is changed on the way, and is as
+/// before if the test passes at each.
+fn do_pass_each<J: Test>(node: &TreeNode<Option<u32>>, space: &mut Space, test: &J) -> bool
+    ensures passed { OnTrue result ((s : Scenario) → Lies space.old s → J.tells test.now (value_at node.now s) s) }
+    ensures same { OnTrue result (space.new ≡ space.old) }
+{
+    match node {
+        TreeNode::Leaf(place) => test.passes(*place, space),
+        TreeNode::Fork {
+            variable,
+            cut,
+            sides,
+        } => {
+            let (below, above) = &**sides;
+            if !space.is_open_below(*variable, *cut) {
+                return do_pass_each(above, space, test);
+            }
+            if !space.is_open_above(*variable, *cut) {
+                return do_pass_each(below, space, test);
+            }
+            let most = space.close_above(*variable, *cut);
+            if !do_pass_each(below, space, test) {
+                return false;
+            }
+            space.reopen_above(*variable, most);
+            let was = space.close_below(*variable, *cut);
+            if !do_pass_each(above, space, test) {
+                return false;
+            }
+            space.reopen_below(*variable, was);
+            true
+        }
+    }
+}
+
+/// As `do_pass_each`, with a space of its own to change. It is a function of its own, since that space is cleared at
+/// each call.
+fn do_pass_in_all<J: Test>(node: &TreeNode<Option<u32>>, space: &Space, test: &J) -> bool
+    ensures { OnTrue result ((s : Scenario) → Lies space.now s → J.tells test.now (value_at node.now s) s) }
+{
+    let mut own = *space;
+    do_pass_each(node, &mut own, test)
+}
+
+/// Whether a test passes at each place that scenarios of a space come to. The space isn't copied as long as one side of
+/// each fork is closed, as mostly.
+pub(crate) fn do_pass<J: Test>(node: &TreeNode<Option<u32>>, space: &Space, test: &J) -> bool
+    ensures { OnTrue result ((s : Scenario) → Lies space.now s → J.tells test.now (value_at node.now s) s) }
+{
+    match node {
+        TreeNode::Leaf(place) => test.passes(*place, space),
+        TreeNode::Fork {
+            variable,
+            cut,
+            sides,
+        } => {
+            let (below, above) = &**sides;
+            if !space.is_open_below(*variable, *cut) {
+                return do_pass(above, space, test);
+            }
+            if !space.is_open_above(*variable, *cut) {
+                return do_pass(below, space, test);
+            }
+            do_pass_in_all(node, space, test)
+        }
+    }
+}
+
+/// Whether a test passes at a place of the first tree with each place of a second that scenarios of a space come to.
+/// The space is changed on the way, and is as before if the test passes with each.
+fn do_pass_at<J: PairTest>(
+    first: Option<u32>,
+    second: &TreeNode<Option<u32>>,
+    space: &mut Space,
+    test: &J,
+) -> bool
+    ensures passed { OnTrue result ((s : Scenario) → Lies space.old s → J.tells test.now first (value_at second.now s) s) }
+    ensures same { OnTrue result (space.new ≡ space.old) }
+{
+    if test.passes_with_any(first) {
+        return true;
+    }
+    let beside = Beside { test, first };
+    do_pass_each(second, space, &beside)
+}
+
+/// Whether a test passes at each two places that scenarios of a space come to in two trees. The second is walked down
+/// with the first. The space is changed on the way, and is as before if the test passes at each two.
+fn do_pass_both<J: PairTest>(
+    first: &TreeNode<Option<u32>>,
+    second: &TreeNode<Option<u32>>,
+    space: &mut Space,
+    test: &J,
+) -> bool
+    ensures passed { OnTrue result ((s : Scenario) → Lies space.old s → J.tells test.now (value_at first.now s) (value_at second.now s) s) }
+    ensures same { OnTrue result (space.new ≡ space.old) }
+{
+    match first {
+        TreeNode::Leaf(place) => do_pass_at(*place, second, space, test),
+        TreeNode::Fork {
+            variable,
+            cut,
+            sides,
+        } => {
+            let (below, above) = &**sides;
+            let part = second.part_in(space);
+            if !space.is_open_below(*variable, *cut) {
+                return do_pass_both(above, part, space, test);
+            }
+            if !space.is_open_above(*variable, *cut) {
+                return do_pass_both(below, part, space, test);
+            }
+            let most = space.close_above(*variable, *cut);
+            if !do_pass_both(below, part, space, test) {
+                return false;
+            }
+            space.reopen_above(*variable, most);
+            let was = space.close_below(*variable, *cut);
+            if !do_pass_both(above, part, space, test) {
+                return false;
+            }
+            space.reopen_below(*variable, was);
+            true
+        }
+    }
+}
+
+/// Whether a test passes at each two places that scenarios of a space come to in two trees.
+pub(crate) fn do_pass_with<J: PairTest>(
+    first: &TreeNode<Option<u32>>,
+    second: &TreeNode<Option<u32>>,
+    space: &Space,
+    test: &J,
+) -> bool
+    ensures { OnTrue result ((s : Scenario) → Lies space.now s → J.tells test.now (value_at first.now s) (value_at second.now s) s) }
+{
+    let mut own = *space;
+    do_pass_both(first, second, &mut own, test)
+}

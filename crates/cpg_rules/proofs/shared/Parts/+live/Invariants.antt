@@ -1,6 +1,0 @@
-use Rattle.cpg_rules.specs.Trees.{size_of}
-use Rattle.cpg_rules.specs.Sharing.{tree_at}
-use Rattle.cpg_rules.proofs.shared.Parts.+live.Given as goal
-
-abbrev pub decreases-live : goal.decreases-live
-decreases-live l = size_of (tree_at l.self.now.parts l.source)

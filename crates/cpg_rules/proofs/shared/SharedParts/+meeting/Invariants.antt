@@ -1,0 +1,14 @@
+use Rattle.std.proofs.Common.{◌+◌, ◌*◌, max}
+use Rattle.cpg_rules.specs.Trees.{size_of}
+use Rattle.cpg_rules.specs.Sharing.{tree_at}
+use Rattle.cpg_rules.proofs.shared.SharedParts.+meeting.Given as goal
+
+abbrev pub decreases-both : goal.decreases-both
+decreases-both l = 4 * max (size_of (tree_at l.self.now.parts l.no.0) + size_of (tree_at l.self.now.parts l.no.1))
+    (size_of (tree_at l.self.now.parts l.yes.0) + size_of (tree_at l.self.now.parts l.yes.1)) + 2
+
+abbrev pub decreases-met : goal.decreases-met
+decreases-met l = 4 * (size_of (tree_at l.self.now.parts l.first) + size_of (tree_at l.self.now.parts l.second)) + 1
+
+abbrev pub decreases-walked : goal.decreases-walked
+decreases-walked l = 4 * (size_of (tree_at l.self.now.parts l.first) + size_of (tree_at l.self.now.parts l.second))

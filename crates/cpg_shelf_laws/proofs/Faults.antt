@@ -1,0 +1,48 @@
+-- A fault of the shelf is counted.
+use Rattle.std.proofs.Common.{◌≡◌, ◌∙◌, List, [], ◌∷◌, ◌++◌, Option, length, ap, sym, arith, inl, inr}
+use Rattle.std.specs.Prelude.{◌⊎◌}
+use Rattle.std.proofs.lemmas.List.{length-append}
+use Rattle.cpg_history.specs.Fetch.{Fetch}
+use Rattle.cpg_base.specs.Graph.{Graph}
+use Rattle.cpg_io.specs.Causes.{Rose}
+use Rattle.cpg_io.specs.Shelf.{KeepsShelf}
+use Rattle.cpg_refusal.specs.declared.halt.Halt.{Halt}
+use Rattle.cpg_refusal.specs.declared.halt.Halt.TheVariants.{Read}
+use Rattle.cpg_refusal.specs.Lines.{status_of}
+use Rattle.cpg_inputs.specs.Files.{File, files_of}
+use Rattle.cpg_inputs.specs.Says.{graph_after}
+use Rattle.cpg_inputs.specs.Reading.{StopsReading}
+use Rattle.cpg_inputs.proofs.OneReading.{stops_grown}
+use Rattle.cpg_app.specs.Endings.{Ran as Run, IsTold as IsToldRun, Stops as StopsRun}
+use Rattle.cpg_app.specs.Lawful.{IsFailed, IsUnreadStream as IsUnreadRun}
+use Rattle.cpg_app.proofs.Statuses.{of_work}
+use Rattle.cpg_shelf_laws.proofs.Fetched.{last}
+
+longer : (f : Fetch) (newer past now : List Fetch) → now ≡ newer ++ f ∷ past → now ≡ past → ⊥
+longer f newer past now is same = let l = ap (λ (h : List Fetch). length h) (sym is ∙ same) in let k = length-append newer (f ∷ past) in omega (arith, l, k)
+
+grows : (g : Option Graph) (files : List File) (past now : List Fetch) (h : Halt) → StopsReading g files past now h → now ≡ past → ⊥
+grows g [] past now h s same = absurd s
+grows g (file ∷ files) past now h (f, inl here) same = longer f [] past now here.1 same
+grows g (file ∷ files) past now h (f, inr (v, read, there)) same =
+    let x = stops_grown (graph_after g v) files (f ∷ past) now h there in
+    longer f x.fetches past now x.is same
+
+module _ (r : Run) (k : KeepsShelf r.shelf.old r.shelf.new) where
+  not_same : StopsRun r Read → r.shelf.new.history ≡ r.shelf.old.history → ⊥
+  not_same (inl s) same = elim s.cause [
+    | inl words ↦ absurd (let e = ap status_of words.0 in omega (arith, e))
+    | inr memory ↦ absurd (let e = ap status_of memory in omega (arith, e))
+  ]
+  not_same (inr (inl s)) same = grows _ (files_of s.command) r.shelf.old.history r.shelf.new.history Read s.stops same
+  not_same (inr (inr s)) same = elim s.stops [
+    | inl stops ↦ absurd (let l = of_work s.command s.values Read stops in omega (arith, l))
+    | inr memory ↦ absurd (let e = ap status_of memory in omega (arith, e))
+  ]
+
+  pub read_rose : IsFailed r × ((StopsRun r Read × IsToldRun r Read) ⊎ IsUnreadRun r) → Rose r.shelf.old.faults r.shelf.new.faults
+  read_rose (x, inr u) = (last r.shelf.old r.shelf.new k u.follows.fetch (u.follows.read ∷ []) u.follows.history).rose u.lawful.failed
+  read_rose (x, inl told) = elim (k.rose x.fetch x.past x.last x.failed) [
+    | inl same ↦ absurd (not_same told.0 same)
+    | inr up ↦ up
+  ]

@@ -1,0 +1,86 @@
+-- A lawful run that keeps its shelf was lawful by what the shelf tells.
+use Rattle.std.proofs.Common.{◌≡◌, inl, inr}
+use Rattle.std.specs.Prelude.{ℕ, ◌≢◌, ◌⊎◌}
+use Rattle.cpg_base.specs.Scenario.{Scenario}
+use Rattle.cpg_io.specs.Shelf.{KeepsShelf}
+use Rattle.cpg_words.specs.Parts.{Text}
+use Rattle.cpg_rules.specs.Admission.{Admission}
+use Rattle.cpg_table.specs.declared.fault.Fault.{Fault}
+use Rattle.cpg_refusal.specs.declared.halt.Refusal.{Refusal}
+use Rattle.cpg_refusal.specs.declared.halt.Halt.TheVariants.{Refused, Late, TooWide, Unsafe}
+use Rattle.cpg_app.specs.Endings.{Ran as Run}
+use Rattle.cpg_app.specs.Lawful.{IsLawful as IsLawfulRun}
+use Rattle.cpg_shelf_laws.specs.Causes.{Stops, seen}
+use Rattle.cpg_shelf_laws.specs.Endings.{IsPrinted, IsTold}
+use Rattle.cpg_shelf_laws.specs.Lawful.{IsLawful, IsRefusedStream, IsUnreadStream}
+use Rattle.cpg_shelf_laws.specs.Outputs.{Prints}
+use Rattle.cpg_shelf_laws.specs.Sinks.{Untouched, telling}
+use Rattle.cpg_shelf_laws.specs.Told.{told_of}
+use Rattle.cpg_shelf_laws.proofs.Complete.{apart, broken, late, made, named, nameless, other, safe, tuned, unrolled, wide}
+use Rattle.cpg_shelf_laws.proofs.Endings.{closed_prints, ends_told, printed, prints_told, refused_stream_told, stops_told, told, unread_told}
+use Rattle.cpg_shelf_laws.proofs.Faults.{read_rose}
+use Rattle.cpg_shelf_laws.proofs.Followed.{followed, unfollowed}
+
+module _ (r : Run) (w : IsLawfulRun r) (k : KeepsShelf r.shelf.old r.shelf.new) where
+  -- ---- what each status says; of the others it is said by `Endings`, `Faults`, `Complete` and `Followed`
+
+  done : r.status ≡ 0 → (text : Text) × Prints (seen r.shelf.old r.shelf.new) r.words text × IsPrinted (told_of r) text
+  done e = elim (w.done e) [
+    | inl p ↦ (p.0, prints_told r k p.0 p.1, printed r k p.0 p.2)
+    | inr c ↦ (c.lines, closed_prints r k c.follows c.lines c.closed, record { status = e; out = c.out; err = c.err })
+  ]
+
+  refused : r.status ≡ 4 → ((refusal : Refusal) × Stops (seen r.shelf.old r.shelf.new) r.words (Refused refusal) × IsTold (told_of r) (Refused refusal)) ⊎ IsRefusedStream (told_of r)
+  refused e = elim (w.refused e) [
+    | inl p ↦ inl (p.0, stops_told r k (Refused p.0) p.1, told r k (Refused p.0) p.2)
+    | inr s ↦ inr (refused_stream_told r k s)
+  ]
+
+  is_late : r.status ≡ 5 → (a : Admission) × (s : Scenario) × (p : ℕ) × (finish : ℕ) × Stops (seen r.shelf.old r.shelf.new) r.words (Late a s p finish) × IsTold (told_of r) (Late a s p finish)
+  is_late e = let p = w.is_late e in (p.0, p.1, p.2, p.3, stops_told r k (Late p.0 p.1 p.2 p.3) p.4, told r k (Late p.0 p.1 p.2 p.3) p.5)
+
+  is_wide : r.status ≡ 6 → (a : Admission) × (x : ℕ) × Stops (seen r.shelf.old r.shelf.new) r.words (TooWide a x) × IsTold (told_of r) (TooWide a x)
+  is_wide e = let p = w.is_wide e in (p.0, p.1, stops_told r k (TooWide p.0 p.1) p.2, told r k (TooWide p.0 p.1) p.3)
+
+  is_unsafe : r.status ≡ 7 → (a : Admission) × (fault : Fault) × Stops (seen r.shelf.old r.shelf.new) r.words (Unsafe a fault) × IsTold (told_of r) (Unsafe a fault)
+  is_unsafe e = let p = w.is_unsafe e in (p.0, p.1, stops_told r k (Unsafe p.0 p.1) p.2, told r k (Unsafe p.0 p.1) p.3)
+
+  silent : r.status ≢ 0 → r.status ≢ 3 → Untouched (telling r.out) ⊎ (((r.status ≡ 2) × IsUnreadStream (told_of r)) ⊎ ((r.status ≡ 4) × IsRefusedStream (told_of r)))
+  silent n m = elim (w.silent n m) [
+    | inl untouched ↦ inl untouched
+    | inr rest ↦ elim rest [
+      | inl u ↦ inr (inl (u.0, unread_told r k u.1))
+      | inr s ↦ inr (inr (s.0, refused_stream_told r k s.1))
+    ]
+  ]
+
+  -- ---- all of it
+
+  pub kept : IsLawful (told_of r)
+  kept = record {
+    ends = ends_told r k w.ends;
+    done = done;
+    words = w.words;
+    formless = w.formless;
+    read = λ e. read_rose r k (w.read e);
+    write = w.write;
+    refused = refused;
+    is_late = is_late;
+    is_wide = is_wide;
+    is_unsafe = is_unsafe;
+    silent = silent;
+    wide = λ a x q ungiven is. wide r w k q.faultless a x q ungiven is;
+    made = λ a q timely. made r w k q.faultless a q timely;
+    late = λ a q is. late r w k q.faultless a q is;
+    other = λ a t q differs. other r w k q.faultless a t q differs;
+    safe = λ a t q head valid. safe r w k q.faultless a t q head valid;
+    broken = λ a t q head invalid. broken r w k q.faultless a t q head invalid;
+    named = λ t name node q is. named r w k q.faultless t name node q is;
+    nameless = λ t name q is. nameless r w k q.faultless t name q is;
+    tried = w.tried;
+    tuned = λ a q. tuned r w k q.faultless a q;
+    unrolled = λ parts g q shows. unrolled r w k q.faultless parts g q shows;
+    apart = λ parts fault q shows told. apart r w k q.faultless parts fault q shows told;
+    followed = λ t name bytes node q is. followed r w k t name bytes q node is w.ends;
+    unfollowed = λ t name bytes q none. unfollowed r w k t name bytes q none w.ends;
+  }

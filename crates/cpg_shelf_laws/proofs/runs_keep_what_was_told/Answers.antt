@@ -1,0 +1,5 @@
+use Rattle.cpg_shelf_laws.proofs.Kept.{kept}
+use Rattle.cpg_shelf_laws.proofs.runs_keep_what_was_told.Goals as goal
+
+pub returns : goal.returns
+returns c = kept

@@ -1,0 +1,105 @@
+-- How a run ends: either its output or its line is taken whole, or a sink meets a fault. A run that follows a stream has
+-- endings of its own.
+use Rattle.std.specs.Prelude.{ℕ, ◌≡◌, ◌⊎◌, List, Some}
+use Rattle.cpg_words.specs.Parts.{Text}
+use Rattle.cpg_words.specs.Forms.{command_of}
+use Rattle.cpg_words.specs.declared.command.Command.TheVariants.{Live}
+use Rattle.cpg_table.specs.Table.{NodeTable, table_at}
+use Rattle.cpg_table.specs.Lawful.{Tables}
+use Rattle.cpg_refusal.specs.declared.halt.Halt.{Halt}
+use Rattle.cpg_refusal.specs.declared.halt.Halt.TheVariants.{Read}
+use Rattle.cpg_live.specs.declared.following.Broken.{Broken}
+use Rattle.cpg_app.specs.Causes.{first_named}
+use Rattle.cpg_shelf_laws.specs.Causes.{Seen, Spells, Stops}
+use Rattle.cpg_shelf_laws.specs.Streams.{Breaks, Stream}
+use Rattle.cpg_refusal.specs.Lines.{line_of, status_of, write_fault_line}
+use Rattle.cpg_shelf_laws.specs.Outputs.{Prints}
+use Rattle.cpg_live.specs.Streams.{fault_line}
+use Rattle.cpg_shelf_laws.specs.Sinks.{SinkSeen, Sent, Whole, Untouched, Part}
+
+-- a run: its words, what it saw of its shelf and its sinks, and its exit status
+pub record Ran : Type 0 where
+  pub words : List Text
+  pub shelf : Seen
+  pub out : SinkSeen
+  pub err : SinkSeen
+  pub status : ℕ
+
+-- the output was taken whole
+pub record IsPrinted (r : Ran) (text : Text) : Type 0 where
+  pub status : r.status ≡ 0
+  pub out : Whole r.out text
+  pub err : Untouched r.err
+
+-- `out` met a fault, and the line that reports it was tried once
+pub record IsCut (r : Ran) (text : Text) : Type 0 where
+  pub status : r.status ≡ 3
+  pub out : Part r.out text
+  pub err : Whole r.err write_fault_line ⊎ Part r.err write_fault_line
+
+-- the line that says why the run stops was taken whole
+pub record IsTold (r : Ran) (halt : Halt) : Type 0 where
+  pub status : r.status ≡ status_of halt
+  pub out : Untouched r.out
+  pub err : Whole r.err (line_of halt)
+
+-- `err` met a fault
+pub record IsMuted (r : Ran) (halt : Halt) : Type 0 where
+  pub status : r.status ≡ 3
+  pub out : Untouched r.out
+  pub err : Part r.err (line_of halt)
+
+-- a run that has an output
+pub record EndsWith (r : Ran) (text : Text) : Type 0 where
+  pub prints : Prints r.shelf r.words text
+  pub ending : IsPrinted r text ⊎ IsCut r text
+
+-- a run that stops without an output
+pub record EndsBy (r : Ran) (halt : Halt) : Type 0 where
+  pub stops : Stops r.shelf r.words halt
+  pub ending : IsTold r halt ⊎ IsMuted r halt
+
+-- a run in which a node follows a stream: the first node of the given name in the tables of a pack
+pub record Follows (r : Ran) : Type 0 where
+  pub pack : Text
+  pub name : Text
+  pub stream : Text
+  pub words : command_of r.words ≡ Some (Live pack name stream)
+  pub tables : Tables
+  pub spells : Spells (r.shelf.stands pack) tables
+  pub node : ℕ
+  pub named : first_named tables.head name ≡ Some node
+
+-- the table of the run's node
+abbrev pub table_of : {r : Ran} → Follows r → NodeTable
+table_of f = table_at f.tables.nodes f.node
+
+-- what the run sees of the stream's shelf and of `out`
+abbrev pub stream_of : (r : Ran) → Follows r → Stream
+stream_of r f = record {
+  told = r.shelf.stands f.stream;
+  given = r.shelf.given;
+  shelf_before = r.shelf.before;
+  shelf_now = r.shelf.now;
+  out_before = r.out.before;
+  out_now = r.out.now;
+  old = r.out.old;
+  new = r.out.new;
+}
+
+-- what `err` and the status report of a stream that isn't followed to its close
+abbrev pub IsSaid : SinkSeen → ℕ → Broken → Type 0
+IsSaid err status Broken.Shelf = Sent err status 2 (line_of Read)
+IsSaid err status Broken.Sink = (status ≡ 3) × (Whole err write_fault_line ⊎ Part err write_fault_line)
+IsSaid err status (Broken.Refused fault) = Sent err status 4 (fault_line fault)
+
+-- a run that doesn't follow its stream to the close
+pub record EndsInStream (r : Ran) : Type 0 where
+  pub follows : Follows r
+  pub broken : Broken
+  pub breaks : Breaks follows.tables.head (table_of follows) (stream_of r follows) broken
+  pub said : IsSaid r.err r.status broken
+
+-- how any run ends: it has an output, a reason to stop, or a stream that isn't followed to its close
+abbrev pub Ends : Ran → Type 0
+Ends r = ((text : Text) × EndsWith r text) ⊎ (((halt : Halt) × EndsBy r halt) ⊎ EndsInStream r)

@@ -1,0 +1,10 @@
+//! An earlier contract of a run, stated over what a shelf reports. It follows from the present one, which is stated over the
+//! bytes that were given, if the shelf reports what stands under its names.
+#![tactic(auto)]
+
+ghost use Rattle.cpg_shelf_laws.specs.Told.{RunsKeepWhatWasTold};
+
+/// A lawful run that keeps its shelf also keeps the contract over what the shelf reports.
+pub fn runs_keep_what_was_told()
+    ensures { RunsKeepWhatWasTold }
+{}

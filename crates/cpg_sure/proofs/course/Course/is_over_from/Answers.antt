@@ -1,6 +1,0 @@
-use Rattle.std.proofs.Common.{inr}
-use Rattle.cpg_tree.proofs.Passes.{of_true}
-use Rattle.cpg_sure.proofs.course.Course.is_over_from.Goals as goal
-
-pub returns : goal.returns
-returns c = of_true c.passes.result c.passes.ensures (λ all s lies. inr (all s lies))

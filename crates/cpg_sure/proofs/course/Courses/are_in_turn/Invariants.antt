@@ -1,5 +1,0 @@
-use Rattle.cpg_sure.proofs.OrderLaws.{IsInTurnTo}
-use Rattle.cpg_sure.proofs.course.Courses.are_in_turn.Given as goal
-
-abbrev pub invariant-loop-place : goal.invariant-loop-place
-invariant-loop-place l = IsInTurnTo l.self l.items l.place l.start

@@ -1,6 +1,0 @@
-use Rattle.cpg_sure.specs.Order.{sending}
-use Rattle.cpg_sure.proofs.OrderLaws.{AreSoFar}
-use Rattle.cpg_sure.proofs.course.sends.Given as goal
-
-abbrev pub invariant-loop-item : goal.invariant-loop-item
-invariant-loop-item l = AreSoFar (sending) l.admitted.graph l.tables.nodes l.item l.list.items

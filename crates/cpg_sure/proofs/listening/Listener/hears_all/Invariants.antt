@@ -1,9 +1,0 @@
-use Rattle.std.proofs.Common.{ℕ, ◌≡◌, List, All, take}
-use Rattle.cpg_table.specs.Table.{NodeTable, columns_of}
-use Rattle.cpg_violation.specs.Violation.{AllHold, row_rules}
-use Rattle.cpg_sure.specs.Hearing.{IsAllHeard}
-use Rattle.cpg_sure.specs.Listening.{IsListener}
-use Rattle.cpg_sure.proofs.listening.Listener.hears_all.Given as goal
-
-abbrev pub invariant-loop-column : goal.invariant-loop-column
-invariant-loop-column l = (tables : List NodeTable) (x : ℕ) → IsListener tables x l.self → AllHold l.self.admitted.now.graph tables row_rules → l.columns ≡ columns_of tables x → All (IsAllHeard l.self.admitted.now.graph tables l.self.node) (take l.column-index l.columns)

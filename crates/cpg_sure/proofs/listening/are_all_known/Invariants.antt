@@ -1,7 +1,0 @@
-use Rattle.std.proofs.Common.{◌≡◌, All, get_or, take, true, false}
-use Rattle.cpg_cube.specs.declared.literal.Literal.{Literal}
-use Rattle.cpg_cube.specs.Column.{Column}
-use Rattle.cpg_sure.proofs.listening.are_all_known.Given as goal
-
-abbrev pub invariant-loop-column : goal.invariant-loop-column
-invariant-loop-column l = All (λ (c : Column). All (λ (m : Literal). get_or l.known m.variable false ≡ true) c.cube) (take l.column-index l.columns)

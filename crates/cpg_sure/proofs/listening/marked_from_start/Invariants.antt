@@ -1,5 +1,0 @@
-use Rattle.std.proofs.Common.{ℕ, ◌<◌, ◌≡◌, get_or, true, false}
-use Rattle.cpg_sure.proofs.listening.marked_from_start.Given as goal
-
-abbrev pub invariant-loop-variable : goal.invariant-loop-variable
-invariant-loop-variable l = (v : ℕ) → v < l.variable → get_or l.known v false ≡ true

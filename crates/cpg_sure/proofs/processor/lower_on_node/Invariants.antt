@@ -1,7 +1,0 @@
-use Rattle.std.proofs.Common.{◌≡◌, ◌==◌, filter}
-use Rattle.cpg_base.specs.Graph.{node_of}
-use Rattle.cpg_base.specs.Numbers.{numbers_below}
-use Rattle.cpg_sure.proofs.processor.lower_on_node.Given as goal
-
-abbrev pub invariant-loop-other : goal.invariant-loop-other
-invariant-loop-other l = l.lower.items ≡ filter (λ q. node_of l.problem q == node_of l.problem l.process) (numbers_below l.other)

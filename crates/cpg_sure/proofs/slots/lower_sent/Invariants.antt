@@ -1,7 +1,0 @@
-use Rattle.std.proofs.Common.{◌≡◌, ◌==◌, ◌&&◌, filter}
-use Rattle.cpg_base.specs.Graph.{home, is_sent}
-use Rattle.cpg_base.specs.Numbers.{numbers_below}
-use Rattle.cpg_sure.proofs.slots.lower_sent.Given as goal
-
-abbrev pub invariant-loop-other : goal.invariant-loop-other
-invariant-loop-other l = l.lower.items ≡ filter (λ y. is_sent l.problem y && (home l.problem y == home l.problem l.item)) (numbers_below l.other)

@@ -1,9 +1,0 @@
-use Rattle.cpg_table.specs.declared.rule.Rule.{Rule}
-use Rattle.cpg_violation.proofs.SureLaws.{one_more}
-use Rattle.cpg_sure.proofs.slots.slot_marks.Goals as goal
-
-pub loop-item-preserved : goal.loop-item-preserved
-loop-item-preserved c = rw c.in_ok-push.ensures.items (one_more c.args.admitted.now.graph c.args.tables.now.nodes Rule.Slot c.loop-item.item c.loop-item.marks.items c.in_ok-is_sure.is_sure c.loop-item.invariant c.in_ok-is_sure.ensures)
-
-pub returns : goal.returns
-returns c = c.loop-item.invariant.sure

@@ -1,6 +1,0 @@
-use Rattle.cpg_table.specs.declared.rule.Rule.{Rule}
-use Rattle.cpg_violation.proofs.SureLaws.{AreSoFar}
-use Rattle.cpg_sure.proofs.slots.slot_marks.Given as goal
-
-abbrev pub invariant-loop-item : goal.invariant-loop-item
-invariant-loop-item l = AreSoFar l.admitted.graph l.tables.nodes Rule.Slot l.item l.marks.items

@@ -1,6 +1,0 @@
-use Rattle.std.proofs.Common.{◌-◌, arith, get_or}
-use Rattle.cpg_violation.proofs.SureLaws.{on_le}
-use Rattle.cpg_sure.proofs.span.Span.is_past.Goals as goal
-
-pub returns : goal.returns
-returns c = on_le (get_or c.args.self.now.lengths c.most-most.result 0) (c.args.time - c.args.start) (λ l s lies. record { count = c.most-most.result; most = c.most-most.ensures s lies; known = omega (arith, c.if-most-gt-MOST_FAULTS.false); over = omega (arith, l, c.if-time-start.false) })

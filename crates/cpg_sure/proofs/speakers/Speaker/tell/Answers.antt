@@ -1,7 +1,0 @@
-use Rattle.std.proofs.lemmas.Bool.{OnTrue_at}
-use Rattle.cpg_sure.proofs.SpeakerLaws.{left_untold}
-use Rattle.cpg_sure.proofs.speakers.Speaker.tell.Goals as goal
-
-pub returns : goal.returns
-returns c = λ g tables node is wider lies. left_untold is c.gather.new.found.items c.args.column.now c.args.wanted.now c.leave.new.left.items wider
-    c.in_ok-leave.ensures.among (rw c.as_slice.ensures.value at c.in_ok-leave.ensures.told) (λ s law m. OnTrue_at c.if-not-all.false c.in_ok-all.ensures s (lies s law m))

@@ -1,9 +1,0 @@
-use Rattle.std.proofs.Common.{List, All}
-use Rattle.cpg_table.specs.Table.{NodeTable}
-use Rattle.cpg_sure.specs.Courses.{AreCourses}
-use Rattle.cpg_sure.specs.Order.{frame}
-use Rattle.cpg_sure.specs.Speakers.{IsSpeaker}
-use Rattle.cpg_sure.proofs.speakers.speakers.Given as goal
-
-abbrev pub invariant-loop-item : goal.invariant-loop-item
-invariant-loop-item l = (tables : List NodeTable) → AreCourses (frame l.problem) l.problem tables l.frames → All (IsSpeaker l.problem tables l.node) l.found.items

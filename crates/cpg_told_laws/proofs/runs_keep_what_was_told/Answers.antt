@@ -1,5 +1,0 @@
-use Rattle.cpg_told_laws.proofs.Kept.{kept}
-use Rattle.cpg_told_laws.proofs.runs_keep_what_was_told.Goals as goal
-
-pub returns : goal.returns
-returns c = kept

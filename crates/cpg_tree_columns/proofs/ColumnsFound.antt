@@ -1,0 +1,91 @@
+-- The columns that are found on the way down a tree that fits are those of its paths.
+use Rattle.std.proofs.Common.{ℕ, ◌<◌, ◌≤◌, ◌≡◌, max, min, ◌==◌, true, List, [], ◌∷◌, ◌++◌, Some, Option, arith, sym, ap, ap₂, ◌∙◌, inl, inr, eq-eqb, ne_eqb}
+use Rattle.std.specs.Option.{option_map_or}
+use Rattle.std.proofs.lemmas.Bool.{cases_eq, cond-true, cond-false, le-leb}
+use Rattle.std.proofs.lemmas.List.{append-nil}
+use Rattle.std.proofs.lemmas.Grind.{flat_map-append}
+use Rattle.cpg_base.specs.Variable.{top}
+use Rattle.cpg_cube.specs.declared.literal.Literal.{Literal}
+use Rattle.cpg_cube.specs.Cube.{low_in, high_in}
+use Rattle.cpg_cube.specs.Narrow.{narrowed_by, meet_literal, range_left, with_literal}
+use Rattle.cpg_tree.specs.declared.node.TreeNode.{TreeNode, Leaf, Fork'}
+use Rattle.cpg_tree.specs.declared.space.Space.{Space}
+use Rattle.cpg_tree.specs.Space.{is_open_below, is_open_above, below_cut, above_cut}
+use Rattle.cpg_tree.specs.Decision.{IsFit, IsGood}
+use Rattle.cpg_tree.specs.Paths.{up_to, above, paths_from}
+use Rattle.cpg_tree.specs.Tree.{Path}
+use Rattle.cpg_tree.proofs.Rooms.{IsRoom, IsTold, low_at_most, cut_less, cut_under, room_below, room_above, told_below, told_above, room_whole, told_whole}
+use Rattle.cpg_tree_columns.specs.Columns.{column_of, columns_of_paths, columns_from}
+
+-- the range of a literal's variable after narrowing
+range_low : (l : Literal) (cube : List Literal) → (range_left l cube).low ≡ max l.low (low_in cube l.variable)
+range_low l [] = omega arith
+range_low l (m ∷ ms) = elim (cases_eq l.variable m.variable) [
+  | inl e ↦ ap (λ (x : Literal). x.low) (cond-true (l.variable == m.variable) (meet_literal l m) (range_left l ms) (eq-eqb _ _ e)) ∙
+      ap (max l.low) (sym (cond-true (m.variable == l.variable) m.low (low_in ms l.variable) (eq-eqb _ _ (sym e))))
+  | inr n ↦ ap (λ (x : Literal). x.low) (cond-false (l.variable == m.variable) (meet_literal l m) (range_left l ms) (ne_eqb _ _ n)) ∙ range_low l ms
+      ∙ ap (max l.low) (sym (cond-false (m.variable == l.variable) m.low (low_in ms l.variable) (ne_eqb _ _ (λ e. n (sym e)))))
+]
+
+range_high : (k : ℕ) (l : Literal) (cube : List Literal) → l.high ≤ top k l.variable → (range_left l cube).high ≡ min l.high (high_in k cube l.variable)
+range_high k l [] h = omega (arith, h)
+range_high k l (m ∷ ms) h = elim (cases_eq l.variable m.variable) [
+  | inl e ↦ ap (λ (x : Literal). x.high) (cond-true (l.variable == m.variable) (meet_literal l m) (range_left l ms) (eq-eqb _ _ e)) ∙
+      ap (min l.high) (sym (cond-true (m.variable == l.variable) m.high (high_in k ms l.variable) (eq-eqb _ _ (sym e))))
+  | inr n ↦ ap (λ (x : Literal). x.high) (cond-false (l.variable == m.variable) (meet_literal l m) (range_left l ms) (ne_eqb _ _ n)) ∙ range_high k l ms h
+      ∙ ap (min l.high) (sym (cond-false (m.variable == l.variable) m.high (high_in k ms l.variable) (ne_eqb _ _ (λ e. n (sym e)))))
+]
+
+-- ---- neither side's range is empty
+
+module _ (k : ℕ) (room : Space) (is : IsRoom k room) (v cut : ℕ) (there : v < 256) (below : is_open_below room v cut ≡ true) (upper : is_open_above room v cut ≡ true) (cube : List Literal)
+    (told : IsTold k room cube) where
+  pub some_below : with_literal (up_to v cut) cube ≡ Some (narrowed_by (up_to v cut) cube)
+  some_below = cond-true _ _ _ (le-leb (range_left (up_to v cut) cube).low (range_left (up_to v cut) cube).high
+      (omega (
+        arith,
+        range_low (up_to v cut) cube,
+        range_high k (up_to v cut) cube (omega (arith, cut_under k room is v cut there below upper)),
+        told.low v there,
+        told.high v there,
+        low_at_most k room is v cut there below upper,
+        is.opens v there,
+      )))
+
+  pub some_above : with_literal (above k v cut) cube ≡ Some (narrowed_by (above k v cut) cube)
+  some_above = cond-true _ _ _ (le-leb (range_left (above k v cut) cube).low (range_left (above k v cut) cube).high
+      (omega (
+        arith,
+        range_low (above k v cut) cube,
+        range_high k (above k v cut) cube (omega arith),
+        told.low v there,
+        told.high v there,
+        cut_under k room is v cut there below upper,
+        cut_less k room is v cut there below upper,
+        is.opens v there,
+        is.tops v there,
+      )))
+
+-- ---- the columns that are found are those of the paths
+
+flat_both : (xs ys : List (Path (Option ℕ))) → columns_of_paths (xs ++ ys) ≡ columns_of_paths xs ++ columns_of_paths ys
+flat_both xs ys = flat_map-append (λ (p : Path (Option ℕ)). column_of p.0 p.1) xs ys
+
+pub columns_are : (k : ℕ) (node : TreeNode (Option ℕ)) (room : Space) (cube : List Literal) → IsRoom k room → IsTold k room cube → IsFit room node →
+    columns_from k cube node ≡ columns_of_paths (paths_from k cube node)
+columns_are k (Leaf x) room cube is told fit = sym (append-nil (column_of cube x))
+columns_are k (Fork' v cut p below upper) room cube is told fit =
+    ap₂ ◌++◌
+    (ap (λ (o : Option (List Literal)). option_map_or (λ c. columns_from k c below) o []) (some_below k room is v cut fit.0 fit.1 fit.2 cube told)
+    ∙ columns_are k below (below_cut room v cut) (narrowed_by (up_to v cut) cube) (room_below k room is v cut fit.0 fit.1 fit.2) (told_below k room is v cut fit.0 fit.1 fit.2 cube told) fit.3)
+    (ap (λ (o : Option (List Literal)). option_map_or (λ c. columns_from k c upper) o []) (some_above k room is v cut fit.0 fit.1 fit.2 cube told)
+    ∙ columns_are k upper (above_cut room v cut) (narrowed_by (above k v cut) cube) (room_above k room is v cut fit.0 fit.1 fit.2) (told_above k room is v cut fit.0 fit.1 fit.2 cube told) fit.4)
+    ∙ sym (flat_both (paths_from k (narrowed_by (up_to v cut) cube) below) (paths_from k (narrowed_by (above k v cut) cube) upper))
+
+pub all_columns : (k : ℕ) (node : TreeNode (Option ℕ)) → IsGood k node → columns_from k [] node ≡ columns_of_paths (paths_from k [] node)
+all_columns k node good = columns_are k node good.0 [] (room_whole k good.0 good.1) (told_whole k good.0 good.1) good.2
+
+-- the columns that are found from the root of a tree on are those of its paths
+pub columns_seen : (k : ℕ) (node : TreeNode (Option ℕ)) → IsGood k node → (paths : List (Path (Option ℕ))) → paths ≡ paths_from k [] node → (faults : ℕ) → faults ≡ k → (whole : List Literal) →
+    whole ≡ [] → columns_from faults whole node ≡ columns_of_paths paths
+columns_seen k node good paths seen faults same whole none = ap₂ (λ (m : ℕ) (cube : List Literal). columns_from m cube node) same none ∙ all_columns k node good ∙ ap columns_of_paths (sym seen)

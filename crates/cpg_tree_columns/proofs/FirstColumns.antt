@@ -1,0 +1,192 @@
+-- If the columns of paths stand by their least scenarios, the first with a time has the least scenario with it.
+use Rattle.std.proofs.Common.{ℕ, ◌+◌, ◌≤◌, ◌≡◌, ◌≢◌, ◌==◌, true, false, List, [], ◌∷◌, ◌++◌, get_or, Option, Some, None, unwrap_or, option_map, Box, Global, All, Contains, IsPermutation, refl, sym}
+use Rattle.std.proofs.Common.{ap, ap₂, ◌∙◌, subst, inl, inr, eq-eqb, ne_eqb}
+use Rattle.std.specs.Option.{IfNone, IfSome, option_map_or}
+use Rattle.std.proofs.lemmas.Bool.{cases_eq, cond-true, cond-false}
+use Rattle.std.proofs.lemmas.List.Elements.{All-contains, Contains-get_or}
+use Rattle.std.proofs.lemmas.List.Sorted.{IsPermutation-refl}
+use Rattle.std.proofs.lemmas.Option.{none-some}
+use Rattle.cpg_base.specs.Graph.{Graph, process_count}
+use Rattle.cpg_base.specs.Numbers.{numbers_below, is_below}
+use Rattle.cpg_base.specs.Scenario.{Scenario, IsLeast}
+use Rattle.cpg_base.specs.Variable.{top}
+use Rattle.cpg_base.proofs.Below.{below_irreflexive}
+use Rattle.cpg_base.proofs.Lists.{Contains-first, Contains-rest, Contains-cases, Contains-nil}
+use Rattle.cpg_base.proofs.Pairs.{AllPairs-first, AllPairs-rest}
+use Rattle.cpg_base.proofs.ScenarioOrder.{not_before_transitive}
+use Rattle.cpg_cube.specs.declared.literal.Literal.{Literal}
+use Rattle.cpg_cube.specs.Column.{Column}
+use Rattle.cpg_cube.specs.Cube.{matches, low_in}
+use Rattle.cpg_cube.specs.Fit.{IsKnown, lows, is_met}
+use Rattle.cpg_cube.specs.Keys.{AreByLows, lows_along}
+use Rattle.cpg_cube.specs.Narrow.{with_literal}
+use Rattle.cpg_cube.specs.declared.cube.Narrowing.{Narrowing}
+use Rattle.cpg_cube.specs.Undo.{IsUndo, restored}
+use Rattle.cpg_cube.proofs.CubeLows.{lows-least}
+use Rattle.cpg_cube.proofs.KeyLows.{lows_are_key}
+use Rattle.cpg_tree.specs.declared.node.TreeNode.{TreeNode, Fork'}
+use Rattle.cpg_tree.specs.Decision.{IsGood}
+use Rattle.cpg_tree.specs.Paths.{up_to, above, paths_of}
+use Rattle.cpg_tree.specs.Tree.{Path}
+use Rattle.cpg_tree_columns.specs.Columns.{columns_from, columns_of_paths, first_with, IsTidyColumn}
+use Rattle.cpg_tree_columns.specs.Greatest.{HasValue, IsLeastWhereSorted}
+use Rattle.cpg_tree_columns.proofs.Leasts.{column_there, path_there}
+use Rattle.cpg_tree_columns.proofs.TidyColumns.{tidy_columns}
+
+module _ (wanted : ℕ) where
+  abbrev With : List Literal → Column
+  With cube = record { time = wanted; cube = cube }
+
+  at_first : (x : Column) (xs : List Column) → x.time ≡ wanted → first_with wanted (x ∷ xs) ≡ Some x.cube
+  at_first x xs same = cond-true (x.time == wanted) (Some x.cube) (first_with wanted xs) (eq-eqb _ _ same)
+
+  past_first : (x : Column) (xs : List Column) → x.time ≢ wanted → first_with wanted (x ∷ xs) ≡ first_with wanted xs
+  past_first x xs differs = cond-false (x.time == wanted) (Some x.cube) (first_with wanted xs) (ne_eqb _ _ differs)
+
+  -- ---- of two lists, one after the other
+
+  pub first_left : (xs ys : List Column) (cube : List Literal) → first_with wanted xs ≡ Some cube → first_with wanted (xs ++ ys) ≡ Some cube
+  first_left [] ys cube e = absurd (none-some cube e)
+  first_left (x ∷ xs) ys cube e = elim (cases_eq x.time wanted) [
+    | inl same ↦ at_first x (xs ++ ys) same ∙ sym (at_first x xs same) ∙ e
+    | inr differs ↦ past_first x (xs ++ ys) differs ∙ first_left xs ys cube (sym (past_first x xs differs) ∙ e)
+  ]
+
+  pub first_right : (xs ys : List Column) → first_with wanted xs ≡ None → first_with wanted (xs ++ ys) ≡ first_with wanted ys
+  first_right [] ys e = refl
+  first_right (x ∷ xs) ys e = elim (cases_eq x.time wanted) [
+    | inl same ↦ absurd (none-some x.cube (sym e ∙ at_first x xs same))
+    | inr differs ↦ past_first x (xs ++ ys) differs ∙ first_right xs ys (sym (past_first x xs differs) ∙ e)
+  ]
+
+  -- ---- on the way down
+
+  module _ (k : ℕ) (cube : List Literal) (v cut : ℕ) (below upper node : TreeNode (Option ℕ)) {p : Box (Unit {0}) Global} (is : node ≡ Fork' v cut p below upper) where
+    of_below : (low : List Literal) → with_literal (up_to v cut) cube ≡ Some low → option_map_or (λ c. columns_from k c below) (with_literal (up_to v cut) cube) [] ≡ columns_from k low below
+    of_below low e = ap (λ (o : Option (List Literal)). option_map_or (λ c. columns_from k c below) o []) e
+
+    of_above : (high : List Literal) → with_literal (above k v cut) cube ≡ Some high → option_map_or (λ c. columns_from k c upper) (with_literal (above k v cut) cube) [] ≡ columns_from k high upper
+    of_above high e = ap (λ (o : Option (List Literal)). option_map_or (λ c. columns_from k c upper) o []) e
+
+    -- the first is below the cut
+    pub fork_below : (low found : List Literal) → with_literal (up_to v cut) cube ≡ Some low → first_with wanted (columns_from k low below) ≡ Some found →
+        first_with wanted (columns_from k cube node) ≡ Some found
+    fork_below low found e first =
+        ap (λ (n : TreeNode (Option ℕ)). first_with wanted (columns_from k cube n)) is
+        ∙ first_left (option_map_or (λ c. columns_from k c below) (with_literal (up_to v cut) cube) []) (option_map_or (λ c. columns_from k c upper) (with_literal (above k v cut) cube) []) found
+        (ap (first_with wanted) (of_below low e) ∙ first)
+
+    -- none is below the cut: then it is the first above, once the cube is narrowed to that
+    pub fork_above : (n : Narrowing) (most : ℕ) (low after high : List Literal) (found : Option (List Literal)) → most ≡ top k v → with_literal (up_to v cut) cube ≡ Some low → IsUndo n low cube →
+        first_with wanted (columns_from k low below) ≡ None →
+        after ≡ low → with_literal (record { variable = v; low = cut + 1; high = most }) (restored n after) ≡ Some high → first_with wanted (columns_from k high upper) ≡ found →
+        first_with wanted (columns_from k cube node) ≡ found
+    fork_above n most low after high found whole e undo none same exchanged first =
+        let i : with_literal (above k v cut) cube ≡ Some high =
+        ap₂ (λ (h : ℕ) (ls : List Literal). let l : Literal = record { variable = v; low = cut + 1; high = h } in with_literal l ls) (sym whole) (sym (ap (restored n) same ∙ undo.back)) ∙ exchanged in
+        ap (λ (n : TreeNode (Option ℕ)). first_with wanted (columns_from k cube n)) is
+        ∙ first_right (option_map_or (λ c. columns_from k c below) (with_literal (up_to v cut) cube) []) (option_map_or (λ c. columns_from k c upper) (with_literal (above k v cut) cube) [])
+        (ap (first_with wanted) (of_below low e) ∙ none) ∙ ap (first_with wanted) (of_above high i) ∙ first
+
+  -- ---- which it is
+
+  is_there : (xs : List Column) (cube : List Literal) → first_with wanted xs ≡ Some cube → Contains xs (With cube)
+  is_there [] cube e = absurd (none-some cube e)
+  is_there (x ∷ xs) cube e = elim (cases_eq x.time wanted) [
+    | inl same ↦ subst (Contains (x ∷ xs)) (ap₂ (λ (t : ℕ) (c : List Literal). let d : Column = record { time = t; cube = c } in d) same
+        (ap (λ (o : Option (List Literal)). unwrap_or o cube) (sym (at_first x xs same) ∙ e))) (Contains-first x xs)
+    | inr differs ↦ Contains-rest x xs (With cube) (is_there xs cube (sym (past_first x xs differs) ∙ e))
+  ]
+
+  nowhere : (xs : List Column) → first_with wanted xs ≡ None → (d : Column) → Contains xs d → d.time ≢ wanted
+  nowhere [] e d c t = absurd (Contains-nil d c)
+  nowhere (x ∷ xs) e d c t = elim (cases_eq x.time wanted) [
+    | inl same ↦ none-some x.cube (sym e ∙ at_first x xs same)
+    | inr differs ↦ elim (Contains-cases x xs d c) [
+      | inl is ↦ differs (ap (λ (y : Column). y.time) is ∙ t)
+      | inr later ↦ nowhere xs (sym (past_first x xs differs) ∙ e) d later t
+    ]
+  ]
+
+  module _ (g : Graph) (order : List ℕ) where
+    abbrev Stands : Column → Column → Type 0
+    Stands c d = is_below (lows_along g order (low_in d.cube)) (lows_along g order (low_in c.cube)) ≡ false
+
+    -- no other with the time stands before the first
+    none_before : (xs : List Column) → AreByLows (λ (c : Column). c.cube) g order xs → (cube : List Literal) → first_with wanted xs ≡ Some cube → (d : Column) → Contains xs d → d.time ≡ wanted →
+        Stands (With cube) d
+    none_before [] stand cube e d c t = absurd (Contains-nil d c)
+    none_before (x ∷ xs) stand cube e d c t = elim (cases_eq x.time wanted) [
+      | inl same ↦ subst (λ (b : List Literal). Stands (With b) d) (ap (λ (o : Option (List Literal)). unwrap_or o cube) (sym (at_first x xs same) ∙ e)) (elim (Contains-cases x xs d c) [
+        | inl is ↦ subst (Stands x) is (below_irreflexive (lows_along g order (low_in x.cube)))
+        | inr later ↦ AllPairs-first Stands x xs stand d later
+      ])
+      | inr differs ↦ elim (Contains-cases x xs d c) [
+        | inl is ↦ absurd (differs (ap (λ (y : Column). y.time) is ∙ t))
+        | inr later ↦ none_before xs (AllPairs-rest Stands x xs stand) cube (sym (past_first x xs differs) ∙ e) d later t
+      ]
+    ]
+
+-- ---- the scenarios of paths
+
+module _ (g : Graph) (paths : List (Path (Option ℕ))) (wanted : ℕ) where
+  no_path : first_with wanted (columns_of_paths paths) ≡ None → (p : Path (Option ℕ)) → Contains paths p → p.1 ≢ Some wanted
+  no_path none p c e = nowhere wanted (columns_of_paths paths) none (record { time = wanted; cube = p.0 })
+      (column_there paths (columns_of_paths paths) (IsPermutation-refl (columns_of_paths paths)) p wanted c e) refl
+
+  -- if no column has the number, no path has it
+  pub none_first : (o : Option Scenario) → o ≡ option_map (lows g) (first_with wanted (columns_of_paths paths)) → IfNone o (All (λ (p : Path (Option ℕ)). p.1 ≢ Some wanted) paths)
+  none_first o e = by_value (first_with wanted (columns_of_paths paths)) refl o e
+    where
+      by_value : (f : Option (List Literal)) → first_with wanted (columns_of_paths paths) ≡ f → (r : Option Scenario) → r ≡ option_map (lows g) f →
+          IfNone r (All (λ (p : Path (Option ℕ)). p.1 ≢ Some wanted) paths)
+      by_value f k (Some s) e = tt
+      by_value None k None e = λ i d l. no_path k (get_or paths i d) (Contains-get_or paths i d l)
+      by_value (Some cube) k None e = absurd (none-some (lows g cube) e)
+
+  pub some_sorted : (order : List ℕ) → IsPermutation (numbers_below (process_count g)) order → AreByLows (λ (c : Column). c.cube) g order (columns_of_paths paths) →
+      (o : Option Scenario) → IfSome o (IsLeastWhereSorted g paths wanted) → IfSome o (IsLeast g order (HasValue paths (Some wanted)))
+  some_sorted order all stand None h = tt
+  some_sorted order all stand (Some s) h = h order all stand
+
+module _ (g : Graph) (few : process_count g ≤ 128) (k : ℕ) (node : TreeNode (Option ℕ)) (good : IsGood k node) (paths : List (Path (Option ℕ))) (seen : paths ≡ paths_of k node) (same : k ≡ g.faults)
+    (known : All (λ (p : Path (Option ℕ)). IsKnown g p.0) paths)
+    (wanted : ℕ) (cube : List Literal) (first : first_with wanted (columns_of_paths paths) ≡ Some cube) where
+  tidy : All (IsTidyColumn g) (columns_of_paths paths)
+  tidy =
+      let is : paths ≡ paths_of g.faults node = seen ∙ ap (λ (m : ℕ). paths_of m node) same in
+      subst (λ (ps : List (Path (Option ℕ))). All (IsTidyColumn g) (columns_of_paths ps)) (sym is)
+      (tidy_columns g few node (subst (λ (m : ℕ). IsGood m node) same good) (subst (All (λ (p : Path (Option ℕ)). IsKnown g p.0)) is known) (columns_of_paths (paths_of g.faults node))
+      (IsPermutation-refl (columns_of_paths (paths_of g.faults node))))
+
+  tidy_at : (d : Column) → Contains (columns_of_paths paths) d → IsTidyColumn g d
+  tidy_at d c = All-contains (IsTidyColumn g) (columns_of_paths paths) d tidy c
+
+  here : Contains (columns_of_paths paths) (record { time = wanted; cube = cube })
+  here = is_there wanted (columns_of_paths paths) cube first
+
+  -- some scenario of the graph meets the first column
+  pub first_known : IsKnown g cube
+  first_known = (tidy_at (record { time = wanted; cube = cube }) here).cube.known
+
+  pub first_met : is_met g.faults cube ≡ true
+  first_met = (tidy_at (record { time = wanted; cube = cube }) here).met
+
+  -- its least one is that of the number, if the columns stand along the order
+  pub first_least : IsLeastWhereSorted g paths wanted (lows g cube)
+  first_least order all stand =
+      let xs = columns_of_paths paths in
+      let column : Column = record { time = wanted; cube = cube } in
+      let least = lows-least g few cube (tidy_at column here).cube (tidy_at column here).met order in
+      let x = path_there paths xs (IsPermutation-refl xs) column here in
+      record {
+        lawful = least.lawful;
+        holds = (x.0, record { stands = x.1; matched = subst (λ (ls : List Literal). matches ls (lows g cube) ≡ true) (sym x.3) least.holds }, x.2);
+        least = λ u law h.
+            let d : Column = record { time = wanted; cube = h.0.0 } in
+            let there = column_there paths xs (IsPermutation-refl xs) h.0 wanted h.1.stands h.2 in
+            not_before_transitive g order (lows g cube) (lows g h.0.0) u
+            (ap₂ is_below (sym (lows_are_key g few h.0.0 (tidy_at d there).met order all)) (sym (lows_are_key g few cube (tidy_at column here).met order all)) ∙
+            none_before wanted g order xs stand cube first d there refl)
+            ((lows-least g few h.0.0 (tidy_at d there).cube (tidy_at d there).met order).least u law h.1.matched);
+      }

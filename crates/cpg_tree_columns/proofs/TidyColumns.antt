@@ -1,0 +1,91 @@
+-- The columns of the paths of a tree that fits: each is of a graph that the paths are of, and some scenario matches it.
+use Rattle.std.proofs.Common.{ℕ, zero, suc, Option, None, Some, IsPermutation, ◌+◌, ◌≤◌, ◌≡◌, true, false, List, [], get_or, sum_by, Contains, arith, ap, subst, inl, inr}
+use Rattle.std.specs.Prelude.{nat_le, All}
+use Rattle.std.proofs.lemmas.Bool.{and_from, le-leb}
+use Rattle.std.proofs.lemmas.List.Elements.{Contains-get_or, All-contains}
+use Rattle.std.proofs.lemmas.List.Sorted.{All-permutation}
+use Rattle.cpg_base.specs.Graph.{Graph, process_count, IsVariable}
+use Rattle.cpg_base.specs.Numbers.{numbers_below}
+use Rattle.cpg_base.specs.Variable.{top}
+use Rattle.cpg_base.proofs.Lists.{Contains-cases, Contains-nil, all_from, numbers-Contains, Contains-flat_map_parts}
+use Rattle.cpg_base.proofs.Sums.{sum_by-below_first, sum_by-le_each}
+use Rattle.cpg_cube.specs.declared.literal.Literal.{Literal}
+use Rattle.cpg_cube.specs.Column.{Column}
+use Rattle.cpg_cube.specs.Cube.{low_in, is_whole}
+use Rattle.cpg_cube.specs.Fit.{IsCube, IsKnown, is_open, is_met, asked_faults}
+use Rattle.cpg_cube.proofs.CubeLows.{budget_of_cube}
+use Rattle.cpg_tree.specs.declared.node.TreeNode.{TreeNode}
+use Rattle.cpg_tree.specs.Decision.{IsGood}
+use Rattle.cpg_tree.specs.Paths.{paths_of}
+use Rattle.cpg_tree.specs.Tree.{Path}
+use Rattle.cpg_tree.proofs.Tidy.{IsToldPath, tidy_of, range, not_whole, within}
+use Rattle.cpg_tree_columns.specs.Columns.{column_of, columns_of_paths, IsTidyColumn}
+
+-- a sum over fewer numbers is no greater
+pub sum_by_fewer : (f : ℕ → ℕ) (n m : ℕ) → n ≤ m → sum_by f (numbers_below n) ≤ sum_by f (numbers_below m)
+sum_by_fewer f zero m l = omega arith
+sum_by_fewer f (suc n) zero l = absurd (omega (arith, l))
+sum_by_fewer f (suc n) (suc m) l = omega (arith, sum_by-below_first f n, sum_by-below_first f m, sum_by_fewer (λ i. f (i + 1)) n m (omega (arith, l)))
+
+-- ---- some scenario meets the cube of a path
+
+is_open_literal : (k : ℕ) (cube : List Literal) (tidy : IsToldPath k cube) (l : Literal) → Contains cube l → is_open k l ≡ true
+is_open_literal k cube tidy l c =
+    let there = (tidy.part l c).0 in
+    let bounds = range k cube tidy l c in
+    let less : l.low ≤ l.high = omega (arith, bounds.0, bounds.1, tidy.told.low l.variable there, tidy.is.opens l.variable there, tidy.told.high l.variable there) in
+    and_from (nat_le l.low l.high) _ (le-leb l.low l.high less) (le-leb l.low (top k l.variable) (omega (arith, less, within k cube tidy l c)))
+
+module _ (g : Graph) (few : process_count g ≤ 128) (cube : List Literal) (tidy : IsToldPath g.faults cube) (known : All (λ l. IsVariable g l.variable) cube) where
+  pub path_cube : IsCube g cube
+  path_cube = record { rising = tidy.told.rising; known = known }
+
+  pub path_met : is_met g.faults cube ≡ true
+  path_met = and_from _ _ (all_from (is_open g.faults) cube (is_open_literal g.faults cube tidy))
+      (le-leb (asked_faults cube) g.faults (omega (
+        arith,
+        budget_of_cube g few cube path_cube,
+        sum_by-le_each (low_in cube) (λ p. get_or tidy.room.low p 0) (numbers_below (process_count g)) (λ p c. tidy.told.low p (omega (arith, numbers-Contains (process_count g) p c, few))),
+        sum_below_le (λ p. get_or tidy.room.low p 0) (process_count g) few,
+        tidy.is.budget,
+      )))
+    where
+      sum_below_le : (f : ℕ → ℕ) (n : ℕ) → n ≤ 128 → sum_by f (numbers_below n) ≤ sum_by f (numbers_below 128)
+      sum_below_le f n l = sum_by_fewer f n 128 l
+
+-- ---- columns
+
+pub of_column : (cube : List Literal) (x : Option ℕ) (c : Column) → Contains (column_of cube x) c → cube ≡ c.cube
+of_column cube None c j = absurd (Contains-nil c j)
+of_column cube (Some t) c j = elim (Contains-cases (record { time = t; cube = cube }) [] c j) [
+  | inl e ↦ ap (λ (d : Column). d.cube) e
+  | inr n ↦ absurd (Contains-nil c n)
+]
+
+module _ (g : Graph) (few : process_count g ≤ 128) (node : TreeNode (Option ℕ)) (good : IsGood g.faults node) (known : All (λ (p : Path (Option ℕ)). IsKnown g p.0) (paths_of g.faults node)) where
+  of_path : (p : Path (Option ℕ)) → Contains (paths_of g.faults node) p → IsTidyColumn g (record { time = 0; cube = p.0 })
+  of_path p j =
+      let tidy = tidy_of g.faults node good p j in
+      let variables = All-contains (λ (p : Path (Option ℕ)). IsKnown g p.0) (paths_of g.faults node) p known j in
+      record {
+        cube = path_cube g few p.0 tidy variables;
+        met = path_met g few p.0 tidy variables;
+        not_whole = λ i d h. not_whole g.faults p.0 tidy (get_or p.0 i d) (Contains-get_or p.0 i d h);
+        within = λ i d h. within g.faults p.0 tidy (get_or p.0 i d) (Contains-get_or p.0 i d h);
+      }
+
+  tidy_column : (c : Column) → Contains (columns_of_paths (paths_of g.faults node)) c → IsTidyColumn g c
+  tidy_column c j =
+      let f = Contains-flat_map_parts (λ (p : Path (Option ℕ)). column_of p.0 p.1) (paths_of g.faults node) c j in
+      let is = of_path f.0 f.1 in
+      let same = of_column f.0.0 f.0.1 c f.2 in
+      record {
+        cube = subst (IsCube g) same is.cube;
+        met = subst (λ (ls : List Literal). is_met g.faults ls ≡ true) same is.met;
+        not_whole = subst (λ (ls : List Literal). All (λ (l : Literal). is_whole g.faults l ≡ false) ls) same is.not_whole;
+        within = subst (λ (ls : List Literal). All (λ (l : Literal). l.high ≤ top g.faults l.variable) ls) same is.within;
+      }
+
+  pub tidy_columns : (columns : List Column) → IsPermutation (columns_of_paths (paths_of g.faults node)) columns → All (IsTidyColumn g) columns
+  tidy_columns columns p = All-permutation (IsTidyColumn g) (columns_of_paths (paths_of g.faults node)) columns p
+      (λ i d h. tidy_column (get_or (columns_of_paths (paths_of g.faults node)) i d) (Contains-get_or (columns_of_paths (paths_of g.faults node)) i d h))

@@ -1,0 +1,73 @@
+//! Whether the columns of a tree stand by their least scenarios as they are found.
+ghost use Rattle.std.specs.Prelude.{IfOk, IfSome, IsPermutation};
+ghost use Rattle.std.specs.Bool.{OnTrue};
+ghost use Rattle.cpg_base.specs.Graph.{process_count};
+ghost use Rattle.cpg_base.specs.Numbers.{numbers_below};
+ghost use Rattle.cpg_cube.specs.Keys.{AreByLows};
+ghost use Rattle.cpg_tree_columns.specs.Along.{IsAlong};
+ghost use Rattle.cpg_tree_columns.specs.Columns.{columns_of_paths};
+
+use cpg_base::{Order, OutOfMemory, Problem};
+use cpg_cube::{VARIABLES, places_along};
+use cpg_tree::{Tree, TreeNode};
+
+/// How many places are left at the first variable along an order.
+const FIRST: u16 = 256;
+
+/// How many leaves a tree has, if the variables of the forks on each way down it stand along an order, by how many places are
+/// left at each: none at more than `left`, and none at 0. Both in one walk, since a large tree isn't near when it is looked at.
+fn leaves_along<T>(node: &TreeNode<T>, places: &[u16; VARIABLES], left: u16) -> Option<usize>
+    ensures { IfSome result (λ _. IsAlong places.now left node.now) }
+{
+    match node {
+        TreeNode::Leaf(_) => Some(1),
+        TreeNode::Fork {
+            variable,
+            sides,
+            ..
+        } => {
+            let own = places[*variable as usize];
+            let (below, above) = &**sides;
+            if own == 0 {
+                return None;
+            }
+            if own > left {
+                return None;
+            }
+            let low = leaves_along(below, places, own)?;
+            let high = leaves_along(above, places, own)?;
+            Some(low.saturating_add(high))
+        }
+    }
+}
+
+/// How many paths there are, if those with a number are known to stand by the least scenario along the order that they match.
+/// No clause speaks of the number, which is for room alone. The one error is `OutOfMemory`.
+pub(crate) fn count_along(
+    tree: &Tree<Option<u64>>,
+    problem: &Problem,
+    order: &Order,
+) -> Result<Option<usize>, OutOfMemory>
+    requires { IsPermutation (numbers_below (process_count problem.now)) order.now }
+    ensures { IfOk result (λ r. IfSome r (λ _. AreByLows (λ c. c.cube) problem.now order.now (columns_of_paths tree.now.paths))) }
+{
+    let places = places_along(tree.alloc(), problem, order)?;
+    let count = leaves_along(tree.root(), &places, FIRST);
+    Ok(count)
+}
+
+/// Whether the paths with a number are known to stand by the least scenario along the order that they match. The one error is
+/// `OutOfMemory`.
+pub(crate) fn stand_along(
+    tree: &Tree<Option<u64>>,
+    problem: &Problem,
+    order: &Order,
+) -> Result<bool, OutOfMemory>
+    requires { IsPermutation (numbers_below (process_count problem.now)) order.now }
+    ensures { IfOk result (λ r. OnTrue r (AreByLows (λ c. c.cube) problem.now order.now (columns_of_paths tree.now.paths))) }
+{
+    match count_along(tree, problem, order)? {
+        Some(_) => Ok(true),
+        None => Ok(false),
+    }
+}

@@ -1,0 +1,147 @@
+//! The columns of trees of times.
+ghost use Rattle.std.specs.Prelude.{◌≡◌, ◌++◌, All, IfOk, IsPermutation, OnOk};
+ghost use Rattle.std.specs.Bool.{OnTrue};
+ghost use Rattle.cpg_base.specs.Graph.{process_count};
+ghost use Rattle.cpg_base.specs.Numbers.{numbers_below};
+ghost use Rattle.cpg_cube.specs.Fit.{IsKnown};
+ghost use Rattle.cpg_cube.specs.Keys.{AreByLows};
+ghost use Rattle.cpg_tree_columns.specs.Columns.{columns_from, columns_of_paths, IsTidyColumn};
+ghost use Rattle.cpg_tree.specs.Decision.{HasCuts};
+
+use crate::along::count_along;
+use cpg_base::{Order, OutOfMemory, Problem, top};
+use cpg_cube::{Cube, Entry, Listing, Literal};
+use cpg_tree::{Tree, TreeNode};
+
+/// Adds the columns on from a cube, which is narrowed on the way down and restored on the way up.
+fn push_columns(
+    node: &TreeNode<Option<u64>>,
+    k: u8,
+    cube: &mut Cube,
+    columns: &mut Vec<Entry>,
+) -> Result<(), OutOfMemory>
+    requires { HasCuts k node.now }
+    ensures columns { OnOk result (columns.new.items ≡ columns.old.items ++ columns_from k cube.old node.now) }
+    ensures cube { OnOk result (cube.new ≡ cube.old) }
+{
+    match node {
+        TreeNode::Leaf(time) => {
+            if let Some(time) = time {
+                columns.push(Entry {
+                    time: *time,
+                    cube: cube.copy()?,
+                })?;
+            }
+            Ok(())
+        }
+        TreeNode::Fork {
+            variable,
+            cut,
+            sides,
+        } => {
+            let (below, above) = &**sides;
+            let upper = Literal {
+                variable: *variable,
+                low: *cut + 1,
+                high: top(k, *variable),
+            };
+            let low = cube.narrow(Literal {
+                variable: *variable,
+                low: 0,
+                high: *cut,
+            })?;
+            match low {
+                Some(low) => {
+                    push_columns(below, k, cube, columns)?;
+                    // in place, which is less work than the way back and down again
+                    if cube.exchange(low, upper) {
+                        push_columns(above, k, cube, columns)?;
+                        cube.restore(low);
+                    }
+                }
+                None => {
+                    let high = cube.narrow(upper)?;
+                    if let Some(high) = high {
+                        push_columns(above, k, cube, columns)?;
+                        cube.restore(high);
+                    }
+                }
+            }
+            Ok(())
+        }
+    }
+}
+
+/// For how many columns of a tree there has to be room: there are no more than leaves.
+pub(crate) fn room_for(tree: &Tree<Option<u64>>) -> usize {
+    tree.leaves().unwrap_or(0) as usize
+}
+
+/// The paths with a number, each with its own cube, from the left to the right. Room is taken for `room` of them at once.
+pub(crate) fn listed(
+    tree: &Tree<Option<u64>>,
+    problem: &Problem,
+    room: usize,
+) -> Result<Vec<Entry>, OutOfMemory>
+    requires faults { tree.now.faults ≡ problem.now.faults }
+    requires known { All (λ p. IsKnown problem.now p.0) tree.now.paths }
+    ensures tidy { IfOk result (λ r. All (IsTidyColumn problem.now) r.items) }
+    ensures all { IfOk result (λ r. r.items ≡ columns_of_paths tree.now.paths) }
+{
+    // its clause tells that the graph is within its limits
+    let _processes = problem.processes();
+    let mut whole = Cube::whole(tree.alloc());
+    let mut columns = Vec::new(tree.alloc());
+    columns.reserve(room)?;
+    push_columns(tree.root(), tree.faults(), &mut whole, &mut columns)?;
+    Ok(columns)
+}
+
+/// The paths with a number, each with its own cube, from the left to the right, and whether they are known to stand by the least
+/// scenario along the order that they match. The one error is `OutOfMemory`.
+pub fn listing_along(
+    tree: &Tree<Option<u64>>,
+    problem: &Problem,
+    order: &Order,
+) -> Result<Listing, OutOfMemory>
+    requires faults { tree.now.faults ≡ problem.now.faults }
+    requires known { All (λ p. IsKnown problem.now p.0) tree.now.paths }
+    requires order { IsPermutation (numbers_below (process_count problem.now)) order.now }
+    ensures tidy { IfOk result (λ r. All (IsTidyColumn problem.now) r.columns.items) }
+    ensures all { IfOk result (λ r. r.columns.items ≡ columns_of_paths tree.now.paths) }
+    ensures sorted { IfOk result (λ r. OnTrue r.is_sorted (AreByLows (λ c. c.cube) problem.now order.now r.columns.items)) }
+{
+    match count_along(tree, problem, order)? {
+        Some(count) => {
+            let columns = listed(tree, problem, count)?;
+            Ok(Listing {
+                columns,
+                is_sorted: true,
+            })
+        }
+        None => {
+            let columns = listed(tree, problem, room_for(tree))?;
+            Ok(Listing {
+                columns,
+                is_sorted: false,
+            })
+        }
+    }
+}
+
+/// The paths with a number, each with its own cube, by the least scenario that it matches. The one error is `OutOfMemory`.
+pub fn columns(
+    tree: &Tree<Option<u64>>,
+    problem: &Problem,
+    order: &Order,
+) -> Result<Vec<Entry>, OutOfMemory>
+    requires faults { tree.now.faults ≡ problem.now.faults }
+    requires known { All (λ p. IsKnown problem.now p.0) tree.now.paths }
+    requires order { IsPermutation (numbers_below (process_count problem.now)) order.now }
+    ensures tidy { IfOk result (λ r. All (IsTidyColumn problem.now) r.items) }
+    ensures all { IfOk result (λ r. IsPermutation (columns_of_paths tree.now.paths) r.items) }
+    ensures by_lows { IfOk result (λ r. AreByLows (λ c. c.cube) problem.now order.now r.items) }
+{
+    let listing = listing_along(tree, problem, order)?;
+    listing.sorted(tree.alloc(), problem, order)
+}

@@ -1,0 +1,111 @@
+//! The greatest number of a tree where another one is true, without a tree of both.
+ghost use Rattle.std.specs.Prelude.{◌≡◌, ℕ, Some, false, true, IfNone, IfSome};
+ghost use Rattle.std.specs.Bool.{OnFalse, OnTrue};
+ghost use Rattle.cpg_base.specs.Scenario.{Scenario};
+ghost use Rattle.cpg_tree.specs.Space.{Lies};
+ghost use Rattle.cpg_tree.specs.Decision.{value_at};
+ghost use Rattle.cpg_tree_columns.specs.Meeting.{IsMetIn, IsMostIn, IsUpTo, IsMostWhere, IsNowhere};
+
+use cpg_tree::{Space, Tree, TreeNode};
+
+/// Whether a tree is true in some scenario of a space.
+fn holds_in(node: &TreeNode<bool>, space: &mut Space) -> bool
+    ensures back { space.new ≡ space.old }
+    ensures met { OnTrue result (IsMetIn space.old node.now node.now (λ s. value_at node.now s ≡ true)) }
+    ensures never { OnFalse result ((s : Scenario) → Lies space.old s → value_at node.now s ≡ false) }
+{
+    match node {
+        TreeNode::Leaf(is) => *is,
+        TreeNode::Fork {
+            variable,
+            cut,
+            sides,
+        } => {
+            let (below, above) = &**sides;
+            if !space.is_open_below(*variable, *cut) {
+                return holds_in(above, space);
+            }
+            if !space.is_open_above(*variable, *cut) {
+                return holds_in(below, space);
+            }
+            let most = space.close_above(*variable, *cut);
+            let low = holds_in(below, space);
+            space.reopen_above(*variable, most);
+            if low {
+                return true;
+            }
+            let least = space.close_below(*variable, *cut);
+            let high = holds_in(above, space);
+            space.reopen_below(*variable, least);
+            high
+        }
+    }
+}
+
+/// Whether a number is greater than the greatest so far.
+fn is_greater(number: Option<u64>, best: Option<u64>) -> bool
+    ensures none { OnFalse result ((n : ℕ) → number ≡ Some n → IsUpTo best n) }
+    ensures some { OnTrue result ((n : ℕ) → IsUpTo best n → IsUpTo number n) }
+{
+    let Some(number) = number else {
+        return false;
+    };
+    match best {
+        Some(best) => best < number,
+        None => true,
+    }
+}
+
+/// The greatest of a number and of those in a space where another tree is true.
+fn most_in(
+    node: &TreeNode<Option<u64>>,
+    space: &mut Space,
+    wanted: &TreeNode<bool>,
+    best: Option<u64>,
+) -> Option<u64>
+    ensures back { space.new ≡ space.old }
+    ensures most { IsMostIn space.old node.now wanted.now best result }
+{
+    match node {
+        TreeNode::Leaf(number) => {
+            if !is_greater(*number, best) {
+                return best;
+            }
+            if holds_in(wanted, space) {
+                *number
+            } else {
+                best
+            }
+        }
+        TreeNode::Fork {
+            variable,
+            cut,
+            sides,
+        } => {
+            let (below, above) = &**sides;
+            if !space.is_open_below(*variable, *cut) {
+                return most_in(above, space, wanted, best);
+            }
+            if !space.is_open_above(*variable, *cut) {
+                return most_in(below, space, wanted, best);
+            }
+            let most = space.close_above(*variable, *cut);
+            let low = most_in(below, space, wanted, best);
+            space.reopen_above(*variable, most);
+            let least = space.close_below(*variable, *cut);
+            let high = most_in(above, space, wanted, low);
+            space.reopen_below(*variable, least);
+            high
+        }
+    }
+}
+
+/// The greatest number in a scenario in which another tree is true; `None` exactly if there is none.
+pub fn most_where(tree: &Tree<Option<u64>>, wanted: &Tree<bool>) -> Option<u64>
+    requires same { tree.now.faults ≡ wanted.now.faults }
+    ensures none { IfNone result (IsNowhere tree.now wanted.now) }
+    ensures some { IfSome result (IsMostWhere tree.now wanted.now) }
+{
+    let mut space = Space::whole(tree.faults());
+    most_in(tree.root(), &mut space, wanted.root(), None)
+}

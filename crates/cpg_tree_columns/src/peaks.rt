@@ -1,0 +1,237 @@
+//! The greatest number of a tree of times.
+ghost use Rattle.std.specs.Prelude.{◌≡◌, ◌≢◌, ℕ, Bool, None, Some, All, IfNone, IfOk, IfSome, IsPermutation};
+ghost use Rattle.std.specs.Bool.{OnFalse, OnTrue};
+ghost use Rattle.std.specs.Option.{option_map};
+ghost use Rattle.cpg_base.specs.Graph.{process_count};
+ghost use Rattle.cpg_base.specs.Numbers.{numbers_below};
+ghost use Rattle.cpg_cube.specs.Fit.{IsKnown, lows};
+ghost use Rattle.cpg_base.specs.Scenario.{IsLeast};
+ghost use Rattle.cpg_tree_columns.specs.Columns.{columns_from, columns_of_paths, first_with};
+ghost use Rattle.cpg_tree_columns.specs.Greatest.{HasNumber, HasValue, IsGreatestOf, IsLeastWhereSorted, IsMost, greater, kept, most_of};
+ghost use Rattle.cpg_tree.specs.Decision.{HasCuts};
+ghost use Rattle.cpg_tree.specs.Tree.{HasOnePathEach, DoPathsPass, IsMap};
+
+use crate::along::stand_along;
+use crate::listing::{listed, room_for};
+use cpg_base::{Order, OutOfMemory, Problem, Scenario, top};
+use cpg_cube::{Cube, Literal, first_by_least_scenario};
+use cpg_tree::{Tree, TreeNode};
+
+/// The greater of two numbers, if there are two.
+fn greater(first: Option<u64>, second: Option<u64>) -> Option<u64>
+    ensures { result ≡ greater first second }
+{
+    let Some(first) = first else {
+        return second;
+    };
+    let Some(second) = second else {
+        return Some(first);
+    };
+    Some(first.max(second))
+}
+
+/// A time, if it is this one.
+fn kept(wanted: u64, time: Option<u64>) -> Option<u64>
+    ensures { result ≡ kept wanted time }
+{
+    let time = time?;
+    if time == wanted { Some(time) } else { None }
+}
+
+/// The greatest number of a leaf.
+fn most_of(node: &TreeNode<Option<u64>>) -> Option<u64>
+    ensures { result ≡ most_of node.now }
+{
+    match node {
+        TreeNode::Leaf(time) => *time,
+        TreeNode::Fork { sides, .. } => {
+            let (below, above) = &**sides;
+            greater(most_of(below), most_of(above))
+        }
+    }
+}
+
+/// The tree of one number alone.
+fn with_alone(tree: &Tree<Option<u64>>, wanted: u64) -> Result<Tree<Option<u64>>, OutOfMemory>
+    ensures is { IfOk result (IsMap (λ x z. z ≡ kept wanted x) tree.now) }
+    ensures each { IfOk result (λ t. HasOnePathEach t.faults t.paths) }
+    ensures pass { IfOk result (λ t. (test : ℕ → Bool) → DoPathsPass test tree.now.paths → DoPathsPass test t.paths) }
+{
+    tree.map(&|time: Option<u64>| kept(wanted, time))
+}
+
+/// The least scenario that has a number; `None` exactly if no scenario has one.
+fn first_with_number(
+    tree: &Tree<Option<u64>>,
+    problem: &Problem,
+    order: &Order,
+) -> Result<Option<Scenario>, OutOfMemory>
+    requires faults { tree.now.faults ≡ problem.now.faults }
+    requires known { All (λ p. IsKnown problem.now p.0) tree.now.paths }
+    requires order { IsPermutation (numbers_below (process_count problem.now)) order.now }
+    ensures none { IfOk result (λ r. IfNone r (All (λ p. p.1 ≡ None) tree.now.paths)) }
+    ensures some { IfOk result (λ r. IfSome r (IsLeast problem.now order.now (HasNumber tree.now.paths))) }
+{
+    // its clause tells that the graph is within its limits
+    let _processes = problem.processes();
+    let columns = listed(tree, problem, room_for(tree))?;
+    let columns = columns.as_slice();
+    let Some(place) = first_by_least_scenario(tree.alloc(), problem, order, columns)? else {
+        return Ok(None);
+    };
+    match columns[place].cube.least(tree.alloc(), problem)? {
+        Some(least) => Ok(Some(least)),
+        None => unreachable!(),
+    }
+}
+
+/// The least scenario that has the number; `None` exactly if no path has it.
+fn least_listed(
+    tree: &Tree<Option<u64>>,
+    problem: &Problem,
+    order: &Order,
+    wanted: u64,
+) -> Result<Option<Scenario>, OutOfMemory>
+    requires faults { tree.now.faults ≡ problem.now.faults }
+    requires known { All (λ p. IsKnown problem.now p.0) tree.now.paths }
+    requires order { IsPermutation (numbers_below (process_count problem.now)) order.now }
+    ensures none { IfOk result (λ r. IfNone r (All (λ p. p.1 ≢ Some wanted) tree.now.paths)) }
+    ensures some { IfOk result (λ r. IfSome r (IsLeast problem.now order.now (HasValue tree.now.paths (Some wanted)))) }
+{
+    // its clause tells that the graph is within its limits
+    let _processes = problem.processes();
+    // and this one's that the tree fits, so that each scenario has its path
+    let _root = tree.root();
+    // a tree of this number alone has few columns
+    let alone = with_alone(tree, wanted)?;
+    first_with_number(&alone, problem, order)
+}
+
+/// Narrows a cube by the way to the first leaf from the left with a number. False exactly if no leaf has it: then the cube is
+/// what it was.
+fn narrow_to_first(
+    node: &TreeNode<Option<u64>>,
+    k: u8,
+    cube: &mut Cube,
+    wanted: u64,
+) -> Result<bool, OutOfMemory>
+    requires { HasCuts k node.now }
+    ensures some { IfOk result (λ r. OnTrue r (first_with wanted (columns_from k cube.old node.now) ≡ Some cube.new)) }
+    ensures none { IfOk result (λ r. OnFalse r (first_with wanted (columns_from k cube.old node.now) ≡ None)) }
+    ensures same { IfOk result (λ r. OnFalse r (cube.new ≡ cube.old)) }
+{
+    match node {
+        TreeNode::Leaf(time) => Ok(kept(wanted, *time).is_some()),
+        TreeNode::Fork {
+            variable,
+            cut,
+            sides,
+        } => {
+            let (below, above) = &**sides;
+            let upper = Literal {
+                variable: *variable,
+                low: *cut + 1,
+                high: top(k, *variable),
+            };
+            let low = cube.narrow(Literal {
+                variable: *variable,
+                low: 0,
+                high: *cut,
+            })?;
+            match low {
+                Some(low) => {
+                    if narrow_to_first(below, k, cube, wanted)? {
+                        return Ok(true);
+                    }
+                    // in place, which is less work than the way back and down again
+                    if cube.exchange(low, upper) {
+                        if narrow_to_first(above, k, cube, wanted)? {
+                            return Ok(true);
+                        }
+                        cube.restore(low);
+                    }
+                }
+                None => {
+                    let high = cube.narrow(upper)?;
+                    if let Some(high) = high {
+                        if narrow_to_first(above, k, cube, wanted)? {
+                            return Ok(true);
+                        }
+                        cube.restore(high);
+                    }
+                }
+            }
+            Ok(false)
+        }
+    }
+}
+
+/// The least scenario of the first column from the left with a time; `None` exactly if no column has it.
+fn least_found(
+    tree: &Tree<Option<u64>>,
+    problem: &Problem,
+    wanted: u64,
+) -> Result<Option<Scenario>, OutOfMemory>
+    requires faults { tree.now.faults ≡ problem.now.faults }
+    requires known { All (λ p. IsKnown problem.now p.0) tree.now.paths }
+    ensures is { IfOk result (λ r. r ≡ option_map (lows problem.now) (first_with wanted (columns_of_paths tree.now.paths))) }
+    ensures least { IfOk result (λ r. IfSome r (IsLeastWhereSorted problem.now tree.now.paths wanted)) }
+{
+    // its clause tells that the graph is within its limits
+    let _processes = problem.processes();
+    let mut cube = Cube::whole(tree.alloc());
+    if !narrow_to_first(tree.root(), tree.faults(), &mut cube, wanted)? {
+        return Ok(None);
+    }
+    let least = cube.least(tree.alloc(), problem)?;
+    Ok(least)
+}
+
+/// The least scenario that has the number; `None` exactly if no path has it.
+fn least_with(
+    tree: &Tree<Option<u64>>,
+    problem: &Problem,
+    order: &Order,
+    wanted: u64,
+) -> Result<Option<Scenario>, OutOfMemory>
+    requires faults { tree.now.faults ≡ problem.now.faults }
+    requires known { All (λ p. IsKnown problem.now p.0) tree.now.paths }
+    requires order { IsPermutation (numbers_below (process_count problem.now)) order.now }
+    ensures none { IfOk result (λ r. IfNone r (All (λ p. p.1 ≢ Some wanted) tree.now.paths)) }
+    ensures some { IfOk result (λ r. IfSome r (IsLeast problem.now order.now (HasValue tree.now.paths (Some wanted)))) }
+{
+    // then the first from the left has the least scenario, and neither a tree of this number alone nor a list is needed
+    if stand_along(tree, problem, order)? {
+        return least_found(tree, problem, wanted);
+    }
+    least_listed(tree, problem, order, wanted)
+}
+
+/// The greatest number of a path; `None` exactly if no path has one.
+pub fn most(tree: &Tree<Option<u64>>) -> Option<u64>
+    ensures none { IfNone result (All (λ p. p.1 ≡ None) tree.now.paths) }
+    ensures some { IfSome result (IsMost tree.now) }
+{
+    most_of(tree.root())
+}
+
+/// The greatest number, with its least scenario; `None` exactly if no scenario has a number. The one error is `OutOfMemory`.
+pub fn greatest(
+    tree: &Tree<Option<u64>>,
+    problem: &Problem,
+    order: &Order,
+) -> Result<Option<(u64, Scenario)>, OutOfMemory>
+    requires faults { tree.now.faults ≡ problem.now.faults }
+    requires known { All (λ p. IsKnown problem.now p.0) tree.now.paths }
+    requires order { IsPermutation (numbers_below (process_count problem.now)) order.now }
+    ensures none { IfOk result (λ r. IfNone r (All (λ p. p.1 ≡ None) tree.now.paths)) }
+    ensures some { IfOk result (λ r. IfSome r (λ x. IsGreatestOf problem.now order.now tree.now.paths x.0 x.1)) }
+{
+    let Some(most) = most_of(tree.root()) else {
+        return Ok(None);
+    };
+    match least_with(tree, problem, order, most)? {
+        Some(least) => Ok(Some((most, least))),
+        None => unreachable!(),
+    }
+}
