@@ -5,9 +5,9 @@
     compare --svg OLD NEW > changes.svg
 
 OLD and NEW are graph files. Their tables are compiled, or those of the packs are checked. The output says what differs in the graphs, the latest
-end of all scenarios, how many columns there are, the latest end and the slack of each process for which one of them differs, and what moved:
+end of all scenarios, how many columns there are, the latest end and the spare time of each process for which one of them differs, and what moved:
 each start, message and broadcast that has another time in a scenario of both graphs. It says by how much it moves, and in which scenario the
-most. Processes are known by their names, and messages by both ends, so other numbers change nothing.
+most. An item with another number of columns whose times stay is listed behind them. Processes are known by their names, and messages by both ends, so other numbers change nothing.
 
 A scenario of both has the same faults and the same true values, and strikes only what is in both. If an item has more than 1,000,000 pairs of
 columns, only its latest times are compared. If a graph has more than 4,096 outcomes, a scenario may be shown that its conditions don't allow.
@@ -121,7 +121,8 @@ class Side:
     def columns(self) -> int:
         return sum(len(row.columns) for row in self.rows.values())
 
-    def slack(self, name: str) -> int | None:
+    def spare(self, name: str) -> int | None:
+        """How long before its due a process is over at the latest."""
         return self.graph.processes[self.graph.number[name]].due - self.ends[name] if name in self.ends else None
 
     def first(self, name: str) -> int:
@@ -155,7 +156,7 @@ class Side:
 
 @dataclass(frozen=True)
 class Item:
-    """An item of which something differs. Times are those of the scenario in which it moves the most."""
+    """An item of which something differs. Times are those of the scenario in which it moves the most, and none if it doesn't move."""
 
     name: Name
     columns: tuple[int, int]
@@ -168,8 +169,9 @@ class Item:
     def text(self) -> str:
         kind, *rest = self.name
         said = f"{kind} {'>'.join(rest[:2])}" + (f" ({int(rest[2]) + 1})" if rest[2:] and rest[2] != "0" else "")
+        columns = f"{self.columns[1]} column{'s' * (self.columns[1] != 1)}, was {self.columns[0]}"
         if self.times is None:
-            return f"{said}: {'is gone' if not self.columns[1] else 'is new'}"
+            return f"{said}: {columns if all(self.columns) else 'is new' if self.columns[1] else 'is gone'}"
         most = f"{self.earlier} earlier" if self.earlier else f"{self.later} later"
         if self.always:
             moved = f"{most} in all scenarios"
@@ -177,7 +179,7 @@ class Item:
             moved = f"up to {self.earlier} earlier and up to {self.later} later"
         else:
             moved = f"up to {most}"
-        count = f"; {self.columns[1]} column{'s' * (self.columns[1] != 1)}, was {self.columns[0]}" if self.columns[0] != self.columns[1] else ""
+        count = f"; {columns}" if self.columns[0] != self.columns[1] else ""
         return f"{said}: {moved}, as at {self.times[1]}, was {self.times[0]}, in {self.scenario}{count}"
 
     def document(self) -> dict[str, object]:
@@ -196,6 +198,7 @@ class Comparison:
     def __init__(self, old: Side, new: Side) -> None:
         self.old, self.new = old, new
         self.most = min(old.graph.faults, new.graph.faults)
+        self.partly = False  # whether only the latest times of an item were compared
 
     def cubes(self, side: Side, row: Row) -> list[tuple[int, Cube]]:
         """The columns of a row that are for a scenario of both graphs: without faults of what is in one alone, whose values don't count."""
@@ -217,13 +220,15 @@ class Comparison:
         counts = len(before.columns) if before else 0, len(after.columns) if after else 0
         if not before or not after or 0 in counts:
             return Item(name, counts) if counts[0] != counts[1] else None
+        unmoved = Item(name, counts) if counts[0] != counts[1] else None
         cubes, new = self.cubes(self.old, before), self.cubes(self.new, after)
         if cubes == new:
-            return None
+            return unmoved
         if counts[0] * counts[1] > MOST_PAIRS:
+            self.partly = True
             times = max(time for time, _ in before.columns), max(time for time, _ in after.columns)
             shift = times[1] - times[0]
-            return Item(name, counts, max(-shift, 0), max(shift, 0), times, "the latest of its columns") if shift else None
+            return Item(name, counts, max(-shift, 0), max(shift, 0), times, "the latest of its columns") if shift else unmoved
         least, greatest, most, found = 10**20, -10**20, 0, None
         for time, cube in cubes:
             for other, its in new:
@@ -237,7 +242,7 @@ class Comparison:
                 if abs(shift) > most:
                     most, found = abs(shift), ((time, other), self.scenario(shared))
         if found is None:
-            return None
+            return unmoved
         return Item(name, counts, max(-least, 0), max(greatest, 0), *found, always=least == greatest)
 
     def items(self) -> list[Item]:
@@ -248,13 +253,27 @@ class Comparison:
                 found.append(it)
         return sorted(found, key=lambda it: -max(it.earlier, it.later))
 
+    def same_scenarios(self) -> bool:
+        """Whether the scenarios of both graphs are known to be the same, by names."""
+        def named(side: Side) -> set[tuple[frozenset[str], frozenset[str]]]:
+            names = [it.name for it in side.graph.processes]
+            return {(of(active, names), of(true, names)) for active, true in side.outcomes}
+
+        def of(mask: int, names: list[str]) -> frozenset[str]:
+            return frozenset(name for number, name in enumerate(names) if mask >> number & 1)
+
+        if self.old.graph.document == self.new.graph.document:
+            return True
+        few = max(len(self.old.outcomes), len(self.new.outcomes)) <= MOST_OUTCOMES
+        return self.old.graph.faults == self.new.graph.faults and few and named(self.old) == named(self.new)
+
     def processes(self) -> list[tuple[str, str, int | None, int | None, int | None, int | None]]:
-        """Of each process of the new graph its name, its node, its latest end and its slack, each new and old."""
+        """Of each process of the new graph its name, its node, its latest end and its spare time, each new and old."""
         found = []
         for it in self.new.graph.processes:
             name = it.name
             there = name in self.old.graph.number
-            found.append((name, self.new.graph.node_of(it), self.new.ends.get(name), self.old.ends.get(name), self.new.slack(name), self.old.slack(name) if there else None))
+            found.append((name, self.new.graph.node_of(it), self.new.ends.get(name), self.old.ends.get(name), self.new.spare(name), self.old.spare(name) if there else None))
         return found
 
 
@@ -268,24 +287,24 @@ def as_text(changes: Sequence[str], it: Comparison, everything: bool) -> Iterato
     yield f"worst {new.worst}" + (f", was {old.worst} ({signed(new.worst - old.worst)})" if new.worst != old.worst else ", as before")
     yield f"{new.columns} columns" + (f", was {old.columns} ({signed(new.columns - old.columns)})" if new.columns != old.columns else ", as before")
     rows: list[tuple[object, ...]] = []
-    for name, node, end, was, slack, had in it.processes():
-        if (end, slack) != (was, had):
+    for name, node, end, was, spare, had in it.processes():
+        if (end, spare) != (was, had):
             by = "" if end is None or was is None else signed(end - was)
-            rows.append((name, node, "never" if end is None else end, "never" if was is None else was, by, "" if slack is None else slack, "" if had is None else had))
+            rows.append((name, node, "never" if end is None else end, "never" if was is None else was, by, "" if spare is None else spare, "" if had is None else had))
     if rows:
-        yield from (line.rstrip() for line in show.in_columns([("process", "node", "latest end", "was", "by", "slack", "was"), *rows]))
+        yield from (line.rstrip() for line in show.in_columns([("process", "node", "latest end", "was", "by", "spare", "was"), *rows]))
     found = it.items()
     shown = found if everything else found[:MOST_LISTED]
     yield from (item.text() for item in shown)
-    if not found:
-        yield "nothing moved"
-    elif len(shown) < len(found):
+    if len(shown) < len(found):
         yield f"and {len(found) - len(shown)} more, which --all lists"
+    if all(item.times is None and all(item.columns) for item in found):
+        yield ("no latest time moved" if it.partly else "nothing moved") + " in scenarios of both" * (not it.same_scenarios())
 
 
 def as_json(changes: Sequence[str], it: Comparison) -> str:
     keys = ("name", "node")
-    processes = [dict(zip(keys, row[:2])) | {"latest_end": {"old": row[3], "new": row[2]}, "slack": {"old": row[5], "new": row[4]}} for row in it.processes()]
+    processes = [dict(zip(keys, row[:2])) | {"latest_end": {"old": row[3], "new": row[2]}, "spare": {"old": row[5], "new": row[4]}} for row in it.processes()]
     return json.dumps({
         "graph": list(changes), "worst": {"old": it.old.worst, "new": it.new.worst}, "columns": {"old": it.old.columns, "new": it.new.columns},
         "processes": processes, "items": [item.document() for item in it.items()]}, indent=1) + "\n"

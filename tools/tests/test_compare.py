@@ -14,7 +14,7 @@ from tests.drawn import changed, drawn, scenarios
 FASTER = """process A: wcet 20, was 30
 worst 85, was 105 (-20)
 5 columns, as before
-  process  node  latest end  was   by  slack  was
+  process  node  latest end  was   by  spare  was
   A        N1            52   72  -20     53   33
   B        N2            85  105  -20     20    0
 send A>B: up to 20 earlier, as at 60, was 80, in A faults 1
@@ -49,6 +49,21 @@ class Compare(Case):
         self.assertEqual(lines[:4], ["deadline 122, was 105", "edge A>B: frozen yes, was no", "worst 122, was 105 (+17)", "3 columns, was 5 (-2)"])
         self.assertEqual(lines[-2:], ["send A>B: up to 40 later, as at 80, was 40, in none; 1 column, was 2",
                                       "start B: up to 40 later, as at 90, was 50, in none; 1 column, was 2"])
+
+    def test_columns(self) -> None:
+        """With two faults A ends at 109 and B starts at 130 in one scenario more, and ends at 145. In the scenarios of both nothing moves. A process alone has
+        one column with two faults, too. With wcet 29 it ends a time unit earlier, in the same scenarios."""
+        new = PAIR.replace("faults = 1", "faults = 2").replace("deadline = 105", "deadline = 200")
+        wanted = ["faults 2, was 1", "deadline 200, was 105", "worst 145, was 105 (+40)", "7 columns, was 5 (+2)", "  process  node  latest end  was   by  spare  was",
+                  "  A        N1           109   72  +37     91   33", "  B        N2           145  105  +40     55    0",
+                  "send A>B: 3 columns, was 2", "start B: 3 columns, was 2", "nothing moved in scenarios of both"]
+        self.assertEqual(self.compared(PAIR, new), wanted)
+        self.assertEqual(self.compared(PAIR, new, "--all"), wanted)
+        items = json.loads("\n".join(self.compared(PAIR, new, "--json")))["items"]
+        self.assertEqual(items[1], {"item": ["start", "B"], "columns": {"old": 2, "new": 3}, "earlier": 0, "later": 0, "time": None, "scenario": None})
+        single = SINGLE.replace("deadline = 72", "deadline = 200")
+        self.assertEqual(self.compared(single, single.replace("faults = 1", "faults = 2"))[-1], "nothing moved in scenarios of both")
+        self.assertEqual(self.compared(single, single.replace("wcet = 30", "wcet = 29"))[-1], "nothing moved")
 
     def test_conditions(self) -> None:
         """With a longer C, which runs if A is false, what follows it moves in that outcome alone. C ends at 65, e3 goes at 80 in place of 60, and J
@@ -88,7 +103,7 @@ class Compare(Case):
         found = json.loads("\n".join(self.compared(PAIR, PAIR.replace("wcet = 30", "wcet = 20"), "--json")))
         self.assertEqual(found["graph"], ["process A: wcet 20, was 30"])
         self.assertEqual((found["worst"], found["columns"]), ({"old": 105, "new": 85}, {"old": 5, "new": 5}))
-        self.assertEqual(found["processes"][1], {"name": "B", "node": "N2", "latest_end": {"old": 105, "new": 85}, "slack": {"old": 0, "new": 20}})
+        self.assertEqual(found["processes"][1], {"name": "B", "node": "N2", "latest_end": {"old": 105, "new": 85}, "spare": {"old": 0, "new": 20}})
         self.assertEqual(found["items"][1], {"item": ["start", "B"], "columns": {"old": 2, "new": 2}, "earlier": 20, "later": 0, "time": {"old": 90, "new": 70},
                                              "scenario": "A faults 1"})
 
