@@ -302,7 +302,10 @@ to mend it: ask `why {file}` what held it up; `slack` says how far a wcet has to
             self.made(pair(", bytes = 1", ""))
             done = subprocess.run([TOOLS / "explain", "--json", "--", CPGC, "compile", "pair.toml"], capture_output=True, check=False)
             warned = json.loads(done.stderr)
-            self.assertEqual((warned["grade"], warned["kind"], warned["line"], warned["name"]), ("warning", "no-bytes", 9, None))
+            text = "the message of edge 0 (A to B) has no bytes, and counts as 1"
+            self.assertEqual(warned, {
+                "grade": "warning", "status": None, "number": None, "kind": "no-bytes", "file": "pair.toml", "line": 9, "column": 9, "name": None, "text": text,
+                "advice": None, "more": [], "said": f"pair.toml:9: warning: {text} [no-bytes]"})
         for words, _, line, _ in REFUSED:
             with contextlib.chdir(self.folder):
                 found = json.loads(self.run_tool("explain", "--json", *words[1:], stdin=f"cpgc: {line}")[1]) if words[1:] and not any(it.startswith("--") for it in words) else {}
@@ -343,6 +346,37 @@ to mend it: ask `why {file}` what held it up; `slack` says how far a wcet has to
                     self.assertEqual(self.cpgc(*words).stderr.decode(), f"cpgc: {line}\n")
                 got = explained(f"cpgc: {line}", Files(words[1:], "hyper"))[1]
                 self.assertTrue(got[0].startswith(said), got)
+
+    def test_files_of_tools(self) -> None:
+        """A tool that passes a line on has its own form: the rules are no part, of two graphs the one that cpgc refuses is meant, and --header has a graph."""
+        rules = '[[edge]]\nfrom = "0.A"\nto = "1.b"\ntake = "latest"\n'
+        late = (EXAMPLES / "late.toml").read_text()
+        cases: list[tuple[str, dict[str, Content], str, str]] = [
+            ("hyper-edges rates.toml 200 p0.toml 100 p1.toml", {"p0.toml": PAIR, "p1.toml": PAIR}, "refused 22 hyper over 1",
+             "p1.toml:2: deadline is 105, after the period of 100 of part 1"),
+            ("hyper-edges rates.toml 200 p0.toml 200 p1.toml", {"p0.toml": PAIR.replace('to = "B"', 'to = "b"'), "p1.toml": PAIR}, "refused 4 unknown edge 0 to",
+             "p0.toml:9: edge 0 (A to b): to = \"b\" is the name of no process; is B meant?"),
+            ("compare pair.toml late.toml", {}, "late 87 by control in sense faults 1", "late.toml:8: process control ends at 87, 7 after its due of 80, in sense faults 1"),
+            ("compare --json later.toml late.toml", {"later.toml": late.replace("deadline = 80", "deadline = 87")}, "late 87 by control in sense faults 1",
+             "late.toml:8: process control ends at 87, 7 after its due of 80, in sense faults 1"),
+            ("compare pair.toml pair.toml pair.pack cut.pack", {"cut.pack": lambda it: it[:-1]}, "refused 10 pack 146", "cut.pack:"),
+            ("c-table pair.pack N1 --header late.toml", {}, "refused 17 other graph nodes", "pair.pack was made for another"),
+            ("c-table --header=late.toml pair.pack N1", {}, "refused 17 other graph nodes", "pair.pack was made for another"),
+        ]
+        for command, files, line, said in cases:
+            self.made({"rates.toml": rules, "late.toml": late, **files})
+            tool, *words = command.split()
+            with self.subTest(command), contextlib.chdir(self.folder):
+                done = subprocess.run([TOOLS / "explain", "--", TOOLS / tool, *words], capture_output=True, text=True, check=False)
+                lines = done.stderr.splitlines()
+                lines = [it for it in lines if not it.startswith("compare: ")]
+                self.assertEqual(lines[0], f"cpgc: {line}")
+                self.assertTrue(lines[1].startswith(said), lines)
+                if "c-table" in command:
+                    self.assertEqual(lines[2], "late.toml:5: the nodes are N1, and in the pack N1, N2")
+        with contextlib.chdir(self.folder):
+            self.assertEqual(explained("cpgc: late 87 by control in sense faults 1", Files(["pair.toml"], "show"))[1],
+                             ["process control ends at 87, in sense faults 1; it stands in none of the files", "to mend it: ask `why GRAPH` of the graph that has it"])
 
     def test_many_alternatives(self) -> None:
         """Of many live edges twelve are shown."""

@@ -14,9 +14,10 @@ Without `--` the lines come on standard input, and all of them are written again
 status is the one that cpgc has with such a line, and 0 where there is none.
 
 With --json each line of cpgc, and each warning, is an object on a line in its place: grade (error or warning), status, number and kind of the line,
-file, line, column and name of the entry, text, advice, and more, which are further places. What isn't known is null.
+file, line, column and name of the entry, text, advice, more, which are further places, and said, which is the line itself. What isn't known
+is null; a warning has no status, number and advice.
 
-Where no place is said, as for a text that spells keys in a strange way, the sentence alone stands. --patterns writes the status and a
+If the place of an entry can't be found, as in a file that spells keys in a strange way, its sentence has no line. --patterns writes the status and a
 regular expression for each line that cpgc may write, one a line.
 
 For example, `explain -- cpgc show late.toml` says by how much control is late, and which tools tell more.
@@ -51,9 +52,9 @@ def run_command(words: Sequence[str], as_json: bool) -> int:
     if not as_json:
         cli.tell_bytes(ran.err)
     if ran.err:
-        files = files_of(words)
-        files.program = program_of(words)
         for line in ran.err.decode(errors="replace").splitlines():
+            files = files_of(words, line)
+            files.program = program_of(words)
             for said in told(line, files, as_json):
                 cli.tell(said)
     if words[1:2] and words[1] in LINTED and ran.status in TAKEN:
@@ -100,7 +101,8 @@ def warn(files: Files, as_json: bool) -> None:
     found = lint.high(files.graphs[0]) if files.graphs else []
     if as_json:
         for it in found:
-            cli.tell(json.dumps(it.document()))
+            unknown = {"status": None, "number": None, "advice": None, "more": []}
+            cli.tell(json.dumps({**unknown, **it.document(), "said": it.text()}))
         return
     for line in [it.text() for it in found[:MOST_WARNINGS]]:
         cli.tell(line)
@@ -108,12 +110,49 @@ def warn(files: Files, as_json: bool) -> None:
         cli.tell(f"and {len(found) - MOST_WARNINGS} more warnings, which `{cli.named('lint')} {files.graphs[0].path}` has")
 
 
-def files_of(words: Sequence[str]) -> Files:
-    """The files of a command: of cpgc by its form, of another tool by what they are."""
+def files_of(words: Sequence[str], line: str = "") -> Files:
+    """The files of a command that writes a line: of cpgc and of some tools by its form, of another tool by what they are."""
     name, *rest = words
-    if os.path.basename(name) == "cpgc" or rest and rest[0] in COMMANDS:
+    tool = os.path.basename(name).removeprefix("cpgc-")
+    if tool == "cpgc" or rest and rest[0] in COMMANDS:
         return Files(rest[1:], rest[0] if rest else "")
+    if tool == "hyper-edges":
+        return Files(without_options(rest)[0][1:], "hyper")
+    if tool == "compare":
+        return files_of_compare(without_options(rest)[0], program_of(words), line)
+    if tool == "c-table":
+        plain, header = without_options(rest)
+        return Files([header, *plain], "c-table") if header else Files(plain, "node")
     return Files(rest)
+
+
+def files_of_compare(words: Sequence[str], cpgc: str | None, line: str) -> Files:
+    """The graph, and its pack if there are packs, of which cpgc writes a line; or all of them, if neither is known to be it."""
+    for number, path in enumerate(words[:2] if cpgc and line.startswith("cpgc: ") else ()):
+        asked = ("compile", path) if len(words) < 4 else ("check", path, words[2 + number])
+        try:
+            err = program.run([str(cpgc), *asked], seconds=run.SECONDS).err
+        except cli.Failure:
+            continue
+        if line in err.decode(errors="replace").splitlines():
+            return Files(asked[1:], asked[0])
+    return Files(words, "compare")
+
+
+def without_options(words: Sequence[str]) -> tuple[list[str], str | None]:
+    """The words of a tool that are no options, and the word of --header."""
+    plain: list[str] = []
+    header, left = None, list(words)
+    while left:
+        name, given, value = left.pop(0).partition("=")
+        if name in ("--program", "--cpgc", "--header"):
+            value = value if given or not left else left.pop(0)
+            header = value if name == "--header" else header
+        elif name + given == "--":
+            return plain + left, header
+        elif not name.startswith("--"):
+            plain.append(name + given + value)
+    return plain, header
 
 
 def read(words: Sequence[str], as_json: bool) -> int:

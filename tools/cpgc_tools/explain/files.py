@@ -13,6 +13,7 @@ COMMANDS = {
     "show": "GRAPH", "compile": "GRAPH", "check": "GRAPH PACK", "play": "GRAPH PACK SCENARIO --turns N", "node": "PACK NAME",
     "hyper": "N GRAPH ..", "tune": "GRAPH", "audit": "GRAPH PACK LOG", "live": "PACK NAME STREAM", "trial": "N",
 }
+FORMS = {**COMMANDS, "compare": "GRAPH GRAPH PACK PACK", "c-table": "GRAPH PACK NAME"}  # also of tools, as files_of puts their words
 DOES = {
     "show": "writes the tables of a graph as text", "compile": "writes them as a pack", "check": "says whether a pack is safe for a graph",
     "play": "plays the nodes in one scenario", "node": "writes the table of one node", "hyper": "makes one graph of graphs with periods N",
@@ -57,14 +58,14 @@ class Files:
         self.name: str | None = None
         self.line = ""  # that is explained
         self.program: str | None = None  # that wrote it, if more may be asked of it
-        self.order = list(self.of_form() if command in COMMANDS else self.of_content())
+        self.order = list(self.of_form() if command in FORMS else self.of_content())
         self.graphs = [file for kind, file in self.order if kind == "graph"]
         for kind, file in self.order:
             self.by.setdefault(kind, file)
 
     def of_form(self) -> Iterator[tuple[str, File]]:
         """The files as the form of the command has them."""
-        rest, form, turns = [], COMMANDS[self.command or ""].split(" --turns")[0].split(" "), False
+        rest, form, turns = [], FORMS[self.command or ""].split(" --turns")[0].split(" "), False
         options = self.words.index("--") if "--" in self.words else len(self.words)
         for number, word in enumerate(self.words):
             if number == options or number < options and (word.startswith("--turns=") or turns):

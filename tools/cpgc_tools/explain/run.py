@@ -112,6 +112,10 @@ def long(files: Files, kind: str) -> Sentences:
 def late(files: Files, finish: str, name: str, in_: str) -> Sentences:
     file = graph_with(files, lambda it: it.of_name("process", name) is not None)
     number = file.of_name("process", name)
+    if number is None and file.path:
+        yield f"process {name} ends at {finish}, in {in_}; it stands in none of the files"
+        yield mend(f"ask `{cli.named('why')} GRAPH` of the graph that has it")
+        return
     own = file.entry("process", number) if number is not None else {}
     dues = [it for it in (file.entry("top", 0).get("deadline"), own.get("deadline")) if it is not None]
     due = f", {int(finish) - min(dues)} after its due of {min(dues)}" if dues else ""
