@@ -4,7 +4,8 @@
     lint --strict GRAPH [PACK]
 
 A line has FILE:LINE, a grade, a text and, in brackets, a kind. If there is nothing to warn of, nothing is written. With --strict the status is 1
-if there is a warning; notes alone leave it at 0. The kinds of warnings are
+if there is a warning, or a note that is hardly ever meant so: too-long, load, units, due-later or frozen-local. The others leave it at 0. The kinds
+of warnings are
 
     never-runs    a process that is active in no scenario, as if a join = true was forgotten, with what waits for it
     no-overhead   a process without alpha, chi and mu, though faults may strike: to find one and to recover would take no time
@@ -42,6 +43,7 @@ from cpgc_tools.pack import Pack
 
 WARNINGS = ("never-runs", "no-overhead", "no-bytes", "doubled-edge")
 NOTES = ("apart", "frozen-local", "due-later", "too-long", "load", "units", "round", "late-frame", "idle-slot")
+STRICT = (*WARNINGS, "frozen-local", "due-later", "too-long", "load", "units")  # of which --strict has status 1
 MOST_TRACKS = 2**14  # of a graph that cpgc takes
 APART = 1000  # of a time in another unit
 Found = Iterator[tuple[str, Sentence]]  # a kind and a sentence
@@ -244,7 +246,7 @@ def tables_of(path: str, it: Graph) -> Pack:
 
 def main() -> int:
     words = cli.Words(__doc__)
-    words.add_argument("--strict", action="store_true", help="status 1 if there is a warning")
+    words.add_argument("--strict", action="store_true", help="status 1 if there is a warning, or a note that is hardly ever meant so")
     words.add_argument("--without", metavar="KIND", action="append", default=[], choices=[*WARNINGS, *NOTES], help="leave this kind out; may be said again")
     words.add_argument("--period", metavar="N", action="append", default=[], type=cli.whole(1, 10**9), help="a period that the round has to divide; may be said again")
     words.add_argument("--json", action="store_true", help="write JSON")
@@ -261,4 +263,4 @@ def main() -> int:
         cli.write(json.dumps([it.document() for it in found], indent=1) + "\n")
     else:
         cli.write_lines(it.text() for it in found)
-    return int(said.strict and any(it.grade == "warning" for it in found))
+    return int(said.strict and any(it.kind in STRICT for it in found))

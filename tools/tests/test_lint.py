@@ -112,6 +112,25 @@ class Lint(Case):
         self.assertEqual(self.found(text), [("units", "5:")])
         self.assertEqual(self.found(text.replace("wcet = 5 ", "wcet = 6 ")), [])
 
+    def test_strict(self) -> None:
+        """Notes on what can't be in time, on times in other units and on what has no effect end with status 1, too; the others don't. The ways to B and C
+        take until 20 and 34, and N has work for 9. A due of B after the graph's has no effect. B lasts 5000 times as long as A."""
+        slow = CLEAN.replace('"M", wcet = 5', '"M", wcet = 5000').replace("deadline = 40", "deadline = 40000")
+        for text, kinds, wanted in [
+            (CLEAN, [], 0),
+            (CLEAN.replace("deadline = 40", "deadline = 30"), ["too-long"], 1),
+            (CLEAN.replace("deadline = 40", "deadline = 8"), ["round", "load", "too-long"], 1),
+            (slow, ["units"], 1),
+            (CLEAN.replace('"M", wcet', '"M", deadline = 50, wcet'), ["due-later"], 1),
+            (CLEAN.replace(", bytes = 1 }]", ', bytes = 1 }, { from = "A", to = "C", frozen = true }]'), ["frozen-local"], 1),
+            (CLEAN.replace("deadline = 40", "deadline = 45"), ["round"], 0),
+            (CLEAN.replace('{ from = "B", to = "C", bytes = 1 }', ""), ["idle-slot", "apart"], 0),
+        ]:
+            with self.subTest(kinds):
+                self.assertEqual([kind for kind, _ in self.found(text)], kinds)
+                self.assertEqual(self.run_tool("lint", "--strict", self.file("x.toml", text))[0], wanted)
+                self.assertEqual(self.run_tool("lint", "--strict", *(it for kind in kinds for it in ("--without", kind)), self.file("x.toml", text)), (0, "", ""))
+
     def test_rounds(self) -> None:
         """A round of 10 divides 40 and not 15; of 7 neither, and the two instances of a part with the period of 20."""
         self.assertEqual(self.found(CLEAN, "--period", "20", "--period", "15"), [("round", "4:")])
