@@ -116,7 +116,7 @@ class Lint(Case):
         """Notes on what can't be in time, on times in other units and on what has no effect end with status 1, too; the others don't. The ways to B and C
         take until 20 and 34, and N has work for 9. A due of B after the graph's has no effect. B lasts 5000 times as long as A."""
         slow = CLEAN.replace('"M", wcet = 5', '"M", wcet = 5000').replace("deadline = 40", "deadline = 40000")
-        for text, kinds, wanted in [
+        cases: list[tuple[str, list[str], int]] = [
             (CLEAN, [], 0),
             (CLEAN.replace("deadline = 40", "deadline = 30"), ["too-long"], 1),
             (CLEAN.replace("deadline = 40", "deadline = 8"), ["round", "load", "too-long"], 1),
@@ -125,7 +125,8 @@ class Lint(Case):
             (CLEAN.replace(", bytes = 1 }]", ', bytes = 1 }, { from = "A", to = "C", frozen = true }]'), ["frozen-local"], 1),
             (CLEAN.replace("deadline = 40", "deadline = 45"), ["round"], 0),
             (CLEAN.replace('{ from = "B", to = "C", bytes = 1 }', ""), ["idle-slot", "apart"], 0),
-        ]:
+        ]
+        for text, kinds, wanted in cases:
             with self.subTest(kinds):
                 self.assertEqual([kind for kind, _ in self.found(text)], kinds)
                 self.assertEqual(self.run_tool("lint", "--strict", self.file("x.toml", text))[0], wanted)

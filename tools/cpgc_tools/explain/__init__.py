@@ -13,12 +13,12 @@ time the log is one of the tables, and what goes wrong then.
 Without `--` the lines come on standard input, and all of them are written again. The files are those of the command, in its order. The
 status is the one that cpgc has with such a line, and 0 where there is none.
 
-With --json each line of cpgc, and each warning, is an object on a line in its place: grade (error or warning), status, number and kind of the line,
-file, line, column and name of the entry, text, advice, more, which are further places, and said, which is the line itself. What isn't known
+With --json each line of cpgc, and each warning, is an object on a line in its place: grade (error or warning), status, number and kind of the
+line, file, line, column and name of the entry, text, advice, more, which are further places, and said, which is the line itself. What isn't known
 is null; a warning has no status, number and advice.
 
-If the place of an entry can't be found, as in a file that spells keys in a strange way, its sentence has no line. --patterns writes the status and a
-regular expression for each line that cpgc may write, one a line.
+If the place of an entry can't be found, as in a file that spells keys in a strange way, its sentence has no line. --patterns writes the status and
+a regular expression for each line that cpgc may write, one a line.
 
 For example, `explain -- cpgc show late.toml` says by how much control is late, and which tools tell more.
 """
@@ -101,7 +101,7 @@ def warn(files: Files, as_json: bool) -> None:
     found = lint.high(files.graphs[0]) if files.graphs else []
     if as_json:
         for it in found:
-            unknown = {"status": None, "number": None, "advice": None, "more": []}
+            unknown: dict[str, object] = {"status": None, "number": None, "advice": None, "more": []}
             cli.tell(json.dumps({**unknown, **it.document(), "said": it.text()}))
         return
     for line in [it.text() for it in found[:MOST_WARNINGS]]:
