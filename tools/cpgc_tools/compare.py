@@ -6,8 +6,9 @@
 
 OLD and NEW are graph files. Their tables are compiled, or those of the packs are checked. The output says what differs in the graphs, the latest
 end of all scenarios, how many columns there are, the latest end and the spare time of each process for which one of them differs, and what moved:
-each start, message and broadcast that has another time in a scenario of both graphs. It says by how much it moves, and in which scenario the
-most. An item with another number of columns whose times stay is listed behind them. Processes are known by their names, and messages by both ends, so other numbers change nothing.
+each start, message and broadcast that has another time in a scenario of both graphs. It says by how much it moves, and in which scenario the most.
+An item with another number of columns whose times stay is listed behind them. Processes are known by their names, and messages by both ends, so
+other numbers change nothing.
 
 A scenario of both has the same faults and the same true values, and strikes only what is in both. If an item has more than 1,000,000 pairs of
 columns, only its latest times are compared. If a graph has more than 4,096 outcomes, a scenario may be shown that its conditions don't allow.

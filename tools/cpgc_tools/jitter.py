@@ -3,12 +3,12 @@
     jitter GRAPH [PACK]
     jitter --process PART.NAME GRAPH [PACK]
 
-GRAPH is one that `cpgc hyper` or `hyper-edges` has made. An offset is a start less the begin of its instance's period. For each process with more
+GRAPH is one that `cpgc hyper` or `hyper-edges` has made. An offset is a start less the start of its instance's period. For each process with more
 than one instance the output has the least and the greatest offset over all instances and scenarios (`earliest`, `latest`), how far these are
 apart, and how far offsets are apart within one instance at most, in which only scenarios differ.
 
 A release is shown for each process that --process names or, without --process, that nothing waits for, as actuators are. If all copies have that
-release, after the begin of their period, and are frozen, all start at this one offset. It was found by compiling; `none` says that what was
+release, after the start of their period, and are frozen, all start at this one offset. It was found by compiling; `none` says that what was
 compiled wasn't in time, or that 8 tries found no offset. If there are several, the last line says whether they can be put in together. --all
 lists each instance.
 
@@ -57,7 +57,7 @@ def offsets(it: Instances, tables: Pack, process: Named) -> Offsets | None:
 
 
 def at_releases(it: Instances, releases: Mapping[Named, int]) -> Graph:
-    """The graph in which processes are frozen and have releases, behind the begin of each instance's period."""
+    """The graph in which processes are frozen and have releases, behind the start of each instance's period."""
     changes: dict[int, dict[str, object]] = {}
     for (part, name), release in releases.items():
         for instance in range(it.parts[part].count):

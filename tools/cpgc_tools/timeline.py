@@ -4,10 +4,10 @@
     cpgc play GRAPH PACK SCENARIO --turns 0 | timeline --svg [GRAPH] > play.svg
     timeline GRAPH PACK SCENARIO
 
-With three files it plays the scenario itself. An execution is drawn from its start to its end, with a `!` for each fault, and a frame at the
-time at which its slot begins. If a bar is too short, its name and marks are cut; of the name of a copy of `hyper` what is before it goes first.
-With the graph file, nodes are in its order, and those that do nothing are shown too. Without it they are in the order of their names, except
-for those whose order the play shows.
+With three files it plays the scenario itself. An execution is drawn from its start to its end, with a `!` for each fault, and a frame at the time
+at which its slot begins. If a bar is too short, its name and marks are cut. The name of a copy that `hyper` made loses its part and its instance
+first. With the graph file, nodes are in its order, and those that do nothing are shown too. Without it they are in the order of their names,
+except for those whose order the play shows.
 
 For example, `timeline pair.toml pair.pack pair-scenario.toml`.
 """
