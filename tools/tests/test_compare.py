@@ -2,6 +2,7 @@
 import json
 import random
 import xml.etree.ElementTree as xml
+from unittest import mock
 
 from cpgc_tools import pack
 from cpgc_tools.compare import Comparison, Side
@@ -38,6 +39,8 @@ class Compare(Case):
         pair = self.folder / "pair.toml"
         self.assertEqual(self.of("compare", pair, pair, tables, pack).splitlines(), [
             "the graphs are alike", "worst 105, as before", "5 columns, as before", "start B: up to 1 later, as at 51, was 50, in none"])
+        with mock.patch("cpgc_tools.compare.MOST_PAIRS", 3):  # of two columns and two, so that only the latest starts are compared, at 90 both
+            self.assertEqual(self.of("compare", pair, pair, tables, pack).splitlines()[-1], "no latest time moved")
         self.of("compare", pair, pair, tables, status=1, err="compare: two packs, or none (--help says the words)\n")
         single = self.file("single.toml", SINGLE)
         self.of("compare", single, pair, tables, tables, status=4, err="cpgc: refused 17 other graph nodes\n")
