@@ -17,6 +17,7 @@ from typing import Any, NamedTuple, TypeVar
 
 from cpgc_tools import cli
 from cpgc_tools.graph import Graph, is_name
+from cpgc_tools.toml_places import Table
 
 HELP = """Reads a pack of schedule tables as JSON, or writes one from JSON. docs/FORMATS.md describes the bytes.
 
@@ -423,9 +424,6 @@ def json_text(pack: Pack) -> Iterator[str]:
             yield ("," if number else "") + f"\n   {row}"
         yield "]"
     yield "]}\n"
-
-
-Table = dict[str, Any]
 
 
 def of_json(content: bytes) -> bytes:

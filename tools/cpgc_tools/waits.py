@@ -104,9 +104,8 @@ class Waits:
 
     def over(self, played: Played, act: Act) -> int | None:
         """When an execution has ended or a frame is there, if it is active."""
-        if act[0] == "start":
-            return played.acts.ends[act[1]].time if act[1] in played.acts.ends else None
-        return self.graph.arrival(self.producer(act).node, played.acts.sends[act].time) if act in played.acts.sends else None
+        time = self.when(played, act)
+        return time if time is None or act[0] == "start" else self.graph.arrival(self.producer(act).node, time)
 
     def queue(self, act: Act) -> list[Act]:
         """The frames of a node before this one, in the order of its queue."""
@@ -224,23 +223,18 @@ class Waits:
             played = None
             if other[0] == "start" and time == self.case.ends.get(other[1]):
                 played = self.case.play(other[1])
-            if played is None or not self.is_done(played, act) or self.when(played, other) != time:
+            if played is None or self.when(played, act) is None or self.when(played, other) != time:
                 scenario = self.both(act, other, time)
                 played = self.case.played(scenario) if scenario else None
-            if played is not None and self.is_done(played, act) and self.when(played, other) == time:
+            if played is not None and self.when(played, act) is not None and self.when(played, other) == time:
                 return played, other
         return None
 
     @staticmethod
-    def is_done(played: Played, act: Act) -> bool:
-        return act[1] in played.acts.starts if act[0] == "start" else act in played.acts.sends
-
-    @staticmethod
     def when(played: Played, act: Act) -> int | None:
-        """When an execution ends, or a frame is sent."""
-        if act[0] == "start":
-            return played.acts.ends[act[1]].time if act[1] in played.acts.ends else None
-        return played.acts.sends[act].time if act in played.acts.sends else None
+        """When an execution ends, or a frame is sent, if it is active."""
+        found = played.acts.ends.get(act[1]) if act[0] == "start" else played.acts.sends.get(act)
+        return None if found is None else found.time
 
     def both(self, act: Act, other: Act, time: int) -> Scenario | None:
         """The least scenario of some in which an act is done, and another one is over, or sent, at a time."""

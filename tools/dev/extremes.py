@@ -27,6 +27,7 @@ class Design:
         self.processes: list[dict[str, Any]] = []
         self.edges: list[tuple[int, int, bool | None, bool]] = []
         self.rows: dict[str, list[Any]] = {}  # columns, a time with literals each, by item
+        self.now = 0  # when all processes that always start are over
 
     def node(self) -> int:
         self.nodes.append(f"N{len(self.nodes)}")
@@ -36,6 +37,12 @@ class Design:
         """Adds a process and returns its number."""
         self.processes.append({"name": name, "node": node, "wcet": wcet, **more})
         return len(self.processes) - 1
+
+    def always(self, name: str, node: int = 0) -> int:
+        """Adds a process that starts in all scenarios, behind those that did before, and returns its number."""
+        self.rows[f"start {name}"] = [[self.now, []]]
+        self.now += self.faults + 2
+        return self.process(name, node)
 
     def edge(self, source: int, target: int, when: bool | None = None, frozen: bool = False) -> int:
         """Adds an edge and returns its number."""
@@ -204,13 +211,10 @@ def parity_sent(conditions: int, before: int, faults: int, draw: Any = 3) -> Fil
 
 def audited_sets(size: int, sets: int, faults: int) -> Any:
     """A log by which each of disjoint sets of processes had a fault, one set more than there are faults: no scenario gives it."""
-    it, step, now, log = Design(faults), faults + 2, 0, []
+    it, step = Design(faults), faults + 2
     it.node()
-    members = [[it.process(f"p{i}_{j}") for j in range(size)] for i in range(sets)]
-    for p in itertools.chain(*members):
-        it.rows[f"start {it.processes[p]['name']}"] = [[now, []]]
-        log.append(f"{now} N0 start {it.processes[p]['name']}")
-        now += step
+    members = [[it.always(f"p{i}_{j}") for j in range(size)] for i in range(sets)]
+    now, log = it.now, [f"{columns[0][0]} N0 {item}" for item, columns in it.rows.items()]
     for number, own in enumerate(members):
         late = now + step
         it.process(f"x{number}")
@@ -223,26 +227,19 @@ def audited_sets(size: int, sets: int, faults: int) -> Any:
 def heard_sets(size: int, sets: int, faults: int, conditions: int = 0) -> Files:
     """Messages of which each tells a node something where no process of a set had a fault; not all sets can have one. With conditions
     a message's column is parted by one of them."""
-    it, step, now = Design(faults), faults + 2, 0
+    it = Design(faults)
     near, far = it.node(), it.node()
-
-    def start(name: str, node: int, columns: Any = None, wait: int = 0) -> Any:
-        nonlocal now
-        p = it.process(name, node)
-        it.rows[f"start {name}"] = columns or [[now, []]]
-        now += wait or step
-        return p
-
-    members = [[start(f"p{i}_{j}", near) for j in range(size)] for i in range(sets)]
-    told = start("v", near)
-    deciding = [start(f"c{c}", near) for c in range(conditions)]
+    members = [[it.always(f"p{i}_{j}", near) for j in range(size)] for i in range(sets)]
+    told = it.always("v", near)
+    deciding = [it.always(f"c{c}", near) for c in range(conditions)]
     if deciding:
-        both = start("y", near, [[now, [[128 + c, 1, 1] for c in range(conditions)]]])
+        both = it.always("y", near)
+        it.rows["start y"][0][1] = [[128 + c, 1, 1] for c in range(conditions)]
         for c in deciding:
             it.edge(c, both, True)
-    senders = [start(f"y{i}", near) for i in range(sets)]
+    senders = [it.always(f"y{i}", near) for i in range(sets)]
     last = it.process("x", far)
-    now += step
+    now = it.now + faults + 2
     now += now % 2
     for c in deciding:
         it.rows[f"tell {it.processes[c]['name']}"] = [[now, []]]
@@ -272,13 +269,10 @@ def vectors(count: int, left: int) -> Any:
 def long_rows(rows: int, columns: int, seed: int = 5) -> Files:
     """Rows of many columns of which no single variable parts the most."""
     faults, drawn = 8, random.Random(seed)
-    it, step, now = Design(faults), faults + 2, 0
+    it, step = Design(faults), faults + 2
     it.node()
-    chained, forked = [it.process(f"a{i}") for i in range(12)], [it.process(f"b{i}") for i in range(9)]
-    parting, later = it.process("r"), [it.process(f"s{i}") for i in range(9)]
-    for process in it.processes:
-        it.rows[f"start {process['name']}"] = [[now, []]]
-        now += step
+    chained, forked = [it.always(f"a{i}") for i in range(12)], [it.always(f"b{i}") for i in range(9)]
+    parting, later = it.always("r"), [it.always(f"s{i}") for i in range(9)]
     depth = next(depth for depth in range(1, 9) if sum(1 for _ in vectors(depth, 7)) >= columns)
     cubes = [[[parting, 1, faults], *none_of(later), *([p, n, n] for p, n in zip(forked, counts))] for counts in vectors(depth, 7)]
     drawn.shuffle(cubes)
@@ -289,7 +283,7 @@ def long_rows(rows: int, columns: int, seed: int = 5) -> Files:
     cubes[place:place] = middle
     for number in range(rows):
         it.process(f"x{number}")
-        it.rows[f"start x{number}"] = [[now + number * step + (10**6 if cube is middle[0] else 0), sorted(cube)] for cube in front + cubes]
+        it.rows[f"start x{number}"] = [[it.now + number * step + (10**6 if cube is middle[0] else 0), sorted(cube)] for cube in front + cubes]
     return {"graph": it.text(), "pack": it.pack()}
 
 
@@ -305,12 +299,9 @@ def by_threshold(members: Sequence[int], least: int, faults: int) -> Any:
 
 def threshold_row(processes: int, least: int, faults: int, damage: Any) -> Files:
     """A row of such columns, of which one stands twice, is too wide or is missing."""
-    it, step, now = Design(faults), faults + 2, 0
+    it = Design(faults)
     it.node()
-    members = [it.process(f"p{i}") for i in range(processes)]
-    for p in members:
-        it.rows[f"start p{p}"] = [[now, []]]
-        now += step
+    members = [it.always(f"p{i}") for i in range(processes)]
     cubes = list(by_threshold(members, least, faults))
     place = len(cubes) - 1 - processes
     if damage == "double":
@@ -321,21 +312,17 @@ def threshold_row(processes: int, least: int, faults: int, damage: Any) -> Files
     else:
         del cubes[place]
     it.process("x")
-    it.rows["start x"] = [[now, cube] for cube in cubes]
+    it.rows["start x"] = [[it.now, cube] for cube in cubes]
     return {"graph": it.text(), "pack": it.pack()}
 
 
 def deep_row(processes: int) -> Files:
     """A row that forks one fault count at a time, as deep as there are processes and faults."""
-    faults, now = 8, 0
-    it = Design(faults)
+    it = Design(8)
     it.node()
-    members = [it.process(f"p{i}") for i in range(processes)]
-    for p in members:
-        it.rows[f"start p{p}"] = [[now, []]]
-        now += faults + 2
+    members = [it.always(f"p{i}") for i in range(processes)]
     it.process("x")
-    columns = [[now, none_of(members[:p]) + [[p, n, n]]] for p in members for n in range(faults, 0, -1)] + [[now, none_of(members)]]
+    columns = [[it.now, none_of(members[:p]) + [[p, n, n]]] for p in members for n in range(it.faults, 0, -1)] + [[it.now, none_of(members)]]
     middle = len(columns) // 2
     columns[middle], columns[middle - 1] = columns[middle - 1], columns[middle]
     it.rows["start x"] = columns

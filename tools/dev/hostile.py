@@ -18,6 +18,7 @@ extremes small files with small answers that take minutes or gigabytes if a prog
 from __future__ import annotations
 
 import atexit
+import itertools
 import os
 import re
 import resource
@@ -26,7 +27,7 @@ import signal
 import subprocess
 import tempfile
 import time
-from collections.abc import Callable, Iterable, Sequence
+from collections.abc import Callable, Iterable, Iterator, Sequence
 from concurrent.futures import ThreadPoolExecutor
 from typing import Any
 
@@ -113,14 +114,8 @@ def damaged(bytes: bytes, step: int = 1) -> Any:
         yield f"{at} bytes", bytes[:at]
 
 
-def in_pieces(items: Sequence[Any], size: int) -> Any:
-    piece = []
-    for it in items:
-        piece.append(it)
-        if len(piece) == size:
-            yield piece
-            piece = []
-    yield piece
+def in_pieces(items: Iterator[Any], size: int) -> Iterator[list[Any]]:
+    return iter(lambda: list(itertools.islice(items, size)), [])
 
 
 def damage(bench: Bench, quick: bool) -> None:
@@ -137,9 +132,8 @@ def damage(bench: Bench, quick: bool) -> None:
             texts.append(("stream", read("pair-N2.stream"), lambda it: ["live", pack, "N2", it]))
         for kind, bytes, words in texts:
             step = (101 if quick else 1) if len(bytes) < 4000 else (997 if quick else 13)
-            number = 0
             for piece in in_pieces(damaged(bytes, step), 64):
-                runs = [(f"{kind} of {graph}, {what}", words(bench.file(f"damaged-{number}-{i}", new))) for i, (what, new) in enumerate(piece)]
+                runs = [(f"{kind} of {graph}, {what}", words(bench.file(f"damaged-{i}", new))) for i, (what, new) in enumerate(piece)]
                 bench.judge_all(runs)
             print(f"{kind} of {graph}: {len(bytes)} bytes, one of {step} damaged")
 

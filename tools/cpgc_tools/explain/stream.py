@@ -9,9 +9,9 @@ from cpgc_tools.explain.files import Files, listed, mend, near
 from cpgc_tools.explain.table import Sentences, explains
 from cpgc_tools.graph import File, Sentence, shown
 from cpgc_tools.pack import Pack
+from cpgc_tools.stream import CLOSE, END, FRAME
 
 SIZE = 14  # of a record
-FRAME, END, CLOSE = range(3)
 
 
 class Record:
