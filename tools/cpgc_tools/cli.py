@@ -1,9 +1,7 @@
 """How a tool begins and ends: its words, what it reads and writes, and one way to fail.
 
     def main() -> None:
-        words = cli.Words(__doc__)
-        words.add_argument("graph", metavar="GRAPH")
-        said = words.parse_args()
+        said = cli.Words(__doc__).with_files("GRAPH").parse_args()
         content = cli.read(said.graph, cli.GRAPH)       # at most so many bytes
         cli.fail(f"{said.graph}: no graph file")        # ends the tool by `TOOL: GRAPH: no graph file` and BAD_INPUT
         cli.write("a line\n")                           # text as UTF-8, or bytes, on standard output
@@ -131,6 +129,12 @@ class Words(argparse.ArgumentParser):
 
     def with_program(self) -> Words:
         self.add_argument("--program", "--cpgc", metavar="CPGC", help="the program; else $CPGC, else cpgc on the path")
+        return self
+
+    def with_files(self, *names: str) -> Words:
+        """Files that have to be named, as the help calls them."""
+        for name in names:
+            self.add_argument(name.lower(), metavar=name)
         return self
 
     def error(self, message: str) -> NoReturn:

@@ -349,12 +349,10 @@ def as_svg(names: tuple[str, str], changes: Sequence[str], it: Comparison, width
 
 
 def main() -> None:
-    words = cli.Words(__doc__).with_program()
+    words = cli.Words(__doc__).with_program().with_files("OLD", "NEW")
     words.add_argument("--all", action="store_true", help="list all that moved")
     words.add_argument("--json", action="store_true", help="write JSON, with all that moved")
     words.add_argument("--svg", action="store_true", help="draw a picture")
-    words.add_argument("old", metavar="OLD")
-    words.add_argument("new", metavar="NEW")
     words.add_argument("packs", metavar="PACK", nargs="*", help="the tables of both, else they are compiled")
     said = words.parse_args()
     if len(said.packs) not in (0, 2):

@@ -28,10 +28,8 @@ def parts(it: graph.Graph, tables: pack.Pack) -> dict[str, int]:
 
 
 def main() -> None:
-    words = cli.Words(__doc__).with_program()
+    words = cli.Words(__doc__).with_program().with_files("GRAPH", "PACK")
     words.add_argument("--more", action="store_true", help="also write what the cycle time comes from")
-    words.add_argument("graph", metavar="GRAPH")
-    words.add_argument("pack", metavar="PACK")
     said = words.parse_args()
     with Program(said.program) as cpgc:
         it = safe.read(cpgc, said.graph, said.pack)

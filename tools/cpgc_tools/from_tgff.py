@@ -234,10 +234,8 @@ def chosen(path: str, found: Entries[str, Block], wanted: int | None) -> TaskGra
 
 
 def main() -> None:
-    words = cli.Words(__doc__)
+    words = cli.Words(__doc__).with_files("FILE", "MAPPING")
     words.add_argument("--graph", metavar="N", type=cli.whole(0, 10**9), help="which task graph of FILE")
-    words.add_argument("file", metavar="FILE")
-    words.add_argument("mapping", metavar="MAPPING")
     said = words.parse_args()
     try:
         found = blocks(cli.read(said.file, cli.GRAPH).decode(errors="replace"))

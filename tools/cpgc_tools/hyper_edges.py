@@ -191,8 +191,7 @@ def joined(it: Graph, edges: list[Table], path: str) -> Graph:
 
 
 def main() -> None:
-    words = cli.Words(__doc__).with_program()
-    words.add_argument("rules", metavar="RULES")
+    words = cli.Words(__doc__).with_program().with_files("RULES")
     words.add_argument("parts", metavar="N GRAPH", nargs="+", help="the words of cpgc hyper")
     said = words.parse_args()
     rules = File(said.rules, content=cli.read(said.rules, cli.GRAPH))

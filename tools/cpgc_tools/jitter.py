@@ -122,10 +122,9 @@ def lines(it: Instances, tables: Pack, found: Mapping[Named, Found | None], ever
 
 
 def main() -> None:
-    words = cli.Words(__doc__).with_program()
+    words = cli.Words(__doc__).with_program().with_files("GRAPH")
     words.add_argument("--process", metavar="PART.NAME", action="append", default=[], help="a process whose release is asked for; may be said again")
     words.add_argument("--all", action="store_true", help="list each instance")
-    words.add_argument("graph", metavar="GRAPH")
     words.add_argument("pack", metavar="PACK", nargs="?", help="its tables, else it is compiled")
     said = words.parse_args()
     with Program(said.program) as cpgc:

@@ -245,12 +245,11 @@ def tables_of(path: str, it: Graph) -> Pack:
 
 
 def main() -> int:
-    words = cli.Words(__doc__)
+    words = cli.Words(__doc__).with_files("GRAPH")
     words.add_argument("--strict", action="store_true", help="status 1 if there is a warning, or a note that is hardly ever meant so")
     words.add_argument("--without", metavar="KIND", action="append", default=[], choices=[*WARNINGS, *NOTES], help="leave this kind out; may be said again")
     words.add_argument("--period", metavar="N", action="append", default=[], type=cli.whole(1, 10**9), help="a period that the round has to divide; may be said again")
     words.add_argument("--json", action="store_true", help="write JSON")
-    words.add_argument("graph", metavar="GRAPH")
     words.add_argument("pack", metavar="PACK", nargs="?")
     said = words.parse_args()
     file = File(said.graph, content=cli.read(said.graph, cli.GRAPH))

@@ -191,9 +191,7 @@ def simulated(it: Graph, tables: Pack, scenario: Scenario, place: Path, arm: boo
 
 
 def main() -> None:
-    words = cli.Words(__doc__).with_program()
-    for name in ("graph", "pack", "scenario"):
-        words.add_argument(name, metavar=name.upper())
+    words = cli.Words(__doc__).with_program().with_files("GRAPH", "PACK", "SCENARIO")
     words.add_argument("--arm", action="store_true", help="on emulated Cortex-M3s")
     words.add_argument("--lose", metavar="ITEM", action="append", default=[], help="lose this frame; may be said again")
     words.add_argument("--hang", metavar="PROCESS", action="append", default=[], help="never end this process; may be said again")

@@ -135,9 +135,8 @@ def row(tries: Tries, number: int, late: bool) -> Row:
 
 
 def main() -> None:
-    words = cli.Words(__doc__).with_program()
+    words = cli.Words(__doc__).with_program().with_files("GRAPH")
     words.add_argument("--samples", metavar="N", type=cli.whole(0, 10**6), help="how many values below the bound are tried as well")
-    words.add_argument("graph", metavar="GRAPH")
     words.add_argument("names", metavar="NAME", nargs="*", help="a process")
     said = words.parse_args()
     with Program(said.program) as cpgc:

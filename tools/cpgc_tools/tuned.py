@@ -68,9 +68,8 @@ def tuned(text: str, it: graph.Graph, parts: Parts) -> tuple[str, bool]:
 
 
 def main() -> None:
-    words = cli.Words(__doc__).with_program()
+    words = cli.Words(__doc__).with_program().with_files("GRAPH")
     words.add_argument("--search", action="store_true", help="look for parts with which the latest end comes earlier")
-    words.add_argument("graph", metavar="GRAPH")
     said = words.parse_args()
     content = cli.read(said.graph, cli.GRAPH)
     with Program(said.program) as cpgc:

@@ -209,10 +209,9 @@ def reordered(cpgc: Program, it: Graph) -> list[str]:
 
 
 def main() -> None:
-    words = cli.Words(__doc__).with_program()
+    words = cli.Words(__doc__).with_program().with_files("GRAPH")
     words.add_argument("--all", action="store_true", help="list the latest end of each process")
     words.add_argument("--keep", metavar="FOLDER", help="leave the files of the play there, over any of the same names")
-    words.add_argument("graph", metavar="GRAPH")
     said = words.parse_args()
     content = cli.read(said.graph, cli.GRAPH)
     with Program(said.program) as cpgc:

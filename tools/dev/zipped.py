@@ -37,9 +37,7 @@ def archive() -> bytes:
 
 
 def main() -> None:
-    words = cli.Words(__doc__)
-    words.add_argument("file", metavar="FILE")
-    said = words.parse_args()
+    said = cli.Words(__doc__).with_files("FILE").parse_args()
     try:
         Path(said.file).write_bytes(archive())
         os.chmod(said.file, 0o755)

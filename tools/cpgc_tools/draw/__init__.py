@@ -31,9 +31,7 @@ from cpgc_tools.program import Program
 
 
 def options_of(words: Sequence[str] | None = None) -> argparse.Namespace:
-    parser = cli.Words(__doc__).with_program()
-    parser.add_argument("graph", metavar="GRAPH")
-    parser.add_argument("pack", metavar="PACK")
+    parser = cli.Words(__doc__).with_program().with_files("GRAPH", "PACK")
     parser.add_argument("scenarios", metavar="SCENARIO", nargs="*")
     parser.add_argument("--worst", action="store_true", help="also draws a play of a scenario that has the latest end")
     parser.add_argument("--due", metavar="GRAPH", help="in plays, draws the due times of this other file of the graph, such as one that is rejected as late")

@@ -23,7 +23,7 @@ STATUSES = (0, 5, 6)
 
 
 def words_of(text: str | None) -> cli.Words:
-    words = cli.Words(text).with_program()
+    words = cli.Words(text).with_program().with_files("GRAPH")
     words.add_argument("--quick", action="store_true", help="order alone, in half a second")
     words.add_argument("--goal", choices=search.GOALS, default="shortest", help="what is best (shortest)")
     many = f"how many designs are tried ({TRIES}; with --seconds as many as it takes)"
@@ -36,7 +36,6 @@ def words_of(text: str | None) -> cli.Words:
     words.add_argument("--state", metavar="FILE", help="keeps the state of the search there, and goes on from it")
     words.add_argument("--picture", metavar="FILE", help="draws how the best design improved, as SVG")
     words.add_argument("--quiet", action="store_true", help="no lines while it searches")
-    words.add_argument("graph", metavar="GRAPH")
     words.add_argument("choices", metavar="CHOICES", nargs="?")
     return words
 

@@ -118,9 +118,7 @@ def inlined(values: str) -> str:
 
 
 def main() -> None:
-    words = cli.Words(__doc__)
-    words.add_argument("graph", metavar="GRAPH")
-    words.add_argument("pack", metavar="PACK")
+    words = cli.Words(__doc__).with_files("GRAPH", "PACK")
     words.add_argument("--due", metavar="OTHER", help="a graph file whose due times are shown in place of those of GRAPH")
     said = words.parse_args()
     cli.write(page(said.graph, said.pack, said.due))
