@@ -8,8 +8,13 @@ PROGRAM is crates/cpgc/out/cpgc where nothing is said. Each file examples/NAME.o
 command behind `$`, its lines on standard output behind `>`, its lines on the error stream behind `!`, and its status. They run in a
 copy of examples/, each file's in its folder, with docs/examples/ where it is seen from there, and with `cpgc` and the scripts of tools/ on the path, so that what
 they write is gone afterwards.
+
+Without names, the blocks of README and of the guide that are marked `sh` run too, all of a document in one shell, at the top of a copy. They build the
+program, which takes Rattle's kit and an hour: in place of `rt` and of `tools/unproved` stands a script that takes the same words, and whose program is
+PROGRAM.
 """
 import os
+import re
 import shutil
 import subprocess
 import tempfile
@@ -18,6 +23,20 @@ from pathlib import Path
 from cpgc_tools import cli, program
 
 TOP = Path(__file__).resolve().parents[2]
+DOCUMENTS = "README.md", "docs/GUIDE.md"
+# A file OUT or out/cpgc in place of a build; then the words of cpgc. It says what it doesn't know.
+STUB = """#!/bin/sh
+set -e
+case "${{0##*/}} $1 $2" in
+unproved*) exec ln -s '{cpgc}' "$1" ;;
+"rt run --") mkdir -p out && ln -sf '{cpgc}' out/cpgc && shift 2 ;;
+"rt try --data") mkdir -p out/data && cp "${{3#*=}}" "out/data/${{3%%=*}}" && cd out/data && shift 4 ;;
+*) echo "${{0##*/}}: other words: $*" >&2 && exit 1 ;;
+esac
+exec '{cpgc}' "$@"
+"""
+# What has to be so behind the blocks: the commands of the document find the program, the tools and the files.
+FOUND = "cpgc show pair.toml && command -v draw && command -v why"
 
 
 def missing(text: str) -> list[str]:
@@ -46,6 +65,36 @@ def run(command: str, folder: Path, path: str) -> list[str]:
     return told(">", done.stdout) + told("!", done.stderr) + [f"status {done.returncode}"]
 
 
+def checkout(cpgc: str, top: Path) -> Path:
+    """A copy of what the blocks of documents see, with stubs for what builds; and the folder of the stub for `rt`."""
+    shutil.copytree(TOP / "examples", top / "examples")
+    (top / "crates/cpgc").mkdir(parents=True)
+    (top / "tools").mkdir()
+    for tool in (TOP / "tools").iterdir():
+        (top / "tools" / tool.name).symlink_to(tool)
+    (top / "tools/unproved").unlink()
+    (top / "kit").mkdir()
+    for stub in (top / "tools/unproved", top / "kit/rt"):
+        stub.write_text(STUB.format(cpgc=cpgc))
+        stub.chmod(0o755)
+    return top / "kit"
+
+
+def run_blocks(cpgc: str, place: Path) -> int:
+    """Runs the blocks of documents that are marked `sh`, and answers how many documents are wrong."""
+    wrong = 0
+    for name in DOCUMENTS:
+        blocks = re.findall(r"^```sh\n(.*?)^```$", (TOP / name).read_text(), re.S | re.M)
+        top = place / Path(name).stem
+        path = f"{checkout(cpgc, top)}:{os.environ['PATH']}"
+        got = run("set -e\n" + "".join(blocks) + FOUND, top, path)
+        print(f"{name}: {len(blocks)} blocks of sh run, with a stub in place of rt and tools/unproved")
+        if got[-1] != "status 0" or any(line.startswith("!") for line in got):
+            wrong += 1
+            print(*(f"  {line}" for line in got), sep="\n")
+    return wrong
+
+
 def run_all(cpgc: str, names: list[str]) -> int:
     files = [TOP / "examples" / f"{name}.out" for name in names] or sorted((TOP / "examples").rglob("*.out"))
     wrong = 0
@@ -62,8 +111,9 @@ def run_all(cpgc: str, names: list[str]) -> int:
                 if got != wanted:
                     wrong += 1
                     print(f"{file.name}: $ {command}", *(f"  wanted {line}" for line in wanted), *(f"  got    {line}" for line in got), sep="\n")
-    print(f"{len(files)} files, {wrong} commands wrong")
-    return int(wrong > 0)
+        documents_wrong = 0 if names else run_blocks(cpgc, Path(place) / "checkouts")
+    print(f"{len(files)} files, {wrong} commands wrong" + f", {documents_wrong} documents wrong" * (not names))
+    return int(wrong + documents_wrong > 0)
 
 
 def main() -> int:

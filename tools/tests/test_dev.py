@@ -198,6 +198,40 @@ class Documents(Tree):
         self.assertEqual(self.spoil("README.md", "# One", "# One" + " word" * 1400), ["README.md has 1418 words, and 1400 are the most"])
 
 
+class Blocks(Tree):
+    """The blocks of documents, with a program that does nothing."""
+
+    copied = ("tools/examples", "tools/dev/__init__.py", "tools/dev/shim.py", "tools/dev/examples.py", "tools/cpgc_tools")
+    readme = "```sh\nmkdir out && tools/unproved out/cpgc\n(cd crates/cpgc && rt run -- show ../../examples/pair.toml)\n```\n\n" \
+             "```sh\n(cd crates/cpgc && rt try --data x.toml=../../examples/pair.toml -- show x.toml)\nexport PATH=$PWD/out:$PWD/tools:$PATH\ncd examples\n```\n"
+    guide = "```sh\nexport PATH=$PWD/tools:$PATH\ncd examples\n```\n\n```\n$ nothing\n```\n"
+
+    def said(self, readme: str) -> tuple[int, list[str]]:
+        program = self.script("bin/cpgc", '[ "$1" = show ] && cat "$2"')
+        self.script("tools/unproved", "exit 1")
+        for name in ("draw", "why"):
+            self.script(f"tools/{name}", "exit 1")
+        for name, text in {"README.md": readme, "docs/GUIDE.md": self.guide, "examples/pair.toml": "faults = 1\n", "docs/examples/x": ""}.items():
+            (self.top / name).parent.mkdir(parents=True, exist_ok=True)
+            (self.top / name).write_text(text)
+        status, out, _ = self.run_tool("tools/examples", program, PATH=f"{program.parent}:{os.environ['PATH']}")
+        return status, out.splitlines()
+
+    def test_as_they_are(self) -> None:
+        stub = "blocks of sh run, with a stub in place of rt and tools/unproved"
+        self.assertEqual(self.said(self.readme), (0, [f"README.md: 2 {stub}", f"docs/GUIDE.md: 1 {stub}", "0 files, 0 commands wrong, 0 documents wrong"]))
+
+    def test_a_file_that_is_not_there(self) -> None:
+        status, lines = self.said(self.readme.replace("../../examples/pair.toml)", "../examples/pair.toml)"))
+        self.assertEqual((status, lines[-1]), (1, "0 files, 0 commands wrong, 1 documents wrong"))
+        self.assertRegex("\n".join(lines), "(?m)^  ! cat: .*examples/pair.toml")
+
+    def test_other_words(self) -> None:
+        status, lines = self.said(self.readme.replace("rt run --", "rt run"))
+        self.assertEqual(status, 1)
+        self.assertIn("  ! rt: other words: run show ../../examples/pair.toml", lines)
+
+
 class Cases(Tree):
     copied = ("tools/dev/cases", "crates/cpg_cases")
 
