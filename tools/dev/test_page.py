@@ -8,8 +8,8 @@ PROGRAM is a built cpgc. Pages of generated graphs and of the examples are opene
 things are compared: what is drawn then, and the play as text, with the play of the program; each process's latest end with that of all
 scenarios, if the graph has few; and what a node is said to have heard with the play and the rows of the pack.
 
-With `--measure` it times clicks in the page of a graph of 128 processes over 16 nodes. With `--screenshot` it writes the picture of the
-controller's page. It needs Chromium; if there is none, it says so and ends with status 0.
+With `--measure` it times clicks in the page of a graph of 128 processes over 16 nodes. With `--screenshot` it writes page.png or
+fly-by-wire.png, the picture of a page of docs/demo. It needs Chromium; if there is none, it says so and ends with status 0.
 """
 from __future__ import annotations
 
@@ -617,12 +617,18 @@ def measure(test: Test, rounds: int = 3, clicks: int = 60, limit: float = 100) -
         test.fail("large", f"a click takes more than {limit} ms")
 
 
+PICTURES = {  # by the file's name a page of docs/demo, its address, the process that is picked, and above which part the picture ends
+    "page.png": ("controller", "#f=radar:1,torque:1&v=mode,follow&t=160", 12, "processes"),
+    "fly-by-wire.png": ("fly-by-wire", "#f=inner.0.kalman:1,inner.1.monitor:1&v=inner.0.valid,outer.0.stall&t=640", 27, "known"),
+}
+
+
 def screenshot(test: Test, file: str) -> None:
-    test.make("controller", (TOP / "examples/controller.toml").read_text())
+    name, address, process, below = PICTURES[os.path.basename(file)]
     test.browser.look(1280, 900)
-    test.browser.open(test.room / "controller.html", "#f=radar:1,torque:1&v=mode,follow&t=160")
-    test.browser.value("page.pick(12)")
-    height = test.browser.value("document.getElementById('processes').offsetTop - 2")
+    test.browser.open(TOP / "docs/demo" / f"{name}.html", address)
+    test.browser.value(f"page.pick({process})")
+    height = test.browser.value(f"document.getElementById('{below}').offsetTop - 2")
     test.browser.look(1280, height)
     Path(file).write_bytes(test.browser.picture())
     print(f"{file}: {os.path.getsize(file):,} bytes")
@@ -633,10 +639,12 @@ def main() -> int:
     words.add_argument("program", metavar="PROGRAM")
     words.add_argument("--quick", action="store_true", help="three generated graphs in place of thirty")
     words.add_argument("--measure", action="store_true", help="time clicks in a large page")
-    words.add_argument("--screenshot", metavar="FILE", help="write the picture of the controller's page")
+    words.add_argument("--screenshot", metavar="FILE", help=f"write the picture of this name: {' or '.join(PICTURES)}")
     words.add_argument("--browser", metavar="PATH", help="the browser, if it isn't found by its name")
     given = words.parse_args()
     browser = given.browser or next((it for it in map(shutil.which, BROWSERS) if it), None)
+    if given.screenshot and os.path.basename(given.screenshot) not in PICTURES:
+        words.error(f"a picture is named {' or '.join(PICTURES)}")
     if browser is None:
         print("test-page: skipped, no Chromium here")
         return 0
