@@ -465,6 +465,11 @@ static bool tell_overrun(cpg_node *node, uint64_t now, cpg_event *event)
             //@ for table: assert timed: \forall integer r; 0 <= r < t_own && r != row ==> d_is_timed(node, r);
             //@ for table: assert mid: d_holds(node);
             tell(node, event, CPG_OVERRUN, now, row, 0U, 0U);
+            //@ for table: assert others: \forall integer r; 0 <= r < CPG_MAX_OWN && r != row ==> d_same_execution{Pre,Here}(node, r);
+            //@ for table: assert kept: d_is_kept(node);
+            //@ for table: assert before: d_nothing_before(node, now);
+            //@ for table: assert ahead: d_reports_ahead(node);
+            //@ for table: assert starts: d_starts_over(node);
             return true;
         }
     }
@@ -869,6 +874,7 @@ static bool take_turn(cpg_node *node, uint64_t now, cpg_event *event)
       ensures over: !\result ==> d_nothing_before(node, now + 1); */
 static bool take_instant(cpg_node *node, uint64_t now, cpg_event *event)
 {
+    bool found;
     //@ for table: assert now: now < 2305843009213693952;
     //@ for table: assert from: node->from - 1 <= now;
     node->from = now + 1U;
@@ -876,7 +882,12 @@ static bool take_instant(cpg_node *node, uint64_t now, cpg_event *event)
     //@ for table: assert same: d_same_executions{Pre,Here}(node);
     //@ for table: assert kept: d_is_kept(node);
     //@ for table: assert turning: d_is_turning(node, now);
-    return take_turn(node, now, event);
+    found = take_turn(node, now, event);
+    //@ for table: assert heard: d_heard_after{Pre,Here}(node, now);
+    //@ for table: assert overrun: d_turn_overrun{Pre,Here}(node, now, found ? 1 : 0, event);
+    //@ for table: assert ends: d_turn_ends{Pre,Here}(node, now, found ? 1 : 0, event);
+    //@ for table: assert others: d_turn_others{Pre,Here}(node, now, found ? 1 : 0, event);
+    return found;
 }
 
 /*@ behavior table:

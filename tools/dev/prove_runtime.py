@@ -1,21 +1,26 @@
 """Shows by Frama-C what the contracts of the node in C (runtime/c) say: that it is defined on any bytes, and what its turn part does.
 
     tools/prove-runtime [FUNCTION ...] [--machine M ...] [--macros default|small ...] [--by PROVER ...] [--smoke] [--seconds S] [--provers N]
+    tools/prove-runtime --wrong [FUNCTION ...] [--seconds S] [--provers N]
 
 WP runs with the checks of RTE on one function of cpg_node.c and cpg_open.c after another: for the sizes of x86_64 and x86_32, each with the
 default macros and with those of one small table, unless some are named. A line for each function says how many of its goals were proved, and
 a line after it names each goal that wasn't. The last line has the sum. The status is 0 if all were proved. With --smoke it also looks whether
-a contract can't be met, so that all of it would be proved in vain. If frama-c, why3 or a prover is missing, a line says so, and nothing is done.
+a contract can't be met, so that all of it would be proved in vain. With --wrong
+it tries the wrong bodies of runtime/c/test/wrong.py instead, and says of each which goals of its function are left: it is refused if there is
+one. If frama-c, why3 or a prover is missing, a line says so, and nothing is done.
 
 Debian's packages: frama-c-base why3 cvc4 cvc5 z3.
 """
 import argparse
+import importlib.util
 import os
 import re
 import subprocess
 import tempfile
 import time
 from pathlib import Path
+from typing import Any
 
 from cpgc_tools import cli, program
 
@@ -36,7 +41,7 @@ LONGEST = 3600  # seconds of the clock for a goal, on a machine that does much e
 DEFINITION = re.compile(r"^(?:static )?\w+ (\w+)\([^;{]*\)\n\{", re.MULTILINE)
 COUNTS = re.compile(r"Proved goals:\s*(\d+) / (\d+)")
 LEFT = re.compile(r"^\[wp\] \[[^]]*\] Goal (\w+)(?! : Valid)\b", re.MULTILINE)
-DOOMED = re.compile(r"\[(?:Failed|Passed)\] \((Doomed)\)|Smoke-test \(Failed\)", re.MULTILINE)
+BODY = r"^(?:static )?\w+ {}\([^;{{]*\)\n\{{.*?^\}}\n"
 
 
 def functions_of(source: str) -> list[str]:
@@ -71,6 +76,36 @@ def prove(source: Path, function: str, machine: str, macros: str, asked: argpars
     return int(counts[1]), int(counts[2]), LEFT.findall(done.stdout)
 
 
+def wrong_bodies() -> Any:
+    spec = importlib.util.spec_from_file_location("wrong", FOLDER / "test" / "wrong.py")
+    assert spec and spec.loader
+    module = importlib.util.module_from_spec(spec)
+    spec.loader.exec_module(module)
+    return module.BODIES
+
+
+def spoilt(source: str, wrong: Any) -> str:
+    """The source with one wrong body."""
+    body = re.search(BODY.format(wrong.function), source, re.MULTILINE | re.DOTALL)
+    if body is None or body[0].count(wrong.old) != 1:
+        cli.fail(f"{wrong.name}: not in {wrong.function}")
+    return source[:body.start()] + body[0].replace(wrong.old, wrong.new) + source[body.end():]
+
+
+def try_wrong(place: Path, asked: argparse.Namespace) -> int:
+    """Tries each wrong body, and answers how many weren't refused."""
+    source, passed = (FOLDER / "cpg_node.c").read_text(), 0
+    for wrong in wrong_bodies():
+        if not asked.functions or wrong.function in asked.functions:
+            file = place / "cpg_node.c"
+            file.write_text(spoilt(source, wrong))
+            _, _, left = prove(file, wrong.function, asked.machine[0] if asked.machine else MACHINES[0], "default", asked)
+            passed += not left
+            print(f"{wrong.name}: {'refused by ' + wrong.function if left else 'not refused'}", *(f"  left: {goal}" for goal in left), sep="\n", flush=True)
+    print(f"{passed} wrong bodies weren't refused")
+    return passed
+
+
 def words() -> argparse.Namespace:
     parser = cli.Words(__doc__)
     parser.add_argument("functions", nargs="*", metavar="FUNCTION", help="a function of cpg_node.c or cpg_open.c (all by default)")
@@ -79,6 +114,7 @@ def words() -> argparse.Namespace:
     parser.add_argument("--macros", action="append", choices=list(MACROS), help="the macros CPG_MAX_.. (both by default)")
     parser.add_argument("--by", action="append", choices=list(PROVERS), metavar="PROVER", help=f"a prover (all by default): {', '.join(PROVERS)}")
     parser.add_argument("--smoke", action="store_true", help="look for contracts that can't be met")
+    parser.add_argument("--wrong", action="store_true", help="try the wrong bodies of runtime/c/test/wrong.py")
     parser.add_argument("--seconds", type=int, default=10, metavar="S", help="how much processor time a prover has for a goal (10)")
     parser.add_argument("--provers", type=int, default=1, metavar="N", help="how many provers work at a time (1)")
     return parser.parse_args()
@@ -110,6 +146,8 @@ def main() -> int:
     totals = [0, 0]
     with tempfile.TemporaryDirectory() as place:
         configure(Path(place), asked.seconds)
+        if asked.wrong:
+            return 1 if try_wrong(Path(place), asked) else 0
         for machine in asked.machine or MACHINES:
             for macros in asked.macros or MACROS:
                 proved, all_ = prove_all(asked, machine, macros)
