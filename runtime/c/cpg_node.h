@@ -149,6 +149,8 @@ typedef struct {
         \separated(event, table) && \separated(event, table->pack + (0 .. table->size - 1))
         && \separated(event, table->item + (0 .. table->rows - 1)) && \separated(event, table->process + (0 .. table->own - 1))
         && \separated(event, table->due + (0 .. table->dues - 1));
+    predicate cpg_is_event(cpg_node *node, cpg_event *event) =
+        \valid(event) && \separated(node, event) && cpg_is_aside(node->table, event);
     predicate cpg_is_open(cpg_node *node) =
         \valid(node) && cpg_is_table(node->table) && cpg_is_apart(node->table, node);
     predicate cpg_is_node(cpg_node *node) =
@@ -170,7 +172,7 @@ uint64_t cpg_next(const cpg_node *node);
 /* Takes turns up to and at `until`, as far as the next event. Answers whether there is one; where there is none, all these turns
  * are over. Frames that arrive at an instant and executions that end then are told before the turn of that instant. */
 /*@ requires cpg_is_node(node);
-    requires \valid(event) && \separated(node, event) && cpg_is_aside(node->table, event);
+    requires cpg_is_event(node, event);
     terminates \true;
     assigns node->from, node->next, node->heard[0 .. CPG_VARIABLES - 1], node->sure[0 .. CPG_VARIABLES - 1],
         node->execution[0 .. CPG_MAX_OWN - 1], event->time, event->kind, event->item, event->column, event->value;
