@@ -1,744 +1,117 @@
 /* See cpg_node.h. Every byte of the pack is read by byte_at, which asks whether it is there. */
 #include "cpg_node.h"
+#ifdef __FRAMAC__
+#include "cpg_spec.h"
+#endif
 
-#define NONE 255U                   /* no node and no condition has this number */
 #define FIRST_VALUE 128U            /* the variable of condition 0 */
-#define LONGEST_NAME 32U
-#define TIMES_BELOW (UINT64_C(1) << 60)
-#define GREATEST_RELEASE UINT64_C(1000000000)
-#define COLUMNS_OF_ROW 16384U
-#define COLUMNS_OF_PACK 524288U
 #define TIME_BYTES 8U
 #define CUBE_AT 8U                  /* in a column: the count of its literals, after the time */
 #define LITERALS_AT 9U
 #define LITERAL_BYTES 3U
 
-/* The groups of rows of a node, in their order. */
-enum { STARTS, MESSAGES, TELLS, HEARD_MESSAGES, HEARD_VALUES, GROUPS };
-
 /* ---- Bytes ---- */
 
 /*@ requires cpg_is_open(node);
     terminates \true;
-    assigns \nothing; */
+    assigns \nothing;
+    behavior table:
+      assumes d_holds(node);
+      ensures \result == t_byte(at); */
 static uint8_t byte_at(const cpg_node *node, uint32_t at)
 {
-    return (at < node->size) ? node->pack[at] : (uint8_t)0U;
+    return (at < node->table->size) ? node->table->pack[at] : (uint8_t)0U;
 }
 
 /*@ requires cpg_is_open(node);
     terminates \true;
-    assigns \nothing; */
+    assigns \nothing;
+    behavior table:
+      assumes d_holds(node);
+      assumes at <= 4294967292;
+      ensures \result == d_word(at); */
+static uint32_t word_at(const cpg_node *node, uint32_t at)
+{
+    uint32_t high = ((uint32_t)byte_at(node, at) * 256U) + byte_at(node, at + 1U);
+    uint32_t low = ((uint32_t)byte_at(node, at + 2U) * 256U) + byte_at(node, at + 3U);
+    return (high * 65536U) + low;
+}
+
+/*@ requires cpg_is_open(node);
+    terminates \true;
+    assigns \nothing;
+    behavior table:
+      assumes d_holds(node);
+      assumes at <= 4294967288;
+      ensures \result == d_big_number(at); */
 static uint64_t time_at(const cpg_node *node, uint32_t at)
 {
-    uint64_t time = 0U;
-    /*@ loop invariant i <= TIME_BYTES;
-        loop assigns i, time;
-        loop variant TIME_BYTES - i; */
-    for (uint32_t i = 0U; i < TIME_BYTES; i++) {
-        time = (time << 8) | byte_at(node, at + i);
-    }
-    return time;
+    return ((uint64_t)word_at(node, at) * 4294967296U) + word_at(node, at + 4U);
 }
 
-/* ---- Reading a pack ---- */
-
-/* How far a reading is: from the first byte on that can't stand at its place, it stays there. */
-typedef struct {
-    uint32_t at;
-    uint32_t columns;               /* of all rows so far */
-    bool ok;
-    bool full;                      /* it stopped since a macro is too small */
-} reading;
-
-/*@ predicate is_reading(reading *reader) =
-        \valid(reader) && (reader->ok == 0 || reader->ok == 1) && (reader->full == 0 || reader->full == 1);
-    predicate is_read(cpg_node *node, reading *reader) =
-        cpg_is_open(node) && is_reading(reader) && \separated(node, reader); */
-
-/*@ requires is_reading(reader);
-    terminates \true;
-    assigns reader->ok, reader->full;
-    ensures is_reading(reader); */
-static void stop_full(reading *reader)
-{
-    if (reader->ok) {
-        reader->full = true;
-        reader->ok = false;
-    }
-}
-
-/* The next byte, which has to be from `low` to `high`; 0 where it isn't. */
-/*@ requires is_read(node, reader);
-    terminates \true;
-    assigns reader->at, reader->ok;
-    ensures is_read(node, reader);
-    ensures \result == 0 || low <= \result <= high; */
-static uint8_t read_byte(const cpg_node *node, reading *reader, uint32_t low, uint32_t high)
-{
-    uint8_t byte = byte_at(node, reader->at);
-    if (!reader->ok || (reader->at >= node->size) || (byte < low) || (byte > high)) {
-        reader->ok = false;
-        return 0U;
-    }
-    reader->at++;
-    return byte;
-}
-
-/* The next number of some bytes, which has to be at most `most`. No byte is taken with which it would be greater. */
-/*@ requires is_read(node, reader);
-    requires bytes <= TIME_BYTES;
-    terminates \true;
-    assigns reader->at, reader->ok;
-    ensures is_read(node, reader); */
-static uint64_t read_number(const cpg_node *node, reading *reader, uint32_t bytes, uint64_t most)
-{
-    uint64_t number = 0U;
-    /*@ loop invariant 1 <= i <= bytes + 1 && is_read(node, reader);
-        loop assigns i, number, reader->at, reader->ok;
-        loop variant bytes - i; */
-    for (uint32_t i = 1U; i <= bytes; i++) {
-        uint64_t room = (most >> (8U * (bytes - i))) - (number << 8);
-        uint32_t high = (room < 255U) ? (uint32_t)room : 255U;
-        number = (number << 8) | read_byte(node, reader, 0U, high);
-    }
-    return number;
-}
-
-/*@ terminates \true;
-    assigns \nothing; */
-static bool is_name_byte(uint8_t byte)
-{
-    bool letter = ((byte >= 0x41U) && (byte <= 0x5AU)) || ((byte >= 0x61U) && (byte <= 0x7AU));
-    bool digit = (byte >= 0x30U) && (byte <= 0x39U);
-    bool mark = (byte == 0x5FU) || (byte == 0x2DU) || (byte == 0x2EU);
-    return letter || digit || mark;
-}
-
-/*@ requires is_read(node, reader);
-    terminates \true;
-    assigns reader->at, reader->ok;
-    ensures is_read(node, reader); */
-static void read_name(const cpg_node *node, reading *reader)
-{
-    uint8_t length = read_byte(node, reader, 1U, LONGEST_NAME);
-    /*@ loop invariant i <= length && is_read(node, reader);
-        loop assigns i, reader->at, reader->ok;
-        loop variant length - i; */
-    for (uint8_t i = 0U; i < length; i++) {
-        if (!is_name_byte(byte_at(node, reader->at))) {
-            reader->ok = false;
-        }
-        (void)read_byte(node, reader, 0U, 255U);
-    }
-}
-
-/* Whether the name at a place of the pack is this one. */
-/*@ requires cpg_is_open(node);
-    requires length <= LONGEST_NAME ==> \valid_read(name + (0 .. length - 1));
-    terminates \true;
-    assigns \nothing; */
-static bool is_name(const cpg_node *node, uint32_t at, const char *name, uint32_t length)
-{
-    if ((length > LONGEST_NAME) || (byte_at(node, at) != length)) {
-        return false;
-    }
-    /*@ loop invariant i <= length;
-        loop assigns i;
-        loop variant length - i; */
-    for (uint32_t i = 0U; i < length; i++) {
-        if (byte_at(node, at + 1U + i) != (uint8_t)name[i]) {
-            return false;
-        }
-    }
-    return true;
-}
-
-/*@ requires is_read(node, reader);
-    requires length <= LONGEST_NAME ==> \valid_read(name + (0 .. length - 1));
-    terminates \true;
-    assigns node->nodes, node->self, reader->at, reader->ok;
-    ensures is_read(node, reader); */
-static void read_nodes(cpg_node *node, reading *reader, const char *name, uint32_t length)
-{
-    node->nodes = read_byte(node, reader, 0U, 16U);
-    /*@ loop invariant i <= node->nodes && is_read(node, reader);
-        loop assigns i, node->self, reader->at, reader->ok;
-        loop variant node->nodes - i; */
-    for (uint8_t i = 0U; i < node->nodes; i++) {
-        uint32_t at = reader->at;
-        read_name(node, reader);
-        if (reader->ok && (node->self == NONE) && is_name(node, at, name, length)) {
-            node->self = i;
-        }
-    }
-}
-
-/* The number of the condition of a process, where it has one. */
-/*@ requires is_read(node, reader);
-    terminates \true;
-    assigns node->told_by[0 .. CPG_MAX_CONDITIONS - 1], node->conditions, reader->ok, reader->full;
-    ensures is_read(node, reader); */
-static uint8_t add_condition(cpg_node *node, reading *reader, uint8_t process)
-{
-    uint8_t condition = node->conditions;
-    if (condition >= CPG_MAX_CONDITIONS) {
-        stop_full(reader);
-        return NONE;
-    }
-    node->told_by[condition] = process;
-    node->conditions++;
-    return condition;
-}
-
-/*@ requires is_read(node, reader);
-    terminates \true;
-    assigns node->execution[0 .. CPG_MAX_OWN - 1], node->own, reader->ok, reader->full;
-    ensures is_read(node, reader); */
-static void add_execution(cpg_node *node, reading *reader, uint32_t durations, uint8_t condition)
-{
-    if (node->own >= CPG_MAX_OWN) {
-        stop_full(reader);
-        return;
-    }
-    node->execution[node->own].durations = durations;
-    node->execution[node->own].condition = condition;
-    node->own++;
-}
-
-/* The own deadline of a process, or eight bytes 255 for none. */
-/*@ requires is_read(node, reader);
-    terminates \true;
-    assigns reader->at, reader->ok;
-    ensures is_read(node, reader); */
-static void read_own_deadline(const cpg_node *node, reading *reader)
-{
-    if (byte_at(node, reader->at) == 255U) {
-        /*@ loop invariant i <= TIME_BYTES && is_read(node, reader);
-            loop assigns i, reader->at, reader->ok;
-            loop variant TIME_BYTES - i; */
-        for (uint32_t i = 0U; i < TIME_BYTES; i++) {
-            (void)read_byte(node, reader, 255U, 255U);
-        }
-    } else {
-        (void)read_number(node, reader, TIME_BYTES, GREATEST_RELEASE);
-    }
-}
-
-/*@ requires is_read(node, reader);
-    requires process < CPG_MAX_PROCESSES;
-    terminates \true;
-    assigns node->node_of[0 .. CPG_MAX_PROCESSES - 1], node->told_by[0 .. CPG_MAX_CONDITIONS - 1], node->conditions,
-        node->execution[0 .. CPG_MAX_OWN - 1], node->own, reader->at, reader->ok, reader->full;
-    ensures is_read(node, reader); */
-static void read_process(cpg_node *node, reading *reader, uint8_t version, uint8_t process)
-{
-    uint8_t condition = NONE;
-    uint32_t durations;
-    read_name(node, reader);
-    node->node_of[process] = read_byte(node, reader, 0U, (uint32_t)node->nodes - 1U);
-    if (read_byte(node, reader, 0U, (node->conditions < 32U) ? 1U : 0U) == 1U) {
-        condition = add_condition(node, reader, process);
-    }
-    durations = reader->at;
-    /*@ loop invariant faults <= node->k + 1 && is_read(node, reader);
-        loop assigns faults, reader->at, reader->ok;
-        loop variant node->k - faults; */
-    for (uint8_t faults = 0U; faults <= node->k; faults++) {
-        (void)read_number(node, reader, TIME_BYTES, TIMES_BELOW - 1U);
-    }
-    if (version == 2U) {
-        (void)read_number(node, reader, TIME_BYTES, GREATEST_RELEASE);
-        read_own_deadline(node, reader);
-    }
-    if (reader->ok && (node->node_of[process] == node->self)) {
-        add_execution(node, reader, durations, condition);
-    }
-}
-
-/*@ requires is_read(node, reader);
-    terminates \true;
-    assigns node->processes, node->node_of[0 .. CPG_MAX_PROCESSES - 1], node->told_by[0 .. CPG_MAX_CONDITIONS - 1],
-        node->conditions, node->execution[0 .. CPG_MAX_OWN - 1], node->own, reader->at, reader->ok, reader->full;
-    ensures is_read(node, reader); */
-static void read_processes(cpg_node *node, reading *reader, uint8_t version)
-{
-    uint8_t processes = read_byte(node, reader, 0U, (node->nodes > 0U) ? 128U : 0U);
-    if (processes > CPG_MAX_PROCESSES) {
-        stop_full(reader);
-        return;
-    }
-    node->processes = processes;
-    /*@ loop invariant process <= processes && is_read(node, reader);
-        loop assigns process, node->node_of[0 .. CPG_MAX_PROCESSES - 1], node->told_by[0 .. CPG_MAX_CONDITIONS - 1],
-            node->conditions, node->execution[0 .. CPG_MAX_OWN - 1], node->own, reader->at, reader->ok, reader->full;
-        loop variant processes - process; */
-    for (uint8_t process = 0U; process < processes; process++) {
-        read_process(node, reader, version, process);
-    }
-}
-
-/*@ requires is_read(node, reader);
-    terminates \true;
-    assigns node->edges, node->broadcast, node->edges_at, reader->at, reader->ok;
-    ensures is_read(node, reader); */
-static void read_edges(cpg_node *node, reading *reader)
-{
-    node->edges = (uint16_t)read_number(node, reader, 2U, (node->processes > 0U) ? 256U : 0U);
-    node->broadcast = (uint16_t)(node->processes + node->edges);
-    node->edges_at = reader->at;
-    /*@ loop invariant i <= node->edges && is_read(node, reader);
-        loop assigns i, reader->at, reader->ok;
-        loop variant node->edges - i; */
-    for (uint16_t i = 0U; i < node->edges; i++) {
-        (void)read_byte(node, reader, 0U, (uint32_t)node->processes - 1U);
-        (void)read_byte(node, reader, 0U, (uint32_t)node->processes - 1U);
-    }
-}
-
-/*@ requires is_read(node, reader);
-    requires length <= LONGEST_NAME ==> \valid_read(name + (0 .. length - 1));
-    terminates \true;
-    assigns node->k, node->nodes, node->self, node->processes, node->edges, node->broadcast, node->edges_at,
-        node->node_of[0 .. CPG_MAX_PROCESSES - 1], node->told_by[0 .. CPG_MAX_CONDITIONS - 1], node->conditions,
-        node->execution[0 .. CPG_MAX_OWN - 1], node->own, reader->at, reader->ok, reader->full;
-    ensures is_read(node, reader); */
-static void read_head(cpg_node *node, reading *reader, const char *name, uint32_t length)
-{
-    static const uint8_t magic[4] = { 0x43U, 0x50U, 0x47U, 0x54U };
-    uint8_t version;
-    /*@ loop invariant i <= 4 && is_read(node, reader);
-        loop assigns i, reader->at, reader->ok;
-        loop variant 4 - i; */
-    for (uint32_t i = 0U; i < 4U; i++) {
-        (void)read_byte(node, reader, magic[i], magic[i]);
-    }
-    version = read_byte(node, reader, 1U, 2U);
-    node->k = read_byte(node, reader, 0U, 8U);
-    read_nodes(node, reader, name, length);
-    read_processes(node, reader, version);
-    read_edges(node, reader);
-}
-
-/* ---- The rows ---- */
+/* ---- Rows ---- */
 
 /*@ requires cpg_is_open(node);
     terminates \true;
-    assigns \nothing; */
-static uint8_t node_of(const cpg_node *node, uint32_t process)
-{
-    return (process < CPG_MAX_PROCESSES) ? node->node_of[process] : (uint8_t)NONE;
-}
-
-/* Whether a node has the row of this group and index: a process, an edge or a condition. */
-/*@ requires cpg_is_open(node);
-    terminates \true;
-    assigns \nothing; */
-static bool has_row(const cpg_node *node, uint8_t owner, uint32_t group, uint16_t index)
-{
-    uint8_t from;
-    uint8_t to;
-    if (group == (uint32_t)STARTS) {
-        return node_of(node, index) == owner;
-    }
-    if ((group == (uint32_t)TELLS) || (group == (uint32_t)HEARD_VALUES)) {
-        from = (index < CPG_MAX_CONDITIONS) ? node_of(node, node->told_by[index]) : (uint8_t)NONE;
-        return (from == owner) == (group == (uint32_t)TELLS);
-    }
-    from = node_of(node, byte_at(node, node->edges_at + (2U * (uint32_t)index)));
-    to = node_of(node, byte_at(node, node->edges_at + (2U * (uint32_t)index) + 1U));
-    if (group == (uint32_t)MESSAGES) {
-        return (from == owner) && (to != owner);
-    }
-    return (from != owner) && (to == owner);
-}
-
-/*@ requires cpg_is_open(node);
-    terminates \true;
-    assigns \nothing; */
-static uint16_t size_of_group(const cpg_node *node, uint32_t group)
-{
-    if (group == (uint32_t)STARTS) {
-        return node->processes;
-    }
-    if ((group == (uint32_t)MESSAGES) || (group == (uint32_t)HEARD_MESSAGES)) {
-        return node->edges;
-    }
-    return (node->nodes > 1U) ? node->conditions : (uint16_t)0U;
-}
-
-/*@ requires cpg_is_open(node);
-    terminates \true;
-    assigns \nothing; */
-static uint16_t first_item(const cpg_node *node, uint32_t group)
-{
-    if (group == (uint32_t)STARTS) {
-        return 0U;
-    }
-    if ((group == (uint32_t)MESSAGES) || (group == (uint32_t)HEARD_MESSAGES)) {
-        return node->processes;
-    }
-    return node->broadcast;
-}
-
-/*@ requires is_read(node, reader);
-    terminates \true;
-    assigns node->item[0 .. CPG_MAX_ROWS - 1], node->rows, reader->ok, reader->full;
-    ensures is_read(node, reader); */
-static void add_row(cpg_node *node, reading *reader, uint16_t item)
-{
-    if (node->rows >= CPG_MAX_ROWS) {
-        stop_full(reader);
-        return;
-    }
-    node->item[node->rows] = item;
-    node->rows++;
-}
-
-/* The column that begins here is one of the row that was added last. */
-/*@ requires is_read(node, reader);
-    terminates \true;
-    assigns node->due[0 .. CPG_MAX_COLUMNS - 1], node->dues, reader->ok, reader->full;
-    ensures is_read(node, reader); */
-static void add_due(cpg_node *node, reading *reader, uint16_t column)
-{
-    if (node->dues >= CPG_MAX_COLUMNS) {
-        stop_full(reader);
-        return;
-    }
-    node->due[node->dues].at = reader->at;
-    node->due[node->dues].row = (uint16_t)(node->rows - 1U);
-    node->due[node->dues].column = column;
-    node->dues++;
-}
-
-/* Of how many greater variables than this one a literal may be. */
-/*@ requires cpg_is_open(node);
-    terminates \true;
-    assigns \nothing; */
-static uint32_t variables_above(const cpg_node *node, uint8_t variable)
-{
-    if (variable >= FIRST_VALUE) {
-        return (uint32_t)node->conditions - 1U - ((uint32_t)variable - FIRST_VALUE);
-    }
-    return ((uint32_t)node->processes - 1U - variable) + node->conditions;
-}
-
-/* Whether a literal may be of this variable. */
-/*@ requires cpg_is_open(node);
-    terminates \true;
-    assigns \nothing; */
-static bool is_variable(const cpg_node *node, uint8_t variable)
-{
-    if (variable >= FIRST_VALUE) {
-        return ((uint32_t)variable - FIRST_VALUE) < node->conditions;
-    }
-    return (node->k > 0U) && (variable < node->processes);
-}
-
-/* A literal of the variable `least` or a greater one, which so many others follow. Answers the least variable of the next one. */
-/*@ requires is_read(node, reader);
-    terminates \true;
-    assigns reader->at, reader->ok;
-    ensures is_read(node, reader); */
-static uint32_t read_literal(const cpg_node *node, reading *reader, uint32_t least, uint32_t others)
-{
-    uint8_t variable = byte_at(node, reader->at);
-    uint8_t low;
-    if ((variable < least) || !is_variable(node, variable) || (variables_above(node, variable) < others)) {
-        reader->ok = false;
-    }
-    (void)read_byte(node, reader, 0U, 255U);
-    if (variable >= FIRST_VALUE) {
-        low = read_byte(node, reader, 0U, 1U);
-        (void)read_byte(node, reader, low, low);
-    } else {
-        low = read_byte(node, reader, 0U, node->k);
-        (void)read_byte(node, reader, low, (low == 0U) ? ((uint32_t)node->k - 1U) : node->k);
-    }
-    return (uint32_t)variable + 1U;
-}
-
-/*@ requires is_read(node, reader);
-    terminates \true;
-    assigns reader->at, reader->ok;
-    ensures is_read(node, reader); */
-static void read_column(const cpg_node *node, reading *reader)
-{
-    uint32_t most = ((node->k > 0U) ? node->processes : 0U) + (uint32_t)node->conditions;
-    uint32_t least = 0U;
-    uint8_t literals;
-    (void)read_number(node, reader, TIME_BYTES, TIMES_BELOW - 1U);
-    literals = read_byte(node, reader, 0U, most);
-    /*@ loop invariant i <= literals && is_read(node, reader);
-        loop assigns i, least, reader->at, reader->ok;
-        loop variant literals - i; */
-    for (uint8_t i = 0U; i < literals; i++) {
-        least = read_literal(node, reader, least, (uint32_t)literals - 1U - i);
-    }
-}
-
-/*@ requires is_read(node, reader);
-    requires mine == 0 || mine == 1;
-    terminates \true;
-    assigns node->item[0 .. CPG_MAX_ROWS - 1], node->rows, node->due[0 .. CPG_MAX_COLUMNS - 1], node->dues, reader->at,
-        reader->ok, reader->columns, reader->full;
-    ensures is_read(node, reader); */
-static void read_row(cpg_node *node, reading *reader, bool mine, uint16_t item)
-{
-    uint32_t left = COLUMNS_OF_PACK - reader->columns;
-    uint16_t columns = (uint16_t)read_number(node, reader, 2U, (left < COLUMNS_OF_ROW) ? left : COLUMNS_OF_ROW);
-    reader->columns += columns;
-    if (mine && reader->ok) {
-        add_row(node, reader, item);
-    }
-    /*@ loop invariant column <= columns && is_read(node, reader);
-        loop assigns column, node->due[0 .. CPG_MAX_COLUMNS - 1], node->dues, reader->at, reader->ok, reader->full;
-        loop variant columns - column; */
-    for (uint16_t column = 0U; (column < columns) && reader->ok; column++) {
-        if (mine) {
-            add_due(node, reader, column);
-        }
-        read_column(node, reader);
-    }
-}
-
-/*@ requires is_read(node, reader);
-    terminates \true;
-    assigns node->item[0 .. CPG_MAX_ROWS - 1], node->rows, node->due[0 .. CPG_MAX_COLUMNS - 1], node->dues, reader->at,
-        reader->ok, reader->columns, reader->full;
-    ensures is_read(node, reader); */
-static void read_group(cpg_node *node, reading *reader, uint8_t owner, uint32_t group)
-{
-    uint16_t size = size_of_group(node, group);
-    /*@ loop invariant index <= size && is_read(node, reader);
-        loop assigns index, node->item[0 .. CPG_MAX_ROWS - 1], node->rows, node->due[0 .. CPG_MAX_COLUMNS - 1], node->dues,
-            reader->at, reader->ok, reader->columns, reader->full;
-        loop variant size - index; */
-    for (uint16_t index = 0U; index < size; index++) {
-        if (has_row(node, owner, group, index)) {
-            read_row(node, reader, owner == node->self, (uint16_t)(first_item(node, group) + index));
-        }
-    }
-}
-
-/*@ requires is_read(node, reader);
-    terminates \true;
-    assigns node->acting, node->item[0 .. CPG_MAX_ROWS - 1], node->rows, node->due[0 .. CPG_MAX_COLUMNS - 1], node->dues,
-        reader->at, reader->ok, reader->columns, reader->full;
-    ensures is_read(node, reader); */
-static void read_rows(cpg_node *node, reading *reader)
-{
-    /*@ loop invariant owner <= node->nodes && is_read(node, reader);
-        loop assigns owner, node->acting, node->item[0 .. CPG_MAX_ROWS - 1], node->rows, node->due[0 .. CPG_MAX_COLUMNS - 1],
-            node->dues, reader->at, reader->ok, reader->columns, reader->full;
-        loop variant node->nodes - owner; */
-    for (uint8_t owner = 0U; owner < node->nodes; owner++) {
-        /*@ loop invariant group <= GROUPS && is_read(node, reader);
-            loop assigns group, node->acting, node->item[0 .. CPG_MAX_ROWS - 1], node->rows,
-                node->due[0 .. CPG_MAX_COLUMNS - 1], node->dues, reader->at, reader->ok, reader->columns, reader->full;
-            loop variant GROUPS - group; */
-        for (uint32_t group = 0U; group < (uint32_t)GROUPS; group++) {
-            read_group(node, reader, owner, group);
-            if ((owner == node->self) && (group == (uint32_t)TELLS)) {
-                node->acting = node->rows;
-            }
-        }
-    }
-}
-
-/* ---- The index: columns by time ---- */
-
-/*@ requires cpg_is_open(node);
-    terminates \true;
-    assigns \nothing; */
+    assigns \nothing;
+    ensures \result <==> row < node->table->own; */
 static bool is_start(const cpg_node *node, uint16_t row)
 {
-    return row < node->own;
+    return row < node->table->own;
 }
 
 /*@ requires cpg_is_open(node);
     terminates \true;
-    assigns \nothing; */
+    assigns \nothing;
+    ensures \result <==> row >= node->table->acting; */
 static bool is_heard(const cpg_node *node, uint16_t row)
 {
-    return row >= node->acting;
+    return row >= node->table->acting;
 }
 
-/* Of one time, what is heard comes first, then what is sent, then what is started. */
-/*@ requires cpg_is_open(node);
-    terminates \true;
-    assigns \nothing; */
-static uint32_t rank_of(const cpg_node *node, uint16_t row)
+/*@ behavior table:
+      assumes d_is_table(node, table);
+      ensures holds: d_holds(node);
+      ensures opening: d_opening(node);
+      ensures sound: d_is_sound(node); */
+void cpg_begin(cpg_node *node, const cpg_table *table)
 {
-    if (is_heard(node, row)) {
-        return 0U;
-    }
-    return is_start(node, row) ? 2U : 1U;
-}
-
-/*@ requires cpg_is_open(node);
-    terminates \true;
-    assigns \nothing; */
-static bool comes_before(const cpg_node *node, cpg_due one, cpg_due other)
-{
-    uint64_t first = time_at(node, one.at);
-    uint64_t second = time_at(node, other.at);
-    uint32_t rank = rank_of(node, one.row);
-    uint32_t other_rank = rank_of(node, other.row);
-    if (first != second) {
-        return first < second;
-    }
-    if (rank != other_rank) {
-        return rank < other_rank;
-    }
-    return one.at < other.at;
-}
-
-/* Lets a column of the first `size` sink in the heap, from a place below `size` on. The place at least doubles each time. */
-/*@ requires cpg_is_open(node);
-    requires place < size <= node->dues;
-    terminates \true;
-    assigns node->due[0 .. CPG_MAX_COLUMNS - 1];
-    ensures cpg_is_open(node); */
-static void sink(cpg_node *node, uint32_t place, uint32_t size)
-{
-    cpg_due moved = node->due[place];
-    uint32_t hole = place;
-    uint32_t child = (2U * hole) + 1U;
-    /*@ loop invariant cpg_is_open(node) && hole < size <= node->dues && child == 2 * hole + 1;
-        loop assigns hole, child, node->due[0 .. CPG_MAX_COLUMNS - 1];
-        loop variant size - hole; */
-    while (child < size) {
-        if (((child + 1U) < size) && comes_before(node, node->due[child], node->due[child + 1U])) {
-            child++;
-        }
-        if (!comes_before(node, moved, node->due[child])) {
-            break;
-        }
-        node->due[hole] = node->due[child];
-        hole = child;
-        child = (2U * hole) + 1U;
-    }
-    node->due[hole] = moved;
-}
-
-/*@ requires cpg_is_open(node);
-    terminates \true;
-    assigns node->due[0 .. CPG_MAX_COLUMNS - 1];
-    ensures cpg_is_open(node); */
-static void sort_dues(cpg_node *node)
-{
-    /*@ loop invariant cpg_is_open(node) && i <= node->dues;
-        loop assigns i, node->due[0 .. CPG_MAX_COLUMNS - 1];
-        loop variant i; */
-    for (uint32_t i = node->dues / 2U; i > 0U; i--) {
-        sink(node, i - 1U, node->dues);
-    }
-    /*@ loop invariant cpg_is_open(node) && size <= node->dues;
-        loop assigns size, node->due[0 .. CPG_MAX_COLUMNS - 1];
-        loop variant size; */
-    for (uint32_t size = node->dues; size > 1U; size--) {
-        cpg_due last = node->due[size - 1U];
-        node->due[size - 1U] = node->due[0];
-        node->due[0] = last;
-        sink(node, 0U, size - 1U);
-    }
-}
-
-/* ---- Opening ---- */
-
-/* A node without a table. */
-/*@ requires \valid(node);
-    terminates \true;
-    assigns node->k, node->nodes, node->self, node->processes, node->conditions, node->edges, node->broadcast, node->edges_at,
-        node->own, node->acting, node->rows, node->dues, node->from, node->next;
-    ensures cpg_fits(node); */
-static void shut(cpg_node *node)
-{
-    node->k = 0U;
-    node->nodes = 0U;
-    node->self = NONE;
-    node->processes = 0U;
-    node->conditions = 0U;
-    node->edges = 0U;
-    node->broadcast = 0U;
-    node->edges_at = 0U;
-    node->own = 0U;
-    node->acting = 0U;
-    node->rows = 0U;
-    node->dues = 0U;
+    node->table = table;
     node->from = 0U;
     node->next = 0U;
-}
-
-/* Reads the whole pack, and puts its index in order. */
-/*@ requires cpg_is_open(node);
-    requires length <= LONGEST_NAME ==> \valid_read(name + (0 .. length - 1));
-    terminates \true;
-    assigns node->bad, node->k, node->nodes, node->self, node->processes, node->edges, node->broadcast, node->edges_at,
-        node->node_of[0 .. CPG_MAX_PROCESSES - 1], node->told_by[0 .. CPG_MAX_CONDITIONS - 1], node->conditions,
-        node->execution[0 .. CPG_MAX_OWN - 1], node->own, node->acting, node->item[0 .. CPG_MAX_ROWS - 1], node->rows,
-        node->due[0 .. CPG_MAX_COLUMNS - 1], node->dues;
-    ensures cpg_fits(node); */
-static cpg_status read_pack(cpg_node *node, uint32_t size, const char *name, uint32_t length)
-{
-    reading reader = { 0U, 0U, true, false };
-    cpg_status status = CPG_OK;
-    read_head(node, &reader, name, length);
-    read_rows(node, &reader);
-    node->bad = reader.at;
-    if (size > CPG_MAX_SIZE) {
-        status = CPG_LONG;
-    } else if (reader.full) {
-        status = CPG_FULL;
-    } else if (!reader.ok || (reader.at != size)) {
-        status = CPG_PACK;
-    } else if (node->self == NONE) {
-        status = CPG_NODE;
-    } else {
-        sort_dues(node);
-    }
-    return status;
-}
-
-cpg_status cpg_open(cpg_node *node, const uint8_t *pack, uint32_t size, const char *name, uint32_t length)
-{
-    cpg_status status;
-    shut(node);
-    node->pack = pack;
-    node->size = (size <= CPG_MAX_SIZE) ? size : 0U;
-    status = read_pack(node, size, name, length);
-    if (status != CPG_OK) {
-        shut(node);
-    }
-    cpg_begin(node);
-    return status;
-}
-
-void cpg_begin(cpg_node *node)
-{
-    node->from = 0U;
-    node->next = 0U;
-    /*@ loop invariant i <= CPG_VARIABLES && cpg_is_open(node);
+    //@ for table: assert holds: d_holds(node);
+    /*@ loop invariant 0 <= i <= CPG_VARIABLES && cpg_is_open(node);
+        for table: loop invariant holds: d_holds(node);
+        for table: loop invariant whole: \forall integer p; 0 <= p < i ==> d_whole_range(node, p);
         loop assigns i, node->heard[0 .. CPG_VARIABLES - 1], node->sure[0 .. CPG_VARIABLES - 1];
         loop variant CPG_VARIABLES - i; */
     for (uint32_t i = 0U; i < CPG_VARIABLES; i++) {
+        const uint8_t high = (i < CPG_MAX_PROCESSES) ? node->table->k : (uint8_t)1U;
         node->heard[i].low = 0U;
-        node->heard[i].high = (i < CPG_MAX_PROCESSES) ? node->k : (uint8_t)1U;
-        node->sure[i] = node->heard[i];
+        node->heard[i].high = high;
+        node->sure[i].low = 0U;
+        node->sure[i].high = high;
     }
-    /*@ loop invariant row <= node->rows;
+    //@ ghost Whole: ;
+    /*@ loop invariant 0 <= row <= node->table->rows;
+        for table: loop invariant holds: d_holds(node);
+        for table: loop invariant same: d_same_ranges{Whole,Here}(node);
         loop invariant \forall integer i; 0 <= i < row ==> node->came[i] == 0;
         loop assigns row, node->came[0 .. CPG_MAX_ROWS - 1];
-        loop variant node->rows - row; */
-    for (uint16_t row = 0U; row < node->rows; row++) {
+        loop variant node->table->rows - row; */
+    for (uint16_t row = 0U; row < node->table->rows; row++) {
         node->came[row] = false;
     }
-    /*@ loop invariant row <= node->own && cpg_is_node(node);
+    //@ ghost Came: ;
+    /*@ loop invariant 0 <= row <= node->table->own && cpg_is_node(node);
+        for table: loop invariant holds: d_holds(node);
+        for table: loop invariant same: d_same_ranges{Whole,Here}(node);
+        for table: loop invariant same: d_same_flags{Came,Here}(node);
+        for table: loop invariant same: node->from == 0 && node->next == 0;
+        for table: loop invariant \forall integer r; 0 <= r < row ==> node->execution[r].state == CPG_IDLE;
         loop assigns row, node->execution[0 .. CPG_MAX_OWN - 1];
-        loop variant node->own - row; */
-    for (uint16_t row = 0U; row < node->own; row++) {
+        loop variant node->table->own - row; */
+    for (uint16_t row = 0U; row < node->table->own; row++) {
         node->execution[row].state = CPG_IDLE;
     }
 }
@@ -748,7 +121,9 @@ void cpg_begin(cpg_node *node)
 /* Where a variable stands among the ranges: CPG_VARIABLES where it doesn't. */
 /*@ terminates \true;
     assigns \nothing;
-    ensures \result <= CPG_VARIABLES; */
+    ensures \result <= CPG_VARIABLES;
+    ensures variable < CPG_MAX_PROCESSES || 128 <= variable < 128 + CPG_MAX_CONDITIONS ==> \result == d_place(variable);
+    ensures \result < CPG_VARIABLES ==> \result == d_place(variable); */
 static uint32_t place_of(uint8_t variable)
 {
     uint32_t place = variable;
@@ -765,14 +140,17 @@ static uint32_t place_of(uint8_t variable)
 /* Where the value of a condition stands. */
 /*@ terminates \true;
     assigns \nothing;
-    ensures \result <= CPG_VARIABLES; */
+    ensures \result == (condition < CPG_MAX_CONDITIONS ? d_value_place(condition) : CPG_VARIABLES); */
 static uint32_t place_of_value(uint32_t condition)
 {
     return (condition < CPG_MAX_CONDITIONS) ? (CPG_MAX_PROCESSES + condition) : CPG_VARIABLES;
 }
 
 /*@ terminates \true;
-    assigns \nothing; */
+    assigns \nothing;
+    behavior table:
+      assumes column <= CPG_MAX_SIZE && literal <= 255;
+      ensures \result == d_literal(column, literal); */
 static uint32_t literal_at(uint32_t column, uint32_t literal)
 {
     return column + LITERALS_AT + (LITERAL_BYTES * literal);
@@ -780,7 +158,11 @@ static uint32_t literal_at(uint32_t column, uint32_t literal)
 
 /*@ requires cpg_is_open(node);
     terminates \true;
-    assigns \nothing; */
+    assigns \nothing;
+    behavior table:
+      assumes d_holds(node);
+      assumes literal <= 4294967293;
+      ensures \result.low == d_low(literal) && \result.high == d_high(literal); */
 static cpg_range range_at(const cpg_node *node, uint32_t literal)
 {
     cpg_range range;
@@ -790,7 +172,8 @@ static cpg_range range_at(const cpg_node *node, uint32_t literal)
 }
 
 /*@ terminates \true;
-    assigns \nothing; */
+    assigns \nothing;
+    ensures \result.low == \max(one.low, other.low) && \result.high == \min(one.high, other.high); */
 static cpg_range common(cpg_range one, cpg_range other)
 {
     cpg_range range;
@@ -800,7 +183,8 @@ static cpg_range common(cpg_range one, cpg_range other)
 }
 
 /*@ terminates \true;
-    assigns \nothing; */
+    assigns \nothing;
+    ensures \result <==> range.high < range.low; */
 static bool is_empty(cpg_range range)
 {
     return range.low > range.high;
@@ -808,7 +192,8 @@ static bool is_empty(cpg_range range)
 
 /* Whether a number that is in the range `known` is in the other one for sure. */
 /*@ terminates \true;
-    assigns \nothing; */
+    assigns \nothing;
+    ensures \result <==> range.low <= known.low && known.high <= range.high; */
 static bool is_within(cpg_range known, cpg_range range)
 {
     return (known.low >= range.low) && (known.high <= range.high);
@@ -817,20 +202,30 @@ static bool is_within(cpg_range known, cpg_range range)
 /* Whether all literals of a column follow from what has been heard. */
 /*@ requires cpg_is_open(node);
     terminates \true;
-    assigns \nothing; */
+    assigns \nothing;
+    behavior table:
+      assumes d_holds(node);
+      assumes t_is_column(column);
+      ensures \result ==> d_all_heard(node, column);
+      ensures !\result ==> !d_all_heard(node, column); */
 static bool follows(const cpg_node *node, uint32_t column)
 {
     uint32_t literals = byte_at(node, column + CUBE_AT);
-    /*@ loop invariant i <= literals;
+    /*@ loop invariant 0 <= i <= literals;
+        for table: loop invariant \forall integer j; 0 <= j < i ==> d_has_heard(node, d_literal(column, j));
         loop assigns i;
         loop variant literals - i; */
     for (uint32_t i = 0U; i < literals; i++) {
         uint32_t literal = literal_at(column, i);
         uint32_t place = place_of(byte_at(node, literal));
+        //@ for table: assert place == d_place(d_variable(d_literal(column, i)));
         if ((place >= CPG_VARIABLES) || !is_within(node->heard[place], range_at(node, literal))) {
+            //@ for table: assert !d_has_heard(node, d_literal(column, i));
+            //@ for table: assert !d_all_heard(node, column);
             return false;
         }
     }
+    //@ for table: assert d_all_heard(node, column);
     return true;
 }
 
@@ -838,15 +233,28 @@ static bool follows(const cpg_node *node, uint32_t column)
 /*@ requires cpg_is_node(node);
     terminates \true;
     assigns node->heard[0 .. CPG_VARIABLES - 1], node->sure[0 .. CPG_VARIABLES - 1];
-    ensures cpg_is_node(node); */
+    ensures cpg_is_node(node);
+    behavior table:
+      assumes d_holds(node);
+      assumes place <= CPG_VARIABLES;
+      ensures holds: d_holds(node);
+      ensures same: d_same_executions{Pre,Post}(node);
+      ensures same: d_same_flags{Pre,Post}(node);
+      ensures low: place < CPG_VARIABLES ==> node->heard[place].low == \max(\old(node->heard[place].low), range.low);
+      ensures high: place < CPG_VARIABLES ==> node->heard[place].high == \min(\old(node->heard[place].high), range.high);
+      ensures \forall integer p; 0 <= p < CPG_VARIABLES && p != place ==> d_same_range{Pre,Post}(node, p); */
 static void learn(cpg_node *node, uint32_t place, cpg_range range)
 {
     if (place < CPG_VARIABLES) {
-        node->heard[place] = common(node->heard[place], range);
-        node->sure[place] = common(node->sure[place], range);
-        if (is_empty(node->sure[place])) {
-            node->sure[place] = node->heard[place];
+        cpg_range heard = common(node->heard[place], range);
+        cpg_range sure = common(node->sure[place], range);
+        if (is_empty(sure)) {
+            sure = heard;
         }
+        node->heard[place].low = heard.low;
+        node->heard[place].high = heard.high;
+        node->sure[place].low = sure.low;
+        node->sure[place].high = sure.high;
     }
 }
 
@@ -854,13 +262,22 @@ static void learn(cpg_node *node, uint32_t place, cpg_range range)
 /*@ requires cpg_is_node(node);
     terminates \true;
     assigns node->heard[0 .. CPG_VARIABLES - 1], node->sure[0 .. CPG_VARIABLES - 1];
-    ensures cpg_is_node(node); */
+    ensures cpg_is_node(node);
+    behavior table:
+      assumes d_holds(node);
+      assumes place <= CPG_VARIABLES;
+      ensures holds: d_holds(node);
+      ensures same: d_same_executions{Pre,Post}(node);
+      ensures same: d_same_flags{Pre,Post}(node);
+      ensures place < CPG_VARIABLES ==> d_know(node, place, number);
+      ensures \forall integer p; 0 <= p < CPG_VARIABLES && p != place ==> d_same_range{Pre,Post}(node, p); */
 static void know(cpg_node *node, uint32_t place, uint8_t number)
 {
     if (place < CPG_VARIABLES) {
-        cpg_range range = { number, number };
-        node->heard[place] = range;
-        node->sure[place] = range;
+        node->heard[place].low = number;
+        node->heard[place].high = number;
+        node->sure[place].low = number;
+        node->sure[place].high = number;
     }
 }
 
@@ -868,28 +285,40 @@ static void know(cpg_node *node, uint32_t place, uint8_t number)
 
 /*@ requires cpg_is_open(node);
     terminates \true;
-    assigns \nothing; */
+    assigns \nothing;
+    behavior table:
+      assumes d_holds(node);
+      ensures \result == (i < t_dues ? d_time(i) : CPG_NEVER); */
 static uint64_t due_time(const cpg_node *node, uint32_t i)
 {
-    return (i < node->dues) ? time_at(node, node->due[i].at) : CPG_NEVER;
+    return (i < node->table->dues) ? time_at(node, node->table->due[i].at) : CPG_NEVER;
 }
 
 /* Whether something happens at `until` of an execution. */
 /*@ requires \valid_read(execution);
     terminates \true;
-    assigns \nothing; */
+    assigns \nothing;
+    ensures \result <==> execution->state == CPG_RUNNING || execution->state == CPG_NOTED; */
 static bool is_awaited(const cpg_execution *execution)
 {
     return (execution->state == CPG_RUNNING) || (execution->state == CPG_NOTED);
 }
 
+/*@ behavior table:
+      assumes d_holds(node) && d_is_kept(node);
+      ensures before: d_nothing_before(node, \result);
+      ensures next: d_next_awaited(node, \result); */
 uint64_t cpg_next(const cpg_node *node)
 {
     uint64_t next = due_time(node, node->next);
-    /*@ loop invariant row <= node->own;
+    /*@ loop invariant 0 <= row <= node->table->own;
+        for table: loop invariant node->next < t_dues ==> next <= d_time(node->next);
+        for table: loop invariant \forall integer r; 0 <= r < row && d_is_awaited(node, r) ==> next <= node->execution[r].until;
+        for table: loop invariant next == CPG_NEVER || (node->next < t_dues && next == d_time(node->next))
+            || (\exists integer r; 0 <= r < row && d_is_awaited(node, r) && node->execution[r].until == next);
         loop assigns row, next;
-        loop variant node->own - row; */
-    for (uint16_t row = 0U; row < node->own; row++) {
+        loop variant node->table->own - row; */
+    for (uint16_t row = 0U; row < node->table->own; row++) {
         if (is_awaited(&node->execution[row]) && (node->execution[row].until < next)) {
             next = node->execution[row].until;
         }
@@ -899,52 +328,148 @@ uint64_t cpg_next(const cpg_node *node)
 
 /* Executions whose planned end is now tell their faults and values. */
 /*@ requires cpg_is_node(node);
+    requires row < node->table->own;
     terminates \true;
     assigns node->execution[0 .. CPG_MAX_OWN - 1], node->heard[0 .. CPG_VARIABLES - 1], node->sure[0 .. CPG_VARIABLES - 1];
-    ensures cpg_is_node(node); */
+    ensures cpg_is_node(node);
+    behavior table:
+      assumes d_holds(node) && d_is_kept(node);
+      assumes row < t_own && d_has_reported(node, row);
+      ensures holds: d_holds(node);
+      ensures where: node->from == \old(node->from) && node->next == \old(node->next);
+      ensures same: d_same_flags{Pre,Post}(node);
+      ensures d_has_numbers(node);
+      ensures d_are_timed(node);
+      ensures faults: d_know(node, t_item(row), \old(node->execution[row].faults));
+      ensures value: t_condition(row) != 255 ==> d_know(node, d_value_place(t_condition(row)), \old(node->execution[row].value));
+      ensures others: \forall integer p; 0 <= p < CPG_VARIABLES && p != t_item(row)
+          && (t_condition(row) == 255 || p != d_value_place(t_condition(row))) ==> d_same_range{Pre,Post}(node, p);
+      ensures node->execution[row].state == CPG_ENDED;
+      ensures d_same_report{Pre,Post}(node, row);
+      ensures rows: \forall integer r; 0 <= r < CPG_MAX_OWN && r != row ==> d_same_execution{Pre,Post}(node, r); */
+static void tell_end(cpg_node *node, uint16_t row)
+{
+    know(node, place_of((uint8_t)node->table->item[row]), node->execution[row].faults);
+    know(node, place_of_value(node->table->process[row].condition), node->execution[row].value);
+    node->execution[row].state = CPG_ENDED;
+}
+
+/*@ requires cpg_is_node(node);
+    terminates \true;
+    assigns node->execution[0 .. CPG_MAX_OWN - 1], node->heard[0 .. CPG_VARIABLES - 1], node->sure[0 .. CPG_VARIABLES - 1];
+    ensures cpg_is_node(node);
+    behavior table:
+      assumes d_holds(node) && d_is_kept(node);
+      ensures holds: d_holds(node);
+      ensures where: node->from == \old(node->from) && node->next == \old(node->next);
+      ensures same: d_same_flags{Pre,Post}(node);
+      ensures d_has_numbers(node);
+      ensures d_are_timed(node);
+      ensures heard: d_heard_after{Pre,Post}(node, now);
+      ensures reports: d_end_reports{Pre,Post}(node);
+      ensures due: d_end_due{Pre,Post}(node, now, t_own);
+      ensures others: d_end_no_more{Pre,Post}(node, now, t_own); */
 static void tell_ends(cpg_node *node, uint64_t now)
 {
-    /*@ loop invariant row <= node->own && cpg_is_node(node);
+    /*@ loop invariant 0 <= row <= node->table->own && cpg_is_node(node);
+        for table: loop invariant holds: d_holds(node);
+        for table: loop invariant same: d_same_flags{Pre,Here}(node);
+        for table: loop invariant d_has_numbers(node);
+        for table: loop invariant d_are_timed(node);
+        for table: loop invariant where: node->from == \at(node->from,Pre) && node->next == \at(node->next,Pre);
+        for table: loop invariant d_end_reports{Pre,Here}(node);
+        for table: loop invariant d_end_due{Pre,Here}(node, now, row);
+        for table: loop invariant d_end_no_more{Pre,Here}(node, now, row);
+        for table: loop invariant d_hear_faults{Pre,Here}(node, now, row);
+        for table: loop invariant d_hear_values{Pre,Here}(node, now, row);
+        for table: loop invariant d_hear_no_more{Pre,Here}(node, now, row);
         loop assigns row, node->execution[0 .. CPG_MAX_OWN - 1], node->heard[0 .. CPG_VARIABLES - 1],
             node->sure[0 .. CPG_VARIABLES - 1];
-        loop variant node->own - row; */
-    for (uint16_t row = 0U; row < node->own; row++) {
-        cpg_execution *execution = &node->execution[row];
-        if ((execution->state == CPG_NOTED) && (execution->until <= now)) {
-            execution->state = CPG_ENDED;
-            know(node, place_of((uint8_t)node->item[row]), execution->faults);
-            know(node, place_of_value(execution->condition), execution->value);
+        loop variant node->table->own - row; */
+    for (uint16_t row = 0U; row < node->table->own; row++) {
+        if ((node->execution[row].state == CPG_NOTED) && (node->execution[row].until <= now)) {
+            //@ for table: assert d_due_report{Pre}(node, row, now);
+            /*@ for table: assert differ: \forall integer r; 0 <= r < row ==> t_item(r) != t_item(row)
+                && (t_condition(r) == 255 || t_condition(r) != t_condition(row)); */
+            tell_end(node, row);
+            /*@ for table: assert kept: \forall integer r; 0 <= r < row && d_due_report{Pre}(node, r, now) && t_condition(r) != 255 ==>
+                d_same_range{LoopCurrent,Here}(node, d_value_place(t_condition(r))); */
+            /*@ for table: assert kept: \forall integer r; 0 <= r < row && d_due_report{Pre}(node, r, now) ==>
+                d_same_range{LoopCurrent,Here}(node, t_item(r)); */
+            //@ for table: assert here: \forall integer r; r == row ==> d_know(node, t_item(r), \at(node->execution[r].faults,Pre));
+            /*@ for table: assert here: \forall integer r; r == row && t_condition(r) != 255 ==>
+                d_know(node, d_value_place(t_condition(r)), \at(node->execution[r].value,Pre)); */
+            //@ for table: assert before: d_hear_faults{Pre,Here}(node, now, row);
+            //@ for table: assert before: d_hear_values{Pre,Here}(node, now, row);
         }
     }
 }
 
-/*@ requires \valid(event);
+/* The event of a row at an instant. */
+/*@ requires cpg_is_node(node);
+    requires cpg_is_event(node, event);
+    requires row < node->table->rows || row < node->table->own;
     terminates \true;
-    assigns event->time, event->kind, event->item, event->column, event->value; */
-static void tell(cpg_event *event, cpg_kind kind, uint64_t now, uint16_t item, uint16_t column)
+    assigns event->time, event->kind, event->item, event->column, event->value;
+    ensures cpg_is_node(node);
+    behavior table:
+      assumes d_holds(node) && row < t_rows;
+      assumes d_is_event(node, event);
+      ensures holds: d_holds(node);
+      ensures same: d_same_executions{Pre,Post}(node);
+      ensures same: d_same_ranges{Pre,Post}(node);
+      ensures same: d_same_flags{Pre,Post}(node);
+      ensures same: node->from == \old(node->from) && node->next == \old(node->next);
+      ensures timed: d_are_timed{Pre}(node) ==> d_are_timed{Post}(node);
+      ensures event: event->time == now && event->kind == kind && event->item == t_item(row);
+      ensures event: event->column == column && event->value == value; */
+static void tell(const cpg_node *node, cpg_event *event, cpg_kind kind, uint64_t now, uint16_t row, uint16_t column, uint8_t value)
 {
     event->kind = kind;
     event->time = now;
-    event->item = item;
+    event->item = node->table->item[row];
     event->column = column;
-    event->value = 0U;
+    event->value = value;
 }
 
 /* The first execution that still runs at its end with k faults, and wasn't told before. */
 /*@ requires cpg_is_node(node);
-    requires \valid(event) && \separated(node, event);
+    requires cpg_is_event(node, event);
     terminates \true;
     assigns node->execution[0 .. CPG_MAX_OWN - 1], event->time, event->kind, event->item, event->column, event->value;
-    ensures cpg_is_node(node); */
+    ensures cpg_is_node(node);
+    behavior table:
+      assumes d_holds(node) && d_is_told(node, now);
+      assumes d_is_event(node, event);
+      ensures holds: d_holds(node);
+      ensures where: node->from == \old(node->from) && node->next == \old(node->next);
+      ensures same: d_same_ranges{Pre,Post}(node);
+      ensures same: d_same_flags{Pre,Post}(node);
+      ensures told: d_is_told(node, now);
+      ensures kind: \result ==> event->kind == CPG_OVERRUN;
+      ensures none: !\result ==> d_same_executions{Pre,Post}(node);
+      ensures none: !\result ==> d_none_overruns{Pre}(node, now);
+      ensures overrun: d_turn_overrun{Pre,Post}(node, now, \result ? 1 : 0, event);
+      ensures others: d_rest_others{Pre,Post}(node, \result ? 1 : 0, event); */
 static bool tell_overrun(cpg_node *node, uint64_t now, cpg_event *event)
 {
-    /*@ loop invariant row <= node->own;
+    /*@ loop invariant 0 <= row <= node->table->own;
+        for table: loop invariant \forall integer r; 0 <= r < row ==> !d_overruns(node, r, now);
         loop assigns row;
-        loop variant node->own - row; */
-    for (uint16_t row = 0U; row < node->own; row++) {
+        loop variant node->table->own - row; */
+    for (uint16_t row = 0U; row < node->table->own; row++) {
         if ((node->execution[row].state == CPG_RUNNING) && (node->execution[row].until <= now)) {
             node->execution[row].state = CPG_OVERRUNNING;
-            tell(event, CPG_OVERRUN, now, node->item[row], 0U);
+            //@ for table: assert d_is_timed(node, row);
+            //@ for table: assert same: \forall integer r; 0 <= r < CPG_MAX_OWN && r != row ==> d_same_execution{Pre,Here}(node, r);
+            //@ for table: assert timed: \forall integer r; 0 <= r < t_own && r != row ==> d_is_timed(node, r);
+            //@ for table: assert mid: d_holds(node);
+            tell(node, event, CPG_OVERRUN, now, row, 0U, 0U);
+            //@ for table: assert others: \forall integer r; 0 <= r < CPG_MAX_OWN && r != row ==> d_same_execution{Pre,Here}(node, r);
+            //@ for table: assert kept: d_is_kept(node);
+            //@ for table: assert before: d_nothing_before(node, now);
+            //@ for table: assert ahead: d_reports_ahead(node);
+            //@ for table: assert starts: d_starts_over(node);
             return true;
         }
     }
@@ -955,7 +480,13 @@ static bool tell_overrun(cpg_node *node, uint64_t now, cpg_event *event)
 /*@ requires cpg_is_node(node);
     terminates \true;
     assigns node->sure[0 .. CPG_VARIABLES - 1];
-    ensures cpg_is_node(node); */
+    ensures cpg_is_node(node);
+    behavior table:
+      assumes d_holds(node);
+      ensures holds: d_holds(node);
+      ensures same: d_same_executions{Pre,Post}(node);
+      ensures same: d_same_flags{Pre,Post}(node);
+      ensures same: d_same_ranges{Pre,Post}(node); */
 static void rule_out(cpg_node *node, uint32_t place, cpg_range range)
 {
     if (place < CPG_VARIABLES) {
@@ -967,7 +498,8 @@ static void rule_out(cpg_node *node, uint32_t place, cpg_range range)
         } else {
             /* nothing can be ruled out by a range */
         }
-        node->sure[place] = left;
+        node->sure[place].low = left.low;
+        node->sure[place].high = left.high;
     }
 }
 
@@ -976,13 +508,21 @@ static void rule_out(cpg_node *node, uint32_t place, cpg_range range)
 /*@ requires cpg_is_node(node);
     terminates \true;
     assigns node->sure[0 .. CPG_VARIABLES - 1];
-    ensures cpg_is_node(node); */
+    ensures cpg_is_node(node);
+    behavior table:
+      assumes d_holds(node);
+      assumes t_is_column(column);
+      ensures holds: d_holds(node);
+      ensures same: d_same_executions{Pre,Post}(node);
+      ensures same: d_same_flags{Pre,Post}(node);
+      ensures same: d_same_ranges{Pre,Post}(node); */
 static bool had_to_come(cpg_node *node, uint32_t column)
 {
     uint32_t literals = byte_at(node, column + CUBE_AT);
     uint32_t open = 0U;
     uint32_t which = 0U;
-    /*@ loop invariant i <= literals;
+    /*@ loop invariant 0 <= i <= literals && open <= i;
+        for table: loop invariant which <= CPG_MAX_SIZE;
         loop assigns i, open, which;
         loop variant literals - i; */
     for (uint32_t i = 0U; i < literals; i++) {
@@ -1001,116 +541,388 @@ static bool had_to_come(cpg_node *node, uint32_t column)
 
 /* When an execution that started at `start` ends with so many faults. */
 /*@ requires cpg_is_open(node);
-    requires \valid_read(execution);
+    requires row < node->table->own;
     terminates \true;
-    assigns \nothing; */
-static uint64_t end_of(const cpg_node *node, const cpg_execution *execution, uint32_t faults)
+    assigns \nothing;
+    behavior table:
+      assumes d_holds(node);
+      assumes row < t_own && faults <= t_k && node->execution[row].start < 1152921504606846976;
+      ensures \result == node->execution[row].start + d_time_of(row, faults); */
+static uint64_t end_of(const cpg_node *node, uint16_t row, uint32_t faults)
 {
-    return execution->start + time_at(node, execution->durations + (TIME_BYTES * faults));
+    return node->execution[row].start + time_at(node, node->table->process[row].durations + (TIME_BYTES * faults));
 }
 
 /*@ requires cpg_is_node(node);
+    requires row < node->table->own;
     terminates \true;
     assigns node->execution[0 .. CPG_MAX_OWN - 1];
-    ensures cpg_is_node(node); */
+    ensures cpg_is_node(node);
+    behavior table:
+      assumes d_holds(node) && d_is_kept(node);
+      assumes row < t_own && now < 1152921504606846976;
+      ensures holds: d_holds(node);
+      ensures where: node->from == \old(node->from) && node->next == \old(node->next);
+      ensures same: d_same_ranges{Pre,Post}(node);
+      ensures same: d_same_flags{Pre,Post}(node);
+      ensures d_are_timed(node);
+      ensures d_is_started(node, row, now);
+      ensures \forall integer r; 0 <= r < CPG_MAX_OWN && r != row ==> d_same_execution{Pre,Post}(node, r); */
 static void start(cpg_node *node, uint16_t row, uint64_t now)
 {
-    if (row < node->own) {
-        cpg_execution *execution = &node->execution[row];
-        execution->state = CPG_RUNNING;
-        execution->start = now;
-        execution->until = end_of(node, execution, node->k);
-    }
+    const uint64_t until = now + time_at(node, node->table->process[row].durations + (TIME_BYTES * node->table->k));
+    //@ for table: assert until: until == now + d_time_of(row, t_k);
+    node->execution[row].state = CPG_RUNNING;
+    node->execution[row].start = now;
+    node->execution[row].until = until;
+    //@ for table: assert this: d_is_timed(node, row);
+    //@ for table: assert same: \forall integer r; 0 <= r < CPG_MAX_OWN && r != row ==> d_same_execution{Pre,Here}(node, r);
+    //@ for table: assert timed: \forall integer r; 0 <= r < t_own && r != row ==> d_is_timed(node, r);
+}
+
+/* Where the value stands that a frame of an item tells: CPG_VARIABLES where it tells none. */
+/*@ requires cpg_is_open(node);
+    terminates \true;
+    assigns \nothing;
+    ensures \result <= CPG_VARIABLES;
+    behavior table:
+      assumes d_holds(node);
+      ensures \result == d_told_place(item); */
+static uint32_t told_place(const cpg_node *node, uint16_t item)
+{
+    return (item >= node->table->broadcast) ? place_of_value((uint32_t)item - node->table->broadcast) : CPG_VARIABLES;
 }
 
 /* The value that a broadcast carries: that of a condition whose process has ended. */
 /*@ requires cpg_is_open(node);
     terminates \true;
-    assigns \nothing; */
+    assigns \nothing;
+    behavior table:
+      assumes d_holds(node);
+      assumes item < t_broadcast + t_conditions;
+      ensures \result == d_value_of(node, item); */
 static uint8_t value_of(const cpg_node *node, uint16_t item)
 {
-    uint32_t place = (item >= node->broadcast) ? place_of_value((uint32_t)item - node->broadcast) : CPG_VARIABLES;
+    const uint32_t place = told_place(node, item);
     return (place < CPG_VARIABLES) ? node->heard[place].low : (uint8_t)0U;
 }
 
-/* What a column that stands at this instant leads to. Answers whether that is an event. */
+/* A frame that should have come by now: the watch. Answers whether it had to. */
 /*@ requires cpg_is_node(node);
-    requires \valid(event) && \separated(node, event);
+    requires cpg_is_event(node, event);
+    requires i < node->table->dues && node->table->due[i].row < node->table->rows;
     terminates \true;
-    assigns node->sure[0 .. CPG_VARIABLES - 1], node->execution[0 .. CPG_MAX_OWN - 1], event->time, event->kind, event->item,
-        event->column, event->value;
-    ensures cpg_is_node(node); */
-static bool take_due(cpg_node *node, cpg_due due, uint64_t now, cpg_event *event)
+    assigns node->sure[0 .. CPG_VARIABLES - 1], event->time, event->kind, event->item, event->column, event->value;
+    ensures cpg_is_node(node);
+    behavior table:
+      assumes d_holds(node) && d_is_kept(node);
+      assumes d_is_event(node, event);
+      assumes i < t_dues && now == d_time(i) && t_row(i) >= t_acting;
+      ensures holds: d_holds(node);
+      ensures where: node->from == \old(node->from) && node->next == \old(node->next);
+      ensures same: d_same_ranges{Pre,Post}(node);
+      ensures same: d_same_flags{Pre,Post}(node);
+      ensures same: d_same_executions{Pre,Post}(node);
+      ensures \result ==> d_is_missing(node, i, now, event); */
+static bool take_heard(cpg_node *node, uint32_t i, uint64_t now, cpg_event *event)
 {
-    uint16_t item;
-    if (due.row >= node->rows) {
+    uint16_t row = node->table->due[i].row;
+    if (node->came[row] || !had_to_come(node, node->table->due[i].at)) {
         return false;
     }
-    item = node->item[due.row];
-    if (is_heard(node, due.row)) {
-        if (node->came[due.row] || !had_to_come(node, due.at)) {
-            return false;
-        }
-        tell(event, CPG_MISSING, now, item, due.column);
-        return true;
-    }
-    if (!follows(node, due.at)) {
+    tell(node, event, CPG_MISSING, now, row, node->table->due[i].column, 0U);
+    return true;
+}
+
+/* An act of a column that stands at this instant: a start or a send. */
+/*@ requires cpg_is_node(node);
+    requires cpg_is_event(node, event);
+    requires i < node->table->dues && node->table->due[i].row < node->table->rows;
+    terminates \true;
+    assigns node->execution[0 .. CPG_MAX_OWN - 1], event->time, event->kind, event->item, event->column, event->value;
+    ensures cpg_is_node(node);
+    behavior table:
+      assumes d_holds(node) && d_is_kept(node);
+      assumes d_is_event(node, event);
+      assumes i < t_dues && now == d_time(i) && t_row(i) < t_acting;
+      ensures holds: d_holds(node);
+      ensures where: node->from == \old(node->from) && node->next == \old(node->next);
+      ensures same: d_same_ranges{Pre,Post}(node);
+      ensures same: d_same_flags{Pre,Post}(node);
+      ensures d_are_timed(node);
+      ensures acts: \result ==> d_acts{Pre}(node, i);
+      ensures acts: !\result ==> !d_acts{Pre}(node, i);
+      ensures event: \result ==> d_is_act(node, i, now, event);
+      ensures started: \result && t_row(i) < t_own ==> d_is_started(node, t_row(i), now);
+      ensures others: \forall integer row; 0 <= row < CPG_MAX_OWN && !(\result && row == t_row(i)) ==>
+          d_same_execution{Pre,Post}(node, row); */
+static bool take_act(cpg_node *node, uint32_t i, uint64_t now, cpg_event *event)
+{
+    uint16_t row = node->table->due[i].row;
+    //@ for table: assert row == t_row(i);
+    //@ for table: assert t_is_column(t_at(i));
+    if (!follows(node, node->table->due[i].at)) {
         return false;
     }
-    if (is_start(node, due.row)) {
-        start(node, due.row, now);
-        tell(event, CPG_START, now, item, due.column);
+    if (is_start(node, row)) {
+        start(node, row, now);
+        //@ ghost Started: ;
+        tell(node, event, CPG_START, now, row, node->table->due[i].column, 0U);
+        //@ for table: assert timed: d_are_timed(node);
+        //@ for table: assert same: d_same_executions{Started,Here}(node);
+        //@ for table: assert started: d_is_started(node, row, now);
+        //@ for table: assert others: \forall integer r; 0 <= r < CPG_MAX_OWN && r != row ==> d_same_execution{Pre,Here}(node, r);
     } else {
-        tell(event, CPG_SEND, now, item, due.column);
-        event->value = value_of(node, item);
+        tell(node, event, CPG_SEND, now, row, node->table->due[i].column, value_of(node, node->table->item[row]));
     }
     return true;
 }
 
-/* The turn of an instant, or what is left of it, as far as the next event. */
+/* What a column that stands at this instant leads to. Answers whether that is an event. */
 /*@ requires cpg_is_node(node);
-    requires \valid(event) && \separated(node, event);
+    requires cpg_is_event(node, event);
+    requires i < node->table->dues;
     terminates \true;
-    assigns node->next, node->heard[0 .. CPG_VARIABLES - 1], node->sure[0 .. CPG_VARIABLES - 1],
-        node->execution[0 .. CPG_MAX_OWN - 1], event->time, event->kind, event->item, event->column, event->value;
-    ensures cpg_is_node(node); */
-static bool take_turn(cpg_node *node, uint64_t now, cpg_event *event)
+    assigns node->sure[0 .. CPG_VARIABLES - 1], node->execution[0 .. CPG_MAX_OWN - 1], event->time, event->kind, event->item,
+        event->column, event->value;
+    ensures cpg_is_node(node);
+    behavior table:
+      assumes d_holds(node) && d_is_kept(node);
+      assumes d_is_event(node, event);
+      assumes i < t_dues && now == d_time(i);
+      ensures holds: d_holds(node);
+      ensures where: node->from == \old(node->from) && node->next == \old(node->next);
+      ensures same: d_same_ranges{Pre,Post}(node);
+      ensures same: d_same_flags{Pre,Post}(node);
+      ensures d_are_timed(node);
+      ensures t_row(i) < t_acting && \result ==> d_acts{Pre}(node, i);
+      ensures t_row(i) < t_acting && !\result ==> !d_acts{Pre}(node, i);
+      ensures \result && t_row(i) < t_acting ==> d_is_act(node, i, now, event);
+      ensures \result && t_row(i) >= t_acting ==> d_is_missing(node, i, now, event);
+      ensures \result && t_row(i) < t_own ==> d_is_started(node, t_row(i), now);
+      ensures others: \forall integer row; 0 <= row < CPG_MAX_OWN && !(\result && row == t_row(i)) ==>
+          d_same_execution{Pre,Post}(node, row); */
+static bool take_due(cpg_node *node, uint32_t i, uint64_t now, cpg_event *event)
 {
-    tell_ends(node, now);
-    if (tell_overrun(node, now, event)) {
-        return true;
+    uint16_t row = node->table->due[i].row;
+    if (row >= node->table->rows) {
+        return false;
     }
+    return is_heard(node, row) ? take_heard(node, i, now, event) : take_act(node, i, now, event);
+}
+
+/* Takes the next column, which stands at this instant. Answers whether that is an event. */
+/*@ requires cpg_is_node(node);
+    requires cpg_is_event(node, event);
+    requires node->next < node->table->dues;
+    terminates \true;
+    assigns node->next, node->sure[0 .. CPG_VARIABLES - 1], node->execution[0 .. CPG_MAX_OWN - 1], event->time, event->kind,
+        event->item, event->column, event->value;
+    ensures cpg_is_node(node);
+    ensures node->next == \old(node->next) + 1;
+    behavior table:
+      assumes d_holds(node) && d_is_told(node, now);
+      assumes d_is_event(node, event);
+      assumes d_time(node->next) == now;
+      ensures holds: d_holds(node);
+      ensures same: d_same_ranges{Pre,Post}(node);
+      ensures same: d_same_flags{Pre,Post}(node);
+      ensures from: node->from == \old(node->from);
+      ensures kept: d_is_kept(node);
+      ensures before: d_nothing_before(node, now);
+      ensures over: d_columns_over(node);
+      ensures ahead: d_reports_ahead(node);
+      ensures starts: d_starts_over(node);
+      ensures past: !\result ==> !d_acts(node, node->next - 1);
+      ensures kind: \result ==> event->kind != CPG_OVERRUN;
+      ensures act: d_turn_act{Pre,Post}(node, now, \result ? 1 : 0, event);
+      ensures start: d_turn_start(node, now, \result ? 1 : 0, event);
+      ensures others: d_dues_others{Pre,Post}(node, \result ? 1 : 0, event); */
+static bool take_next(cpg_node *node, uint64_t now, cpg_event *event)
+{
+    const uint32_t i = node->next;
+    node->next = i + 1U;
+    //@ for table: assert holds: d_holds(node);
+    //@ for table: assert same: d_same_executions{Pre,Here}(node);
+    //@ for table: assert kept: d_is_kept(node);
+    return take_due(node, i, now, event);
+}
+
+/* What the columns of an instant lead to, as far as the next event. */
+/*@ requires cpg_is_node(node);
+    requires cpg_is_event(node, event);
+    terminates \true;
+    assigns node->next, node->sure[0 .. CPG_VARIABLES - 1], node->execution[0 .. CPG_MAX_OWN - 1], event->time, event->kind,
+        event->item, event->column, event->value;
+    ensures cpg_is_node(node);
+    behavior table:
+      assumes d_holds(node) && d_is_told(node, now);
+      assumes d_is_event(node, event);
+      ensures holds: d_holds(node);
+      ensures same: d_same_ranges{Pre,Post}(node);
+      ensures same: d_same_flags{Pre,Post}(node);
+      ensures from: node->from == \old(node->from);
+      ensures told: d_is_told(node, now);
+      ensures columns: d_turn_columns{Pre,Post}(node, now);
+      ensures past: d_turn_past{Pre,Post}(node, \result ? 1 : 0);
+      ensures kind: \result ==> event->kind != CPG_OVERRUN;
+      ensures act: d_turn_act{Pre,Post}(node, now, \result ? 1 : 0, event);
+      ensures done: !\result ==> d_nothing_at(node, now);
+      ensures start: d_turn_start(node, now, \result ? 1 : 0, event);
+      ensures others: d_dues_others{Pre,Post}(node, \result ? 1 : 0, event); */
+static bool take_dues(cpg_node *node, uint64_t now, cpg_event *event)
+{
     /*@ loop invariant cpg_is_node(node);
+        for table: loop invariant holds: d_holds(node);
+        for table: loop invariant same: d_same_ranges{Pre,Here}(node);
+        for table: loop invariant same: d_same_flags{Pre,Here}(node);
+        for table: loop invariant same: d_dues_others{Pre,Here}(node, 0, event);
+        for table: loop invariant from: node->from == \at(node->from,Pre);
+        for table: loop invariant told: d_is_told(node, now);
+        for table: loop invariant columns: d_turn_columns{Pre,Here}(node, now);
+        for table: loop invariant past: d_turn_past{Pre,Here}(node, 0);
         loop assigns node->next, node->sure[0 .. CPG_VARIABLES - 1], node->execution[0 .. CPG_MAX_OWN - 1], event->time,
             event->kind, event->item, event->column, event->value;
-        loop variant node->dues - node->next; */
-    while ((node->next < node->dues) && (due_time(node, node->next) <= now)) {
-        cpg_due due = node->due[node->next];
-        node->next++;
-        if (take_due(node, due, now, event)) {
+        loop variant node->table->dues - node->next; */
+    while ((node->next < node->table->dues) && (due_time(node, node->next) <= now)) {
+        if (take_next(node, now, event)) {
             return true;
         }
     }
     return false;
 }
 
+/* What is left of the turn of an instant whose ends are told, as far as the next event. */
+/*@ requires cpg_is_node(node);
+    requires cpg_is_event(node, event);
+    terminates \true;
+    assigns node->next, node->sure[0 .. CPG_VARIABLES - 1], node->execution[0 .. CPG_MAX_OWN - 1], event->time, event->kind,
+        event->item, event->column, event->value;
+    ensures cpg_is_node(node);
+    behavior table:
+      assumes d_holds(node) && d_is_told(node, now);
+      assumes d_is_event(node, event);
+      ensures holds: d_holds(node);
+      ensures same: d_same_ranges{Pre,Post}(node);
+      ensures same: d_same_flags{Pre,Post}(node);
+      ensures from: node->from == \old(node->from);
+      ensures told: d_is_told(node, now);
+      ensures columns: d_turn_columns{Pre,Post}(node, now);
+      ensures past: d_turn_past{Pre,Post}(node, \result ? 1 : 0);
+      ensures act: d_turn_act{Pre,Post}(node, now, \result ? 1 : 0, event);
+      ensures overrun: d_turn_overrun{Pre,Post}(node, now, \result ? 1 : 0, event);
+      ensures done: d_turn_over(node, now, \result ? 1 : 0);
+      ensures start: d_turn_start(node, now, \result ? 1 : 0, event);
+      ensures others: d_rest_others{Pre,Post}(node, \result ? 1 : 0, event); */
+static bool take_rest(cpg_node *node, uint64_t now, cpg_event *event)
+{
+    return tell_overrun(node, now, event) || take_dues(node, now, event);
+}
+
+/* The turn of an instant, or what is left of it, as far as the next event. */
+/*@ requires cpg_is_node(node);
+    requires cpg_is_event(node, event);
+    terminates \true;
+    assigns node->next, node->heard[0 .. CPG_VARIABLES - 1], node->sure[0 .. CPG_VARIABLES - 1],
+        node->execution[0 .. CPG_MAX_OWN - 1], event->time, event->kind, event->item, event->column, event->value;
+    ensures cpg_is_node(node);
+    behavior table:
+      assumes d_holds(node) && d_is_turning(node, now);
+      assumes d_is_event(node, event);
+      ensures holds: d_holds(node);
+      ensures same: d_same_flags{Pre,Post}(node);
+      ensures from: node->from == \old(node->from);
+      ensures told: d_is_told(node, now);
+      ensures ends: d_heard_after{Pre,Post}(node, now);
+      ensures columns: d_turn_columns{Pre,Post}(node, now);
+      ensures past: d_turn_past{Pre,Post}(node, \result ? 1 : 0);
+      ensures act: d_turn_act{Pre,Post}(node, now, \result ? 1 : 0, event);
+      ensures overrun: d_turn_overrun{Pre,Post}(node, now, \result ? 1 : 0, event);
+      ensures done: d_turn_over(node, now, \result ? 1 : 0);
+      ensures start: d_turn_start(node, now, \result ? 1 : 0, event);
+      ensures ended: d_turn_ends{Pre,Post}(node, now, \result ? 1 : 0, event);
+      ensures rows: d_turn_others{Pre,Post}(node, now, \result ? 1 : 0, event); */
+static bool take_turn(cpg_node *node, uint64_t now, cpg_event *event)
+{
+    tell_ends(node, now);
+    //@ for table: assert kept: d_is_kept(node);
+    //@ for table: assert ahead: d_reports_ahead(node);
+    //@ for table: assert before: d_nothing_before(node, now);
+    //@ for table: assert over: d_columns_over(node);
+    //@ for table: assert starts: d_starts_over(node);
+    //@ for table: assert running: d_same_overruns{Pre,Here}(node, now);
+    return take_rest(node, now, event);
+}
+
+/* The turn of the next instant. */
+/*@ requires cpg_is_node(node);
+    requires cpg_is_event(node, event);
+    terminates \true;
+    assigns node->from, node->next, node->heard[0 .. CPG_VARIABLES - 1], node->sure[0 .. CPG_VARIABLES - 1],
+        node->execution[0 .. CPG_MAX_OWN - 1], event->time, event->kind, event->item, event->column, event->value;
+    ensures cpg_is_node(node);
+    behavior table:
+      assumes d_holds(node) && d_is_sound(node);
+      assumes d_is_event(node, event);
+      assumes d_next_awaited(node, now) && now != CPG_NEVER;
+      ensures holds: d_holds(node);
+      ensures sound: d_is_sound(node);
+      ensures same: d_same_flags{Pre,Post}(node);
+      ensures from: node->from == now + 1;
+      ensures turned: d_turn{Pre,Post}(node, now, \result ? 1 : 0, event);
+      ensures time: \result ==> event->time == now;
+      ensures over: !\result ==> d_nothing_before(node, now + 1); */
+static bool take_instant(cpg_node *node, uint64_t now, cpg_event *event)
+{
+    bool found;
+    //@ for table: assert now: now < 2305843009213693952;
+    //@ for table: assert from: node->from - 1 <= now;
+    node->from = now + 1U;
+    //@ for table: assert holds: d_holds(node);
+    //@ for table: assert same: d_same_executions{Pre,Here}(node);
+    //@ for table: assert kept: d_is_kept(node);
+    //@ for table: assert turning: d_is_turning(node, now);
+    found = take_turn(node, now, event);
+    //@ for table: assert heard: d_heard_after{Pre,Here}(node, now);
+    //@ for table: assert overrun: d_turn_overrun{Pre,Here}(node, now, found ? 1 : 0, event);
+    //@ for table: assert ends: d_turn_ends{Pre,Here}(node, now, found ? 1 : 0, event);
+    //@ for table: assert others: d_turn_others{Pre,Here}(node, now, found ? 1 : 0, event);
+    return found;
+}
+
+/*@ behavior table:
+      assumes d_holds(node) && d_is_sound(node);
+      assumes d_is_event(node, event);
+      ensures holds: d_holds(node);
+      ensures sound: d_is_sound(node);
+      ensures same: d_same_flags{Pre,Post}(node);
+      ensures found: \result ==> d_turned_to{Pre,Post}(node, event);
+      ensures time: \result ==> event->time == node->from - 1 && event->time <= until;
+      ensures quiet: !\result ==> d_turned{Pre,Post}(node, event);
+      ensures waits: !\result ==> (\exists integer now; d_next_awaited(node, now) && (now == CPG_NEVER || until < now)); */
 bool cpg_poll(cpg_node *node, uint64_t until, cpg_event *event)
 {
-    /* A turn without an event passes a column or a noted end. */
-    const uint32_t most = node->dues + node->own;
-    /*@ loop invariant turns <= most + 1 && cpg_is_node(node);
-        loop assigns turns, node->from, node->next, node->heard[0 .. CPG_VARIABLES - 1], node->sure[0 .. CPG_VARIABLES - 1],
+    /* Time grows from turn to turn. With columns in their order that goes without saying. */
+    uint64_t least = (node->from > 0U) ? (node->from - 1U) : 0U;
+    uint64_t now = cpg_next(node);
+    /*@ loop invariant cpg_is_node(node);
+        for table: loop invariant holds: d_holds(node);
+        for table: loop invariant sound: d_is_sound(node);
+        for table: loop invariant same: d_same_flags{Pre,Here}(node);
+        for table: loop invariant least: d_nothing_before(node, least);
+        for table: loop invariant next: d_next_awaited(node, now);
+        for table: loop invariant quiet: d_turned{Pre,Here}(node, event);
+        loop assigns least, now, node->from, node->next, node->heard[0 .. CPG_VARIABLES - 1], node->sure[0 .. CPG_VARIABLES - 1],
             node->execution[0 .. CPG_MAX_OWN - 1], event->time, event->kind, event->item, event->column, event->value;
-        loop variant most - turns; */
-    for (uint32_t turns = 0U; turns <= most; turns++) {
-        uint64_t now = cpg_next(node);
-        if ((now == CPG_NEVER) || (now > until)) {
-            return false;
-        }
-        node->from = now + 1U;
-        if (take_turn(node, now, event)) {
+        loop variant CPG_NEVER - least; */
+    while ((now >= least) && (now <= until) && (now < CPG_NEVER)) {
+        if (take_instant(node, now, event)) {
+            //@ for table: assert turn: d_next_turn{LoopCurrent,Here}(node, 1, event);
             return true;
         }
+        //@ for table: assert turn: d_next_turn{LoopCurrent,Here}(node, 0, event);
+        least = now + 1U;
+        now = cpg_next(node);
     }
     return false;
 }
@@ -1122,29 +934,44 @@ bool cpg_poll(cpg_node *node, uint64_t until, cpg_event *event)
 /*@ requires cpg_is_node(node);
     terminates \true;
     assigns \nothing;
-    ensures \result < node->dues ==> node->due[\result].row < node->rows; */
+    ensures \result <= node->table->dues;
+    ensures \result < node->table->dues ==> node->table->due[\result].row < node->table->rows;
+    behavior table:
+      assumes d_holds(node) && d_is_kept(node) && d_nothing_before(node, time);
+      assumes \forall integer i; 0 <= i < node->next ==> d_time(i) < time;
+      ensures \result <= t_dues;
+      ensures \result < t_dues ==> d_arrives(node, \result, time, item, column);
+      ensures \result == t_dues ==> (\forall integer i; !d_arrives(node, i, time, item, column)); */
 static uint32_t find_heard(const cpg_node *node, uint64_t time, uint16_t item, uint16_t column)
 {
-    /*@ loop assigns i;
-        loop variant node->dues - i; */
-    for (uint32_t i = node->next; (i < node->dues) && (due_time(node, i) == time); i++) {
-        cpg_due due = node->due[i];
-        if ((due.row < node->rows) && is_heard(node, due.row) && (node->item[due.row] == item) && (due.column == column)) {
+    /*@ for table: loop invariant node->next <= i <= t_dues;
+        for table: loop invariant \forall integer j; 0 <= j < i ==> !d_arrives(node, j, time, item, column);
+        loop assigns i;
+        loop variant node->table->dues - i; */
+    for (uint32_t i = node->next; (i < node->table->dues) && (due_time(node, i) == time); i++) {
+        cpg_due due = node->table->due[i];
+        if ((due.row < node->table->rows) && is_heard(node, due.row) && (node->table->item[due.row] == item) && (due.column == column)) {
             return i;
         }
     }
-    return node->dues;
+    return node->table->dues;
 }
 
 /* Whether what a frame tells leaves some variable no number; `place` is that of the value that it tells. */
 /*@ requires cpg_is_open(node);
     terminates \true;
-    assigns \nothing; */
+    assigns \nothing;
+    behavior table:
+      assumes d_holds(node) && d_is_kept(node);
+      assumes t_is_column(column) && place <= CPG_VARIABLES;
+      ensures \result ==> d_is_contradicted(node, column, place, value);
+      ensures !\result ==> !d_is_contradicted(node, column, place, value); */
 static bool contradicts(const cpg_node *node, uint32_t column, uint32_t place, uint8_t value)
 {
     cpg_range told = { value, value };
     uint32_t literals = byte_at(node, column + CUBE_AT);
-    /*@ loop invariant i <= literals;
+    /*@ loop invariant 0 <= i <= literals;
+        for table: loop invariant \forall integer j; 0 <= j < i ==> !d_excludes(node, d_literal(column, j), place, value);
         loop assigns i;
         loop variant literals - i; */
     for (uint32_t i = 0U; i < literals; i++) {
@@ -1164,34 +991,101 @@ static bool contradicts(const cpg_node *node, uint32_t column, uint32_t place, u
 /*@ requires cpg_is_node(node);
     terminates \true;
     assigns node->heard[0 .. CPG_VARIABLES - 1], node->sure[0 .. CPG_VARIABLES - 1];
-    ensures cpg_is_node(node); */
+    ensures cpg_is_node(node);
+    behavior table:
+      assumes d_holds(node) && d_is_kept(node);
+      assumes t_is_column(column) && !d_is_contradicted(node, column, CPG_VARIABLES, 0);
+      ensures holds: d_holds(node);
+      ensures same: d_same_executions{Pre,Post}(node);
+      ensures same: d_same_flags{Pre,Post}(node);
+      ensures d_has_numbers(node);
+      ensures cut: d_cut_all{Pre,Post}(node, column); */
 static void learn_column(cpg_node *node, uint32_t column)
 {
     uint32_t literals = byte_at(node, column + CUBE_AT);
-    /*@ loop invariant i <= literals && cpg_is_node(node);
+    /*@ loop invariant 0 <= i <= literals && cpg_is_node(node);
+        for table: loop invariant holds: d_holds(node);
+        for table: loop invariant same: d_same_executions{Pre,Here}(node);
+        for table: loop invariant same: d_same_flags{Pre,Here}(node);
+        for table: loop invariant t_is_column(column);
+        for table: loop invariant d_has_numbers(node);
+        for table: loop invariant d_cut_literals{Pre,Here}(node, column, i);
+        for table: loop invariant d_cut_no_more{Pre,Here}(node, column, i);
         loop assigns i, node->heard[0 .. CPG_VARIABLES - 1], node->sure[0 .. CPG_VARIABLES - 1];
         loop variant literals - i; */
     for (uint32_t i = 0U; i < literals; i++) {
         uint32_t literal = literal_at(column, i);
+        //@ for table: assert fresh: d_same_range{Pre,Here}(node, d_place(d_variable(d_literal(column, i))));
         learn(node, place_of(byte_at(node, literal)), range_at(node, literal));
     }
 }
 
-cpg_status cpg_hear(cpg_node *node, uint64_t time, uint16_t item, uint16_t column, uint8_t value)
+/* Hears a frame by a column of the index: its literals and, where it tells a value, that. */
+/*@ requires cpg_is_node(node);
+    requires i < node->table->dues && node->table->due[i].row < node->table->rows;
+    terminates \true;
+    assigns node->heard[0 .. CPG_VARIABLES - 1], node->sure[0 .. CPG_VARIABLES - 1], node->came[0 .. CPG_MAX_ROWS - 1];
+    ensures cpg_is_node(node);
+    behavior table:
+      assumes d_holds(node) && d_is_kept(node);
+      assumes CPG_MAX_PROCESSES <= place <= CPG_VARIABLES;
+      assumes !d_is_contradicted(node, t_at(i), place, value);
+      ensures holds: d_holds(node);
+      ensures same: d_same_executions{Pre,Post}(node);
+      ensures kept: d_is_kept(node);
+      ensures hears: d_hear_frame{Pre,Post}(node, t_at(i), place, value); */
+static void hear_due(cpg_node *node, uint32_t i, uint32_t place, uint8_t value)
 {
     cpg_range told = { value, value };
-    uint32_t place = (item >= node->broadcast) ? place_of_value((uint32_t)item - node->broadcast) : CPG_VARIABLES;
+    //@ for table: assert column: t_is_column(t_at(i));
+    //@ for table: assert free: !d_is_contradicted(node, t_at(i), CPG_VARIABLES, 0);
+    //@ for table: assert had: place < CPG_VARIABLES ==> node->heard[place].low <= value <= node->heard[place].high;
+    /*@ for table: assert had: \forall integer j; 0 <= j < d_literals(t_at(i)) && d_place(d_variable(d_literal(t_at(i), j))) == place ==>
+        d_low(d_literal(t_at(i), j)) <= value <= d_high(d_literal(t_at(i), j)); */
+    learn_column(node, node->table->due[i].at);
+    //@ for table: assert cuts: d_cut_all{Pre,Here}(node, t_at(i));
+    //@ for table: assert has: place < CPG_VARIABLES ==> node->heard[place].low <= value <= node->heard[place].high;
+    //@ for table: assert small: place < CPG_VARIABLES ==> value <= 1;
+    //@ ghost Cut: ;
+    learn(node, place, told);
+    //@ for table: assert rest: \forall integer p; 0 <= p < CPG_VARIABLES && p != place ==> d_same_range{Cut,Here}(node, p);
+    //@ for table: assert told: place < CPG_VARIABLES ==> d_know(node, place, value);
+    //@ for table: assert numbers: d_has_numbers(node);
+    //@ for table: assert hears: d_hear_frame{Pre,Here}(node, t_at(i), place, value);
+    //@ for table: assert timed: d_are_timed(node);
+    //@ ghost Learnt: ;
+    node->came[node->table->due[i].row] = true;
+    //@ for table: assert same: d_same_ranges{Learnt,Here}(node);
+    //@ for table: assert same: d_same_executions{Pre,Here}(node);
+}
+
+/*@ behavior table:
+      assumes d_holds(node) && d_is_sound(node);
+      ensures holds: d_holds(node);
+      ensures same: d_same_executions{Pre,Post}(node);
+      ensures sound: d_is_sound(node);
+      ensures order: \result == CPG_ORDER ==> time < \old(node->from) || !d_nothing_before{Pre}(node, time);
+      ensures order: \result != CPG_ORDER ==> time >= \old(node->from) && d_nothing_before{Pre}(node, time);
+      ensures frame: \result == CPG_FRAME ==> d_is_strange{Pre}(node, time, item, column, value);
+      ensures taken: \result == CPG_OK ==> (\exists integer i; d_arrives{Pre}(node, i, time, item, column)
+          && !d_is_contradicted{Pre}(node, t_at(i), d_told_place(item), value)
+          && d_hear_frame{Pre,Post}(node, t_at(i), d_told_place(item), value));
+      ensures refused: \result != CPG_OK ==> d_same_ranges{Pre,Post}(node);
+      ensures refused: \result != CPG_OK ==> d_same_flags{Pre,Post}(node);
+      ensures \result == CPG_OK || \result == CPG_FRAME || \result == CPG_ORDER; */
+cpg_status cpg_hear(cpg_node *node, uint64_t time, uint16_t item, uint16_t column, uint8_t value)
+{
+    const uint32_t place = told_place(node, item);
     uint32_t i;
     if ((time < node->from) || (cpg_next(node) < time)) {
         return CPG_ORDER;
     }
+    //@ for table: assert nothing: d_nothing_before(node, time);
     i = find_heard(node, time, item, column);
-    if ((i >= node->dues) || contradicts(node, node->due[i].at, place, value)) {
+    if ((i >= node->table->dues) || contradicts(node, node->table->due[i].at, place, value)) {
         return CPG_FRAME;
     }
-    learn_column(node, node->due[i].at);
-    learn(node, place, told);
-    node->came[node->due[i].row] = true;
+    hear_due(node, i, place, value);
     return CPG_OK;
 }
 
@@ -1199,42 +1093,65 @@ cpg_status cpg_hear(cpg_node *node, uint64_t time, uint16_t item, uint16_t colum
 /*@ requires cpg_is_open(node);
     terminates \true;
     assigns \nothing;
-    ensures \result <= node->own; */
+    ensures \result <= node->table->own;
+    behavior table:
+      assumes d_holds(node) && d_is_kept(node);
+      ensures \result <= t_own;
+      ensures \result < t_own ==> t_item(\result) == process;
+      ensures \result == t_own ==> (\forall integer row; 0 <= row < t_own ==> t_item(row) != process); */
 static uint16_t find_own(const cpg_node *node, uint16_t process)
 {
-    /*@ loop invariant row <= node->own;
+    /*@ loop invariant 0 <= row <= node->table->own;
+        for table: loop invariant \forall integer r; 0 <= r < row ==> node->table->item[r] != process;
         loop assigns row;
-        loop variant node->own - row; */
-    for (uint16_t row = 0U; row < node->own; row++) {
-        if (node->item[row] == process) {
+        loop variant node->table->own - row; */
+    for (uint16_t row = 0U; row < node->table->own; row++) {
+        if (node->table->item[row] == process) {
             return row;
         }
     }
-    return node->own;
+    return node->table->own;
 }
 
 /* Whether the execution of a process runs, and may tell this of its end. */
 /*@ requires cpg_is_open(node);
-    requires \valid_read(execution);
+    requires row < node->table->own;
     terminates \true;
-    assigns \nothing; */
-static bool may_tell(const cpg_node *node, const cpg_execution *execution, uint16_t faults, uint8_t value)
+    assigns \nothing;
+    behavior table:
+      assumes d_holds(node) && d_is_kept(node) && row < t_own;
+      ensures \result <==> d_runs_unreported(node, row) && d_may_tell(node, row, faults, value); */
+static bool may_tell(const cpg_node *node, uint16_t row, uint16_t faults, uint8_t value)
 {
-    bool runs = (execution->state == CPG_RUNNING) || (execution->state == CPG_OVERRUNNING);
-    bool lawful = (value == 0U) || ((value == 1U) && (execution->condition != NONE));
-    return runs && lawful && (faults <= node->k);
+    bool runs = (node->execution[row].state == CPG_RUNNING) || (node->execution[row].state == CPG_OVERRUNNING);
+    bool lawful = (value == 0U) || ((value == 1U) && (node->table->process[row].condition != CPG_NONE));
+    return runs && lawful && (faults <= node->table->k);
 }
 
+/*@ behavior table:
+      assumes d_holds(node) && d_is_sound(node);
+      ensures holds: d_holds(node);
+      ensures sound: d_is_sound(node);
+      ensures taken: \result == CPG_OK ==> (\exists integer row; 0 <= row < t_own && t_item(row) == process
+          && d_may_end{Pre}(node, row, time, faults, value) && \old(node->from) <= node->execution[row].until
+          && d_finished{Pre,Post}(node, row, faults, value));
+      ensures end: \result == CPG_END ==> (\forall integer row; 0 <= row < t_own && t_item(row) == process ==>
+          !d_may_end{Pre}(node, row, time, faults, value));
+      ensures order: \result == CPG_ORDER ==> (\exists integer row; 0 <= row < t_own && t_item(row) == process
+          && d_may_end{Pre}(node, row, time, faults, value)
+          && \old(node->execution[row].start) + d_time_of(row, faults) < \old(node->from));
+      ensures refused: \result != CPG_OK ==> (\forall integer row; 0 <= row < t_own ==> d_same_execution{Pre,Post}(node, row));
+      ensures \result == CPG_OK || \result == CPG_END || \result == CPG_ORDER; */
 cpg_status cpg_ended(cpg_node *node, uint64_t time, uint16_t process, uint16_t faults, uint8_t value)
 {
     uint16_t row = find_own(node, process);
     cpg_execution *execution;
     uint64_t end;
-    if ((row >= node->own) || !may_tell(node, &node->execution[row], faults, value)) {
+    if ((row >= node->table->own) || !may_tell(node, row, faults, value)) {
         return CPG_END;
     }
     execution = &node->execution[row];
-    end = end_of(node, execution, faults);
+    end = end_of(node, row, faults);
     if ((time <= execution->start) || (time > end)) {
         return CPG_END;
     }
@@ -1245,5 +1162,16 @@ cpg_status cpg_ended(cpg_node *node, uint64_t time, uint16_t process, uint16_t f
     execution->faults = (uint8_t)faults;
     execution->value = value;
     execution->state = CPG_NOTED;
+    //@ for table: assert this: d_is_timed(node, row);
+    //@ for table: assert others: \forall integer r; 0 <= r < CPG_MAX_OWN && r != row ==> d_same_execution{Pre,Here}(node, r);
+    //@ for table: assert timed: d_are_timed(node);
+    //@ for table: assert numbers: d_has_numbers(node);
+    //@ for table: assert flags: d_are_flags(node);
+    //@ for table: assert holds: d_holds(node);
+    //@ for table: assert kept: d_is_kept(node);
+    //@ for table: assert before: d_nothing_before(node, node->from - 1);
+    //@ for table: assert over: d_columns_over(node);
+    //@ for table: assert ahead: d_reports_ahead(node);
+    //@ for table: assert starts: d_starts_over(node);
     return CPG_OK;
 }

@@ -2,11 +2,16 @@
 #ifndef CPG_TABLE_H
 #define CPG_TABLE_H
 
-#include <stdint.h>
+#include "cpg_node.h"
 
-extern const char cpg_table_name[];
-extern const uint32_t cpg_table_name_length;
-extern const uint32_t cpg_table_size;
-extern const uint8_t cpg_table[];
+#ifdef __cplusplus
+extern "C" {
+#endif
+
+extern const cpg_table cpg_node_table;
+
+#ifdef __cplusplus
+}
+#endif
 
 #endif

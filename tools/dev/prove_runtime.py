@@ -1,70 +1,156 @@
-"""Shows by Frama-C that no call of the node in C (runtime/c) has undefined behaviour or runs for ever, on any bytes.
+"""Shows by Frama-C what the contracts of the node in C (runtime/c) say: that it is defined on any bytes, and what its turn part does.
 
-    tools/prove-runtime [FUNCTION ...] [--machine M] [--seconds S] [--provers N]
+    tools/prove-runtime [FUNCTION ...] [--machine M ...] [--macros default|small ...] [--by PROVER ...] [--smoke] [--seconds S] [--provers N]
+    tools/prove-runtime --wrong [FUNCTION ...] [--seconds S] [--provers N]
 
-WP runs with the checks of RTE on one function of cpg_node.c after another, by the contracts in that file. A line for each function says
-how many of its goals were proved, and a line after it names each goal that wasn't. The status is 0 if all were proved. If frama-c, why3, cvc4
-or z3 is missing, a line says so, and nothing is done.
+WP runs with the checks of RTE on one function of cpg_node.c and cpg_open.c after another: for the sizes of x86_64 and x86_32, each with the
+default macros and with those of one small table, unless some are named. A line for each function says how many of its goals were proved, and
+a line after it names each goal that wasn't. The last line has the sum. The status is 0 if all were proved. With --smoke it also looks whether
+a contract can't be met, so that all of it would be proved in vain. With --wrong
+it tries the wrong bodies of runtime/c/test/wrong.py instead, and says of each which goals of its function are left: it is refused if there is
+one. If frama-c, why3 or a prover is missing, a line says so, and nothing is done.
+
+Debian's packages: frama-c-base why3 cvc4 cvc5 z3.
 """
 import argparse
+import importlib.util
 import os
 import re
 import subprocess
 import tempfile
 import time
 from pathlib import Path
+from typing import Any
 
 from cpgc_tools import cli, program
 
-SOURCE = Path(__file__).resolve().parents[2] / "runtime" / "c" / "cpg_node.c"
-PROGRAMS = ["frama-c", "why3", "cvc4", "z3"]
+FOLDER = Path(__file__).resolve().parents[2] / "runtime" / "c"
+SOURCES = ["cpg_node.c", "cpg_open.c"]
+MACHINES = ["x86_64", "x86_32"]
+MACROS = {
+    "default": [],
+    # those of `c-table pair.pack N2 --sizes`
+    "small": ["CPG_MAX_PROCESSES=2U", "CPG_MAX_CONDITIONS=1U", "CPG_MAX_OWN=1U", "CPG_MAX_ROWS=2U", "CPG_MAX_COLUMNS=4U"]}
+# In the order in which they are tried, each with its words. With --macros-quant cvc4 puts definitions in their places.
+PROVERS = {
+    "cvc4-macros": ("cvc4", "--lang=smt2 --macros-quant", "cvc4_17"),
+    "cvc5": ("cvc5", "--lang=smt2 --force-logic=ALL", "cvc4_17"),
+    "cvc4": ("cvc4", "--lang=smt2", "cvc4_17"),
+    "z3": ("z3", "-smt2 -T:1000000", "z3_440")}
+LONGEST = 3600  # seconds of the clock for a goal, on a machine that does much else
 DEFINITION = re.compile(r"^(?:static )?\w+ (\w+)\([^;{]*\)\n\{", re.MULTILINE)
 COUNTS = re.compile(r"Proved goals:\s*(\d+) / (\d+)")
 LEFT = re.compile(r"^\[wp\] \[[^]]*\] Goal (\w+)(?! : Valid)\b", re.MULTILINE)
+BODY = r"^(?:static )?\w+ {}\([^;{{]*\)\n\{{.*?^\}}\n"
 
 
-def command(function: str, asked: argparse.Namespace) -> list[str]:
-    machine = ["-machdep", asked.machine, "-cpp-extra-args=-std=c99", "-kernel-warn-key", "annot-error=abort"]
-    provers = ["-wp-prover", "cvc4,z3", "-wp-timeout", str(asked.seconds), "-wp-par", str(asked.provers)]
-    return ["frama-c", *machine, str(SOURCE), "-wp", "-rte", *provers, "-wp-fct", function]
+def functions_of(source: str) -> list[str]:
+    return DEFINITION.findall((FOLDER / source).read_text())
 
 
-def prove(function: str, asked: argparse.Namespace) -> tuple[int, int, list[str]]:
+def configure(place: Path, seconds: int) -> None:
+    """Writes what Why3 needs to know of the provers. Their time is that of the processor."""
+    parts = [f"[main]\nmagic = 14\nmemlimit = 2000\nrunning_provers_max = 4\ntimelimit = {seconds}\n"]
+    for name, (file, words, driver) in PROVERS.items():
+        command = f"prlimit --cpu={seconds} {file} {words} %f"
+        parts.append(f'[prover]\nname = "{name}"\nversion = "1"\ncommand = "{command}"\ndriver = "{driver}"\n')
+    conf = place / "why3.conf"
+    conf.write_text("\n".join(parts))
+    os.environ["WHY3CONFIG"] = str(conf)
+
+
+def command(source: Path, function: str, machine: str, macros: str, asked: argparse.Namespace) -> list[str]:
+    flags = " ".join(["-std=c99", f"-I{FOLDER}", *(f"-D{macro}" for macro in MACROS[macros])])
+    provers = ",".join(f"{name}:1" for name in asked.by or PROVERS)
+    smoke = ["-wp-smoke-tests"] if asked.smoke else []
+    return ["frama-c", "-machdep", machine, f"-cpp-extra-args={flags}", "-kernel-warn-key", "annot-error=abort", str(source), "-wp", "-wp-rte",
+            "-wp-split", "-wp-prover", provers, "-wp-timeout", str(LONGEST), "-wp-par", str(asked.provers), *smoke, "-wp-fct", function]
+
+
+def prove(source: Path, function: str, machine: str, macros: str, asked: argparse.Namespace) -> tuple[int, int, list[str]]:
     """The goals of a function that are proved, all of them, and the names of those that aren't."""
-    done = subprocess.run(command(function, asked), capture_output=True, text=True)
+    done = subprocess.run(command(source, function, machine, macros, asked), capture_output=True, text=True)
     counts = COUNTS.search(done.stdout)
     if done.returncode != 0 or counts is None:
         cli.fail(f"frama-c failed on {function}\n{(done.stdout + done.stderr)[-2000:]}")
     return int(counts[1]), int(counts[2]), LEFT.findall(done.stdout)
 
 
+def wrong_bodies() -> Any:
+    spec = importlib.util.spec_from_file_location("wrong", FOLDER / "test" / "wrong.py")
+    assert spec and spec.loader
+    module = importlib.util.module_from_spec(spec)
+    spec.loader.exec_module(module)
+    return module.BODIES
+
+
+def spoilt(source: str, wrong: Any) -> str:
+    """The source with one wrong body."""
+    body = re.search(BODY.format(wrong.function), source, re.MULTILINE | re.DOTALL)
+    if body is None or body[0].count(wrong.old) != 1:
+        cli.fail(f"{wrong.name}: not in {wrong.function}")
+    return source[:body.start()] + body[0].replace(wrong.old, wrong.new) + source[body.end():]
+
+
+def try_wrong(place: Path, asked: argparse.Namespace) -> int:
+    """Tries each wrong body, and answers how many weren't refused."""
+    source, passed = (FOLDER / "cpg_node.c").read_text(), 0
+    for wrong in wrong_bodies():
+        if not asked.functions or wrong.function in asked.functions:
+            file = place / "cpg_node.c"
+            file.write_text(spoilt(source, wrong))
+            _, _, left = prove(file, wrong.function, asked.machine[0] if asked.machine else MACHINES[0], "default", asked)
+            passed += not left
+            print(f"{wrong.name}: {'refused by ' + wrong.function if left else 'not refused'}", *(f"  left: {goal}" for goal in left), sep="\n", flush=True)
+    print(f"{passed} wrong bodies weren't refused")
+    return passed
+
+
 def words() -> argparse.Namespace:
     parser = cli.Words(__doc__)
-    parser.add_argument("functions", nargs="*", metavar="FUNCTION", help="a function of cpg_node.c (all by default)")
-    parser.add_argument("--machine", default="x86_64", metavar="M", help="a machine model of frama-c (x86_64); x86_32 has "
-                        "the sizes of a Cortex-M")
-    parser.add_argument("--seconds", type=int, default=10, metavar="S", help="how long a prover may work on a goal (10)")
+    parser.add_argument("functions", nargs="*", metavar="FUNCTION", help="a function of cpg_node.c or cpg_open.c (all by default)")
+    parser.add_argument("--machine", action="append", metavar="M", help="a machine model of frama-c (x86_64 and x86_32, which has the "
+                        "sizes of a Cortex-M)")
+    parser.add_argument("--macros", action="append", choices=list(MACROS), help="the macros CPG_MAX_.. (both by default)")
+    parser.add_argument("--by", action="append", choices=list(PROVERS), metavar="PROVER", help=f"a prover (all by default): {', '.join(PROVERS)}")
+    parser.add_argument("--smoke", action="store_true", help="look for contracts that can't be met")
+    parser.add_argument("--wrong", action="store_true", help="try the wrong bodies of runtime/c/test/wrong.py")
+    parser.add_argument("--seconds", type=int, default=10, metavar="S", help="how much processor time a prover has for a goal (10)")
     parser.add_argument("--provers", type=int, default=1, metavar="N", help="how many provers work at a time (1)")
     return parser.parse_args()
 
 
+def prove_all(asked: argparse.Namespace, machine: str, macros: str) -> tuple[int, int]:
+    totals = (0, 0)
+    began = time.monotonic()
+    for source in SOURCES:
+        for function in functions_of(source):
+            if not asked.functions or function in asked.functions:
+                proved, all_, left = prove(FOLDER / source, function, machine, macros, asked)
+                totals = totals[0] + proved, totals[1] + all_
+                print(f"{function}: {proved} of {all_}", *(f"  left: {goal}" for goal in left), sep="\n", flush=True)
+    print(f"{machine}, {macros} macros: {totals[0]} of {totals[1]} goals proved, in {time.monotonic() - began:.0f} s", flush=True)
+    return totals
+
+
 def main() -> int:
     asked = words()
-    missing = program.missing(PROGRAMS)
+    missing = program.missing(["frama-c", "why3", *(PROVERS[name][0] for name in asked.by or PROVERS)])
     if missing:
         print(f"skipped: there is no {', '.join(missing)}")
         return 0
-    known = DEFINITION.findall(SOURCE.read_text())
+    known = [function for source in SOURCES for function in functions_of(source)]
     unknown = [function for function in asked.functions if function not in known]
     if unknown:
         cli.fail(f"no function: {unknown[0]}")
-    began, totals = time.monotonic(), [0, 0]
+    totals = [0, 0]
     with tempfile.TemporaryDirectory() as place:
-        os.environ["WHY3CONFIG"] = str(Path(place) / "why3.conf")
-        subprocess.run(["why3", "config", "detect"], capture_output=True)
-        for function in asked.functions or known:
-            proved, all_, left = prove(function, asked)
-            totals = [totals[0] + proved, totals[1] + all_]
-            print(f"{function}: {proved} of {all_}", *(f"  left: {goal}" for goal in left), sep="\n", flush=True)
-    print(f"{totals[0]} of {totals[1]} goals proved, in {time.monotonic() - began:.0f} s")
+        configure(Path(place), asked.seconds)
+        if asked.wrong:
+            return 1 if try_wrong(Path(place), asked) else 0
+        for machine in asked.machine or MACHINES:
+            for macros in asked.macros or MACROS:
+                proved, all_ = prove_all(asked, machine, macros)
+                totals = [totals[0] + proved, totals[1] + all_]
+    print(f"{totals[0]} of {totals[1]} goals proved")
     return 0 if totals[0] == totals[1] else 1

@@ -10,10 +10,10 @@
 static cpg_node node;
 static uint64_t now;
 
-bool node_open(void)
+void node_begin(void)
 {
     now = 0U;
-    return cpg_open(&node, cpg_table, cpg_table_size, cpg_table_name, cpg_table_name_length) == CPG_OK;
+    cpg_begin(&node, &cpg_node_table);
 }
 
 static void take_ends(void)
@@ -72,8 +72,7 @@ void node_tick(void)
     take_turn();
 #if NODE_CYCLE > 0U
     if (now >= NODE_CYCLE) {            /* what ends or arrives at this instant was still of the cycle that is over */
-        now = 0U;
-        cpg_begin(&node);
+        node_begin();
         take_turn();
     }
 #endif

@@ -2,11 +2,10 @@
 #ifndef NODE_H
 #define NODE_H
 
-#include <stdbool.h>
 #include <stdint.h>
 
-/* Opens the table that is linked to the program. Answers whether that is a good one. The first tick is that of time 0. */
-bool node_open(void);
+/* Begins a cycle by the table that is linked to the program. The next tick is that of time 0. */
+void node_begin(void);
 
 /* The handler of the timer interrupt, once in each time unit. */
 void node_tick(void);

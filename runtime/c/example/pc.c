@@ -16,9 +16,7 @@ void wire_write(char character)
 
 int main(void)
 {
-    if (!node_open()) {
-        return 1;
-    }
+    node_begin();
     do {
         wire_done();
         (void)fflush(stdout);

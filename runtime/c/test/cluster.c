@@ -40,6 +40,7 @@ typedef struct {
     char text[96];
 } line;
 
+static cpg_opened tables[NODES];
 static cpg_node nodes[NODES];
 static uint8_t count;
 static uint16_t faults[PROCESSES];
@@ -71,10 +72,15 @@ static void add_message(message it)
     }
 }
 
+static uint8_t number_of(const cpg_node *node)
+{
+    return (uint8_t)(node - nodes);
+}
+
 static bool hears(const cpg_node *node, uint16_t item)
 {
-    for (uint16_t row = node->acting; row < node->rows; row++) {
-        if (node->item[row] == item) {
+    for (uint16_t row = node->table->acting; row < node->table->rows; row++) {
+        if (node->table->item[row] == item) {
             return true;
         }
     }
@@ -83,37 +89,38 @@ static bool hears(const cpg_node *node, uint16_t item)
 
 static void start(const cpg_node *node, uint64_t time, uint16_t process)
 {
-    const cpg_execution *execution = node->execution;
+    const cpg_table *table = node->table;
+    uint16_t row = 0U;
     char text[96];
-    while (execution->state == CPG_IDLE || node->item[execution - node->execution] != process) {
-        execution++;
+    while (table->item[row] != process) {
+        row++;
     }
-    bool decides = execution->condition != 255U;
+    bool decides = table->process[row].condition != CPG_NONE;
     uint16_t struck = plain ? 0U : faults[process];
     uint8_t says = (plain || !decides) ? 0U : value[process];
-    uint64_t planned = host_number(node->pack + execution->durations + (8U * struck), 8U);
+    uint64_t planned = host_number(table->pack + table->process[row].durations + (8U * struck), 8U);
     uint64_t real = (plain || (length[process] == 0U)) ? planned : length[process];
-    add_line(time, node->self, START_LINE, process, host_item(node, process));
+    add_line(time, number_of(node), START_LINE, process, host_item(process));
     if (!plain && hangs[process]) {
         return;
     }
-    add_message((message){ time + real, true, node->self, process, struck, says });
-    int size = snprintf(text, sizeof text, "end %s faults %d", host_process_name(node, process), struck);
+    add_message((message){ time + real, true, number_of(node), process, struck, says });
+    int size = snprintf(text, sizeof text, "end %s faults %d", host_process_name(process), struck);
     if (decides) {
         size += snprintf(text + size, sizeof text - (size_t)size, " value %s", (says == 1U) ? "true" : "false");
     }
     if (real < planned) {
         (void)snprintf(text + size, sizeof text - (size_t)size, " ran %" PRIu64, real);
     }
-    add_line(time + planned, node->self, END_LINE, process, text);
+    add_line(time + planned, number_of(node), END_LINE, process, text);
 }
 
 static void carry(const cpg_node *node, const cpg_event *event)
 {
-    add_line(event->time, node->self, SEND_LINE, event->item, host_item(node, event->item));
+    add_line(event->time, number_of(node), SEND_LINE, event->item, host_item(event->item));
     for (uint8_t i = 0U; i < count; i++) {
         if (hears(&nodes[i], event->item) && (plain || !lost[event->item])) {
-            add_message((message){ event->time + slot[node->self], false, i, event->item, event->column, event->value });
+            add_message((message){ event->time + slot[number_of(node)], false, i, event->item, event->column, event->value });
         }
     }
 }
@@ -129,8 +136,8 @@ static void take_turns(cpg_node *node, uint64_t now)
             carry(node, &event);
         } else {
             const char *what = (event.kind == CPG_OVERRUN) ? "overrun" : "missing";
-            (void)snprintf(text, sizeof text, "%s %s", what, host_item(node, event.item));
-            add_line(event.time, node->self, WATCH_LINE, event.item, text);
+            (void)snprintf(text, sizeof text, "%s %s", what, host_item(event.item));
+            add_line(event.time, number_of(node), WATCH_LINE, event.item, text);
         }
     }
 }
@@ -147,7 +154,7 @@ static void deliver(uint64_t now)
             cpg_status status = it.ends ? cpg_ended(&nodes[it.to], now, it.item, it.number, it.value)
                                         : cpg_hear(&nodes[it.to], now, it.item, it.number, it.value);
             if (status != CPG_OK) {
-                (void)fprintf(stderr, "status %d at %" PRIu64 " on %s\n", (int)status, now, host_node_name(&nodes[0], it.to));
+                (void)fprintf(stderr, "status %d at %" PRIu64 " on %s\n", (int)status, now, host_node_name(it.to));
             }
         }
     }
@@ -172,7 +179,7 @@ static void run_cycle(void)
     queued = 0U;
     told = 0U;
     for (uint8_t i = 0U; i < count; i++) {
-        cpg_begin(&nodes[i]);
+        cpg_begin(&nodes[i], &tables[i].table);
     }
     for (uint64_t now = next_instant(); now != CPG_NEVER; now = next_instant()) {
         deliver(now);
@@ -199,11 +206,11 @@ static int by_place(const void *one, const void *other)
 static uint32_t process_of(const char *name, size_t size)
 {
     uint32_t process = 0U;
-    while ((process < nodes[0].processes) && ((strlen(host_process_name(&nodes[0], process)) != size)
-                                              || (strncmp(host_process_name(&nodes[0], process), name, size) != 0))) {
+    while ((process < tables[0].table.processes) && ((strlen(host_process_name(process)) != size)
+                                              || (strncmp(host_process_name(process), name, size) != 0))) {
         process++;
     }
-    if (process >= nodes[0].processes) {
+    if (process >= tables[0].table.processes) {
         (void)fprintf(stderr, "no such process: %s\n", name);
         exit(1);
     }
@@ -224,7 +231,7 @@ static void read_word(const char *word)
     switch (word[0]) {
     case 's':
         for (uint8_t i = 0U; i < count; i++) {
-            if ((strlen(host_node_name(&nodes[0], i)) == size) && (strncmp(host_node_name(&nodes[0], i), name, size) == 0)) {
+            if ((strlen(host_node_name(i)) == size) && (strncmp(host_node_name(i), name, size) == 0)) {
                 slot[i] = number;
             }
         }
@@ -267,7 +274,7 @@ int main(int words, char **word)
         memcpy(name, at + 1, at[0]);
         name[at[0]] = '\0';
         at += 1 + at[0];
-        host_open(&nodes[i], pack, size, name);
+        host_open(&tables[i], pack, size, name);
     }
     for (int i = 2; i < words; i++) {
         read_word(word[i]);
@@ -278,7 +285,7 @@ int main(int words, char **word)
     run_cycle();
     qsort(lines, told, sizeof lines[0], by_place);
     for (uint32_t i = 0U; i < told; i++) {
-        (void)printf("%" PRIu64 " %s %s\n", lines[i].time, host_node_name(&nodes[0], lines[i].node), lines[i].text);
+        (void)printf("%" PRIu64 " %s %s\n", lines[i].time, host_node_name(lines[i].node), lines[i].text);
         finish = (lines[i].kind == END_LINE) ? lines[i].time : finish;
     }
     (void)printf("finish %" PRIu64 "\n", finish);

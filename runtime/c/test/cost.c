@@ -16,7 +16,7 @@
 #define RECORD 14U
 #define MEASURED 1000U                  /* instructions that are taken as a measure */
 
-enum { OPEN, BEGIN, POLL, HEAR, ENDED, NEXT, INSTANT, COUNTS };
+enum { BEGIN, POLL, HEAR, ENDED, NEXT, INSTANT, COUNTS };
 
 extern const uint8_t cost_stream[];
 extern const uint32_t cost_records;
@@ -160,7 +160,7 @@ static void write(const char *name, uint32_t number)
 
 int main(void)
 {
-    static const char *const names[COUNTS] = { "cpg_open", "cpg_begin", "cpg_poll", "cpg_hear", "cpg_ended", "cpg_next", "instant" };
+    static const char *const names[COUNTS] = { "cpg_begin", "cpg_poll", "cpg_hear", "cpg_ended", "cpg_next", "instant" };
     uint32_t unit;
     SYSTICK_RELOAD = SYSTICK_MOST;
     SYSTICK_VALUE = 0U;
@@ -168,10 +168,7 @@ int main(void)
     measure();
     unit = ticks_of_measured();
     begin();
-    (void)cpg_open(&node, cpg_table, cpg_table_size, cpg_table_name, cpg_table_name_length);
-    end(OPEN);
-    begin();
-    cpg_begin(&node);
+    cpg_begin(&node, &cpg_node_table);
     end(BEGIN);
     begin();
     (void)cpg_next(&node);

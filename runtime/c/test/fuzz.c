@@ -9,6 +9,7 @@
 
 #define CALLS 100U
 
+static cpg_opened table;
 static cpg_node node;
 static cpg_event event;
 static uint64_t state;
@@ -52,7 +53,7 @@ static void call(void)
     switch (draw(8U)) {
     case 0U:
         if (draw(10U) == 0U) {
-            cpg_begin(&node);
+            cpg_begin(&node, &table.table);
         }
         break;
     case 1U:
@@ -102,7 +103,8 @@ static void round_of(const uint8_t *pack, uint32_t size)
         spoil(bytes, cut, 1U);
     }
     const char *name = any_name(pack, size);
-    opened += (cpg_open(&node, bytes, cut, name, (uint32_t)strlen(name)) == CPG_OK) ? 1U : 0U;
+    opened += (cpg_open(&table, bytes, cut, name, (uint32_t)strlen(name)) == CPG_OK) ? 1U : 0U;
+    cpg_begin(&node, &table.table);
     if (draw(2U) == 0U) {
         spoil(bytes, cut, draw(50U));
     }

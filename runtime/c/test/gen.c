@@ -17,6 +17,7 @@ typedef struct {
     uint8_t value;
 } record;
 
+static cpg_opened opened;
 static cpg_node node;
 static uint64_t state;
 static uint8_t out[1U << 18];
@@ -51,7 +52,7 @@ static void put_record(record it)
 
 static uint64_t due_time(uint32_t i)
 {
-    return host_number(node.pack + node.due[i].at, 8U);
+    return host_number(opened.table.pack + opened.table.due[i].at, 8U);
 }
 
 /* How the execution of a row goes on: when its end is told, where it is. */
@@ -66,14 +67,13 @@ static plan planned[CPG_MAX_OWN];
 static void plan_end(uint16_t process, uint64_t time)
 {
     uint16_t row = 0U;
-    while (node.item[row] != process) {
+    while (opened.table.item[row] != process) {
         row++;
     }
-    const cpg_execution *execution = &node.execution[row];
-    uint16_t faults = (uint16_t)draw((uint64_t)node.k + 1U);
-    uint64_t duration = host_number(node.pack + execution->durations + (8U * faults), 8U);
+    uint16_t faults = (uint16_t)draw((uint64_t)opened.table.k + 1U);
+    uint64_t duration = host_number(opened.table.pack + opened.table.process[row].durations + (8U * faults), 8U);
     uint64_t real = (draw(3U) > 0U) ? duration : (1U + draw(duration));
-    uint8_t value = (uint8_t)((execution->condition != 255U) ? draw(2U) : 0U);
+    uint8_t value = (uint8_t)((opened.table.process[row].condition != CPG_NONE) ? draw(2U) : 0U);
     planned[row].end = (record){ time + real, END, process, faults, value };
     planned[row].awaited = (duration > 0U) && (draw(12U) > 0U);
 }
@@ -93,7 +93,7 @@ static void take_turns(uint64_t until)
 static uint64_t next_instant(void)
 {
     uint64_t next = cpg_next(&node);
-    for (uint16_t row = 0U; row < node.own; row++) {
+    for (uint16_t row = 0U; row < opened.table.own; row++) {
         if (planned[row].awaited && (planned[row].end.time < next)) {
             next = planned[row].end.time;
         }
@@ -113,22 +113,22 @@ static void tell(record it, uint64_t wild)
 
 static uint8_t any_value(uint16_t item)
 {
-    return (uint8_t)((item >= node.broadcast) ? draw(2U) : 0U);
+    return (uint8_t)((item >= opened.table.broadcast) ? draw(2U) : 0U);
 }
 
 /* Tells the ends of an instant, and some of the frames that may arrive then, one of them maybe twice. */
 static void tell_instant(uint64_t now, uint64_t wild)
 {
-    for (uint16_t row = 0U; row < node.own; row++) {
+    for (uint16_t row = 0U; row < opened.table.own; row++) {
         if (planned[row].awaited && (planned[row].end.time == now)) {
             planned[row].awaited = false;
             tell(planned[row].end, wild);
         }
     }
-    for (uint32_t i = node.next; (i < node.dues) && (due_time(i) == now); i++) {
-        uint16_t item = node.item[node.due[i].row];
-        if ((node.due[i].row >= node.acting) && (draw(4U) > 0U)) {
-            record it = { now, FRAME, item, node.due[i].column, any_value(item) };
+    for (uint32_t i = node.next; (i < opened.table.dues) && (due_time(i) == now); i++) {
+        uint16_t item = opened.table.item[opened.table.due[i].row];
+        if ((opened.table.due[i].row >= opened.table.acting) && (draw(4U) > 0U)) {
+            record it = { now, FRAME, item, opened.table.due[i].column, any_value(item) };
             tell(it, wild);
             if (draw(20U) == 0U) {
                 tell(it, wild);
@@ -140,8 +140,8 @@ static void tell_instant(uint64_t now, uint64_t wild)
 /* Tells something that is mostly lawless. */
 static void tell_anything(uint64_t now, uint64_t wild)
 {
-    if (node.rows > 0U) {
-        uint16_t item = node.item[draw(node.rows)];
+    if (opened.table.rows > 0U) {
+        uint16_t item = opened.table.item[draw(opened.table.rows)];
         uint32_t kind = (uint32_t)draw(2U);
         tell((record){ now + draw(3U), kind, item, (uint16_t)draw(4U), any_value(item) }, wild);
     }
@@ -208,7 +208,8 @@ int main(int count, char **words)
     const uint8_t *pack = host_file(words[1], &length);
     uint64_t wild = strtoull(words[4], NULL, 10);
     state = (strtoull(words[3], NULL, 10) * 7919U) + 1U;
-    host_open(&node, pack, length, words[2]);
+    host_open(&opened, pack, length, words[2]);
+    cpg_begin(&node, &opened.table);
     uint64_t now = records(wild);
     put_record((record){ now + ((draw(2U) > 0U) ? draw(200U) : 0U), CLOSE, 0U, 0U, 0U });
     if (draw(100U) < wild) {

@@ -1,9 +1,9 @@
-/* live PACK NAME STREAM [--watch]: does what `cpgc live` does, by cpg_node; with --watch it writes what the watch tells too. */
+/* live PACK NAME STREAM [TABLE]: does what `cpgc live` does, by cpg_node: with the table that it makes of the pack, or with that of
+ * tools/c-table, which is the shared object TABLE. */
 #include "host.h"
 
 #include <inttypes.h>
 #include <stdio.h>
-#include <string.h>
 
 enum { FRAME, END, CLOSE };
 #define RECORD 14U
@@ -16,8 +16,8 @@ typedef struct {
     uint8_t value;
 } record;
 
+static cpg_opened opened;
 static cpg_node node;
-static bool watched;
 
 static record read_record(const uint8_t *bytes)
 {
@@ -36,10 +36,7 @@ static void take_turns(uint64_t until)
     cpg_event event;
     while (cpg_poll(&node, until, &event)) {
         if ((event.kind == CPG_START) || (event.kind == CPG_SEND)) {
-            (void)printf("%" PRIu64 " %s\n", event.time, host_item(&node, event.item));
-        } else if (watched) {
-            (void)printf("%" PRIu64 " %s %s\n", event.time, (event.kind == CPG_OVERRUN) ? "overrun" : "missing",
-                         host_item(&node, event.item));
+            (void)printf("%" PRIu64 " %s\n", event.time, host_item(event.item));
         } else {
             /* cpgc has no watch */
         }
@@ -50,7 +47,7 @@ static bool is_unkind(record it)
 {
     bool tells = (it.item != 0U) || (it.number != 0U) || (it.value != 0U);
     return (it.kind > CLOSE) || (it.value > 1U) || ((it.kind == CLOSE) && tells)
-        || ((it.kind == FRAME) && (it.value == 1U) && (it.item < node.broadcast));
+        || ((it.kind == FRAME) && (it.value == 1U) && (it.item < node.table->broadcast));
 }
 
 static int refuse(uint32_t number, const char *why)
@@ -100,12 +97,12 @@ int main(int count, char **words)
     uint32_t size;
     uint32_t length;
     if (count < 4) {
-        (void)fprintf(stderr, "live PACK NAME STREAM [--watch]\n");
+        (void)fprintf(stderr, "live PACK NAME STREAM [TABLE]\n");
         return 1;
     }
-    watched = (count > 4) && (strcmp(words[4], "--watch") == 0);
     const uint8_t *pack = host_file(words[1], &size);
-    host_open(&node, pack, size, words[2]);
+    host_open(&opened, pack, size, words[2]);
+    cpg_begin(&node, (count > 4) ? host_table(words[4], &opened) : &opened.table);
     const uint8_t *stream = host_file(words[3], &length);
     return run(stream, length);
 }

@@ -5,7 +5,7 @@
 #include <stdio.h>
 #include <string.h>
 
-static cpg_node node;
+static cpg_opened opened;
 
 static void tell(cpg_status status)
 {
@@ -14,7 +14,7 @@ static void tell(cpg_status status)
         (void)printf("ok\n");
         break;
     case CPG_PACK:
-        (void)printf("refused 10 pack %" PRIu32 "\n", node.bad);
+        (void)printf("refused 10 pack %" PRIu32 "\n", opened.bad);
         break;
     case CPG_LONG:
         (void)printf("refused 16 long pack\n");
@@ -23,7 +23,7 @@ static void tell(cpg_status status)
         (void)printf("refused 19 node\n");
         break;
     default:
-        (void)printf("full at %" PRIu32 "\n", node.bad);
+        (void)printf("full at %" PRIu32 "\n", opened.bad);
         break;
     }
 }
@@ -37,7 +37,7 @@ int main(int count, char **words)
     for (int i = 2; i < count; i++) {
         uint32_t size;
         const uint8_t *pack = host_file(words[i], &size);
-        tell(cpg_open(&node, pack, size, words[1], (uint32_t)strlen(words[1])));
+        tell(cpg_open(&opened, pack, size, words[1], (uint32_t)strlen(words[1])));
     }
     return 0;
 }

@@ -5,6 +5,7 @@
 #include <stdio.h>
 #include <string.h>
 
+static cpg_opened opened;
 static cpg_node node;
 static cpg_event event;
 static int done;
@@ -29,7 +30,8 @@ static bool is_event(cpg_kind kind, uint64_t time, uint16_t item, uint16_t colum
 /* N2 of the pair: B waits for column 0 of e0 at 50, or column 1 at 90. Items: 0 A, 1 B, 2 e0. */
 static void receiver(const uint8_t *pack, uint32_t size)
 {
-    CHECK(cpg_open(&node, pack, size, "N2", 2U) == CPG_OK);
+    CHECK(cpg_open(&opened, pack, size, "N2", 2U) == CPG_OK);
+    cpg_begin(&node, &opened.table);
     CHECK(cpg_next(&node) == 50U);
     CHECK(cpg_hear(&node, 90U, 2U, 1U, 0U) == CPG_ORDER);               /* the turn at 50 is still to be taken */
     CHECK(!cpg_poll(&node, 49U, &event));
@@ -54,14 +56,14 @@ static void receiver(const uint8_t *pack, uint32_t size)
     CHECK(cpg_next(&node) == 65U);
     CHECK(!cpg_poll(&node, UINT64_MAX, &event));
     CHECK(cpg_next(&node) == CPG_NEVER);
-    cpg_begin(&node);
+    cpg_begin(&node, &opened.table);
     CHECK(cpg_next(&node) == 50U);
     CHECK(!cpg_poll(&node, 89U, &event));
     CHECK(cpg_hear(&node, 90U, 2U, 1U, 0U) == CPG_OK);
     CHECK(cpg_poll(&node, 1000U, &event) && is_event(CPG_START, 90U, 1U, 1U));
     CHECK(cpg_poll(&node, 1000U, &event) && is_event(CPG_OVERRUN, 122U, 1U, 0U));
     CHECK(!cpg_poll(&node, 1000U, &event));
-    cpg_begin(&node);
+    cpg_begin(&node, &opened.table);
     CHECK(cpg_poll(&node, 1000U, &event) && is_event(CPG_MISSING, 90U, 2U, 1U));
     CHECK(!cpg_poll(&node, 1000U, &event));
 }
@@ -69,21 +71,22 @@ static void receiver(const uint8_t *pack, uint32_t size)
 /* N1 of the pair: A starts at 0. An end that is told after the turn of its planned end is too late. */
 static void sender(const uint8_t *pack, uint32_t size)
 {
-    CHECK(cpg_open(&node, pack, size, "N1", 2U) == CPG_OK);
+    CHECK(cpg_open(&opened, pack, size, "N1", 2U) == CPG_OK);
+    cpg_begin(&node, &opened.table);
     CHECK(cpg_poll(&node, 0U, &event) && is_event(CPG_START, 0U, 0U, 0U));
     CHECK(!cpg_poll(&node, 39U, &event));
     CHECK(cpg_ended(&node, 30U, 0U, 0U, 0U) == CPG_OK);
     CHECK(cpg_poll(&node, 100U, &event) && is_event(CPG_SEND, 40U, 2U, 0U));
     CHECK(!cpg_poll(&node, 100U, &event));
-    cpg_begin(&node);
+    cpg_begin(&node, &opened.table);
     CHECK(cpg_poll(&node, 0U, &event));
     CHECK(!cpg_poll(&node, 50U, &event));
     CHECK(cpg_ended(&node, 30U, 0U, 0U, 0U) == CPG_ORDER);
     CHECK(cpg_ended(&node, 30U, 0U, 1U, 0U) == CPG_OK);
     CHECK(cpg_poll(&node, 100U, &event) && is_event(CPG_SEND, 80U, 2U, 1U));
-    cpg_begin(&node);
+    cpg_begin(&node, &opened.table);
     CHECK(cpg_poll(&node, 0U, &event));
-    cpg_begin(&node);                                                   /* a cycle that is broken off leaves nothing */
+    cpg_begin(&node, &opened.table);                                                   /* a cycle that is broken off leaves nothing */
     CHECK(cpg_next(&node) == 0U);
     CHECK(cpg_ended(&node, 30U, 0U, 0U, 0U) == CPG_END);
 }
@@ -91,7 +94,8 @@ static void sender(const uint8_t *pack, uint32_t size)
 /* N2 of branching hears the value of A at 50, in an `always` column, and e0 at 70 where it is true. Items: 4 e0, 8 the value. */
 static void values(const uint8_t *pack, uint32_t size)
 {
-    CHECK(cpg_open(&node, pack, size, "N2", 2U) == CPG_OK);
+    CHECK(cpg_open(&opened, pack, size, "N2", 2U) == CPG_OK);
+    cpg_begin(&node, &opened.table);
     CHECK(cpg_hear(&node, 50U, 8U, 0U, 2U) == CPG_FRAME);               /* no value */
     CHECK(cpg_hear(&node, 50U, 8U, 0U, 0U) == CPG_OK);
     CHECK(cpg_hear(&node, 50U, 8U, 0U, 1U) == CPG_FRAME);               /* it has been told as false */
@@ -99,9 +103,9 @@ static void values(const uint8_t *pack, uint32_t size)
     CHECK(cpg_hear(&node, 70U, 4U, 0U, 0U) == CPG_FRAME);               /* sent where it is true */
     CHECK(cpg_hear(&node, 70U, 7U, 0U, 0U) == CPG_OK);
     CHECK(cpg_poll(&node, 70U, &event) && is_event(CPG_START, 70U, 3U, 0U));
-    cpg_begin(&node);
+    cpg_begin(&node, &opened.table);
     CHECK(cpg_poll(&node, 69U, &event) && is_event(CPG_MISSING, 50U, 8U, 0U));
-    cpg_begin(&node);
+    cpg_begin(&node, &opened.table);
     CHECK(cpg_hear(&node, 50U, 8U, 0U, 1U) == CPG_OK);
     CHECK(cpg_poll(&node, 70U, &event) && is_event(CPG_MISSING, 70U, 4U, 0U));
     CHECK(cpg_poll(&node, 70U, &event) && is_event(CPG_START, 70U, 1U, 0U));    /* the table asks for no message, but for a time */
@@ -110,14 +114,15 @@ static void values(const uint8_t *pack, uint32_t size)
 /* A node whose pack was refused does nothing. */
 static void refused(const uint8_t *pack, uint32_t size)
 {
-    CHECK(cpg_open(&node, pack, size - 1U, "N2", 2U) == CPG_PACK);
-    CHECK(node.bad == (size - 1U));
-    CHECK(cpg_open(&node, pack, 0U, "N2", 2U) == CPG_PACK);
-    CHECK(node.bad == 0U);
-    CHECK(cpg_open(&node, pack, CPG_MAX_SIZE + 1U, "N2", 2U) == CPG_LONG);
-    CHECK(cpg_open(&node, pack, size, "N2", 1U) == CPG_NODE);
-    CHECK(cpg_open(&node, pack, size, "", 0U) == CPG_NODE);
-    CHECK(cpg_open(&node, pack, size, "a name that is longer than thirty-two bytes", 43U) == CPG_NODE);
+    CHECK(cpg_open(&opened, pack, size - 1U, "N2", 2U) == CPG_PACK);
+    CHECK(opened.bad == (size - 1U));
+    CHECK(cpg_open(&opened, pack, 0U, "N2", 2U) == CPG_PACK);
+    CHECK(opened.bad == 0U);
+    CHECK(cpg_open(&opened, pack, CPG_MAX_SIZE + 1U, "N2", 2U) == CPG_LONG);
+    CHECK(cpg_open(&opened, pack, size, "N2", 1U) == CPG_NODE);
+    CHECK(cpg_open(&opened, pack, size, "", 0U) == CPG_NODE);
+    CHECK(cpg_open(&opened, pack, size, "a name that is longer than thirty-two bytes", 43U) == CPG_NODE);
+    cpg_begin(&node, &opened.table);
     CHECK(cpg_next(&node) == CPG_NEVER);
     CHECK(!cpg_poll(&node, UINT64_MAX, &event));
     CHECK(cpg_hear(&node, 50U, 2U, 0U, 0U) != CPG_OK);

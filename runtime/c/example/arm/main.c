@@ -18,7 +18,6 @@
 #define CYCLES_OF_A_UNIT 6000U          /* half a millisecond at 12 MHz: the time unit of the graph, here */
 #define SEMIHOSTING_EXIT 0x18U
 #define SEMIHOSTING_GOOD 0x20026U
-#define SEMIHOSTING_ERROR 0x20023U
 
 void board_exit(uint32_t reason);
 void systick_handler(void);
@@ -61,9 +60,7 @@ int main(void)
 {
     UART_LINE = 0x70U;                  /* 8 bits, with queues */
     UART_CONTROL = 0x301U;
-    if (!node_open()) {
-        board_exit(SEMIHOSTING_ERROR);
-    }
+    node_begin();
     wire_done();
     SYSTICK_RELOAD = CYCLES_OF_A_UNIT - 1U;
     SYSTICK_VALUE = 0U;
