@@ -1,13 +1,14 @@
 """How many instructions the node of runtime/c takes for a table: a bound by counts of its loops.
 
     cost = Cost(tables, node)
-    cost.open(), cost.begin(), cost.poll(), cost.hear(), cost.ended(), cost.next        # of a call at an instant, whatever was heard
+    cost.begin(), cost.poll(), cost.hear(), cost.ended(), cost.next                     # of a call at an instant, whatever was heard
     cost.instant(90)                                                                    # of all calls of one instant
     cost.executions()                                                                   # of each own process the turns that fall into it
 
 Each function is counted with all its instructions, and once more with those of its loop for each pass: so a way that leaves some of them out is
 counted as if it took them. The counts are those of a Cortex-M3 by arm-none-eabi-gcc 12, -Os -fno-inline; with -Os alone there are fewer.
-For another processor or compiler measure one call, and take the bound in proportion. tools/test-runtime --arm compares what an emulator counts.
+For another processor or compiler measure one call, and take the bound in proportion. tools/test-runtime --arm compares what an emulator counts, and
+the counts of functions.
 """
 from __future__ import annotations
 
@@ -21,22 +22,15 @@ from cpgc_tools.pack import Pack, Row, asked
 
 # of each function of cpg_node.c its instructions, and at most how many of them are in a pass of its loop
 WHOLE = {
-    "byte_at": 7, "time_at": 18, "stop_full": 5, "read_byte": 21, "read_number": 35, "is_name_byte": 17, "read_name": 25, "is_name": 22, "read_nodes": 33,
-    "add_condition": 15, "add_execution": 18, "read_own_deadline": 25, "read_process": 73, "read_processes": 29, "read_edges": 37, "read_head": 40,
-    "node_of": 6, "has_row": 55, "size_of_group": 14, "first_item": 10, "add_row": 14, "add_due": 19, "variables_above": 7, "is_variable": 18,
-    "read_literal": 49, "read_column": 31, "read_row": 42, "read_group": 33, "read_rows": 29, "is_start": 5, "is_heard": 5, "rank_of": 11,
-    "comes_before": 39, "sink": 55, "sort_dues": 32, "shut": 17, "read_pack": 39, "cpg_open": 24, "cpg_begin": 49, "place_of": 4, "place_of_value": 5,
-    "literal_at": 4, "range_at": 12, "common": 16, "is_empty": 9, "is_within": 17, "follows": 37, "learn": 27, "know": 9, "due_time": 9, "is_awaited": 5,
-    "cpg_next": 25, "tell_ends": 41, "tell": 9, "tell_overrun": 34, "rule_out": 29, "had_to_come": 58, "end_of": 8, "start": 20, "value_of": 16,
-    "take_due": 70, "take_turn": 44, "cpg_poll": 35, "find_heard": 40, "contradicts": 65, "learn_column": 28, "cpg_hear": 66, "find_own": 14,
-    "may_tell": 18, "cpg_ended": 59,
+    "byte_at": 7, "time_at": 18, "is_start": 6, "is_heard": 6, "cpg_begin": 46, "place_of": 4, "place_of_value": 5, "literal_at": 4, "range_at": 12,
+    "common": 16, "is_empty": 9, "is_within": 17, "follows": 37, "learn": 25, "know": 8, "due_time": 10, "is_awaited": 5, "cpg_next": 25,
+    "tell_ends": 40, "tell": 9, "tell_overrun": 34, "rule_out": 28, "had_to_come": 58, "end_of": 13, "start": 16, "value_of": 15, "take_due": 70,
+    "take_turn": 42, "cpg_poll": 34, "find_heard": 40, "contradicts": 63, "learn_column": 30, "cpg_hear": 63, "find_own": 15, "may_tell": 24,
+    "cpg_ended": 49,
 }
-PASS = {
-    "time_at": 11, "read_number": 28, "read_name": 17, "is_name": 10, "read_nodes": 22, "read_own_deadline": 10, "read_process": 11,
-    "read_processes": 10, "read_edges": 16, "read_head": 8, "read_column": 10, "read_row": 16, "read_group": 24, "sort_dues": 25, "cpg_begin": 17,
-    "cpg_next": 15, "learn_column": 21, "find_own": 9}
+PASS = {"time_at": 11, "cpg_begin": 17, "cpg_next": 15, "learn_column": 21, "find_own": 10}
 MEMSET = 40, 4  # of the library: at most so many, and so many for each byte
-TIME_BYTES, GROUPS = 8, 5
+TIME_BYTES = 8
 VARIABLES = "CPG_MAX_PROCESSES", "CPG_MAX_CONDITIONS"
 
 
@@ -47,18 +41,8 @@ def of(name: str, passes: int = 0) -> int:
 
 BYTE = of("byte_at")
 TIME = of("time_at", TIME_BYTES) + TIME_BYTES * BYTE
-READ_BYTE = of("read_byte") + BYTE
 LITERAL = of("literal_at") + BYTE + of("place_of") + of("range_at") + 2 * BYTE  # where it stands, and what it says
 LEARN = of("learn") + 2 * of("common") + of("is_empty")
-BEFORE = of("comes_before") + 2 * (TIME + of("rank_of") + of("is_heard") + of("is_start"))
-
-
-def read_number(size: int) -> int:
-    return of("read_number", size) + size * READ_BYTE
-
-
-def read_name(length: int) -> int:
-    return of("read_name", length) + READ_BYTE + length * (BYTE + of("is_name_byte") + READ_BYTE)
 
 
 def follows(literals: int) -> int:
@@ -67,12 +51,6 @@ def follows(literals: int) -> int:
 
 def had_to_come(literals: int) -> int:
     return of("had_to_come", literals) + BYTE + literals * (LITERAL + of("is_within")) + LITERAL + of("rule_out")
-
-
-def sink(place: int, size: int) -> int:
-    """From a place of a heap of so many: two comparisons for each level below it."""
-    levels = max((size // (place + 1)).bit_length() - 1, 0)
-    return of("sink", levels) + 2 * levels * BEFORE
 
 
 class Execution(NamedTuple):
@@ -94,47 +72,12 @@ class Cost:
                 self.columns.setdefault(time, []).append((row, len(cube) // 3))
         self.times = sorted(self.columns)
 
-    # Opening.
-
-    def head(self) -> int:
-        it, k = self.tables, self.tables.faults
-        processes = 0
-        for process in it.processes:
-            processes += of("read_process", k + 1) + read_name(len(process.name)) + 2 * READ_BYTE + (k + 1) * read_number(TIME_BYTES)
-            processes += of("add_condition") + of("add_execution") + 2 * of("stop_full")
-            if it.version == 2:
-                processes += read_number(TIME_BYTES) + of("read_own_deadline", TIME_BYTES) + BYTE + max(read_number(TIME_BYTES), TIME_BYTES * READ_BYTE)
-        nodes = sum(read_name(len(name)) + of("is_name", len(name)) + (len(name) + 1) * BYTE for name in it.nodes)
-        return (of("read_head", 4) + 6 * READ_BYTE + of("read_nodes", len(it.nodes)) + READ_BYTE + nodes
-                + of("read_processes", len(it.processes)) + READ_BYTE + of("stop_full") + processes
-                + of("read_edges", len(it.edges)) + read_number(2) + 2 * len(it.edges) * READ_BYTE)
-
-    def table(self) -> int:
-        """Reading all rows: those of other nodes are empty."""
-        it = self.tables
-        literal = of("read_literal") + BYTE + of("is_variable") + of("variables_above") + 3 * READ_BYTE
-        has_row = of("has_row") + 2 * (BYTE + of("node_of")) + of("first_item")
-        groups = GROUPS * (of("read_group") + of("size_of_group"))
-        members = len(it.processes) + 2 * len(it.edges) + 2 * len(it.deciding)
-        found = of("read_rows", (GROUPS + 1) * len(it.nodes)) + len(it.nodes) * (groups + members * (PASS["read_group"] + has_row))
-        found += sum(len(rows) for rows in it.rows) * (of("read_row") + read_number(2) + of("add_row") + of("stop_full"))
-        for literals in (literals for columns in self.columns.values() for _, literals in columns):
-            found += PASS["read_row"] + of("add_due") + of("stop_full") + of("read_column", literals) + read_number(TIME_BYTES) + READ_BYTE + literals * literal
-        return found
-
-    def sort(self) -> int:
-        count = sum(map(len, self.columns.values()))
-        return of("sort_dues", count // 2 + count) + sum(sink(place, count) for place in range(count // 2)) + sum(sink(0, size) for size in range(1, count))
-
-    def open(self) -> int:
-        return of("cpg_open") + 2 * of("shut") + of("read_pack") + self.head() + self.table() + self.sort() + self.begin()
+    # Calls.
 
     def begin(self) -> int:
         """With the macros that --sizes writes."""
         macros = sizes(self.tables, self.node)
         return of("cpg_begin", sum(macros[it] for it in VARIABLES) + self.own) + MEMSET[0] + MEMSET[1] * len(self.rows)
-
-    # Calls.
 
     @functools.cached_property
     def next(self) -> int:
@@ -193,7 +136,7 @@ class Cost:
         return self.ended() + heard * self.one_hear(time) + self.polls(time)
 
     def calls(self) -> dict[str, int]:
-        found = {"open": self.open(), "begin": self.begin(), "poll": self.poll(), "hear": self.hear(), "ended": self.ended(), "next": self.next}
+        found = {"begin": self.begin(), "poll": self.poll(), "hear": self.hear(), "ended": self.ended(), "next": self.next}
         return {f"cpg_{name}": most for name, most in found.items()}
 
     # Executions.

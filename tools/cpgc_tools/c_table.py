@@ -4,12 +4,14 @@
     cc $(c-table PACK NODE --sizes) -I runtime/c -c runtime/c/cpg_node.c table.c
     c-table PACK NODE --header GRAPH > table_names.h
     c-table PACK NODE --cost
+    c-table PACK NODE --pack > table.pack
 
-table.c defines what runtime/c/cpg_table.h declares: a pack that has the rows of this node alone, and of the head what a node acts by. The rows
-of other nodes are empty; their names, those of processes, and releases and deadlines are left out. With --whole the head is the whole one: then
-`cpgc live` and `cpgc node` take the table for this node as they take the whole pack.
+table.c has the constants of cpg_node_table, which runtime/c/cpg_table.h declares: the rows of the node, its columns by time, its processes with their
+durations and conditions. What stands in the C is read again and held against cpgc: written as a table it has to be the text of `cpgc node`, and
+put into the pack it has to be that pack again. With --graph its head has to be the one of the graph, as `cpgc check` says. Where one differs nothing is
+written, and the status isn't 0.
 
---sizes writes the macros of cpg_node.h that are just large enough, as words for the compiler.
+--sizes writes the macros of cpg_node.h that are just large enough, as words for the compiler. With less table.c isn't compiled.
 
 --header writes names for the numbers of events: the own processes, and the frames that the node sends and hears, with the bytes of messages, which
 stand in the graph file. What isn't a letter or a digit of C is _ there. An inserted process changes numbers, but no name. The SHA-256 of both
@@ -19,6 +21,10 @@ files stand there too.
 process how many instants with a turn may fall into its execution, the most of all scenarios, and how many instructions their calls take: an end,
 a frame and the polls of each. It is reckoned for arm-none-eabi-gcc 12 with -Os and the macros of --sizes, for safe tables, as long as the premises
 hold and the node is polled at each instant that cpg_next names.
+
+--pack writes the table as a pack, for a node that opens it by runtime/c/cpg_open.h: the rows of this node alone, and of the head what a node acts
+by. The rows of other nodes are empty; their names, those of processes, and releases and deadlines are left out. With --whole the head is the whole
+one: then `cpgc live` and `cpgc node` take the table for this node as they take the whole pack.
 
 That cpgc can make the node of the pack is asked first, and for --header that the pack is safe for the graph. A node whose name begins with -
 stands behind `--`.
@@ -32,12 +38,10 @@ import re
 from collections.abc import Iterable, Iterator
 from dataclasses import replace
 
-from cpgc_tools import __version__, cli, graph, pack, safe, show
+from cpgc_tools import __version__, c_constants, cli, graph, pack, safe, show
 from cpgc_tools.graph import Graph
 from cpgc_tools.pack import Item, Pack
 from cpgc_tools.program import Program
-
-HEX = [f"0x{byte:02x}U" for byte in range(256)]
 
 
 def table(tables: Pack, node: int, whole: bool = False) -> bytes:
@@ -69,21 +73,22 @@ def size_words(tables: Pack, node: int) -> list[str]:
     return [f"-D{name}={size}U" for name, size in sizes(tables, node).items()]
 
 
-def source(tables: Pack, node: int, whole: bool = False) -> Iterator[str]:
+def source(tables: Pack, node: int) -> Iterator[str]:
     """The lines of the C file. A name in a pack that was read has letters, digits, _, - and . alone."""
-    content, name = table(tables, node, whole), tables.nodes[node]
-    yield from [
-        f"/* The table of node {name}. Made by tools/c-table {__version__} of a pack with the SHA-256",
-        f" * {hashlib.sha256(pack.bytes_of(tables)).hexdigest()}. */",
-        '#include "cpg_table.h"',
-        "",
-        f'const char cpg_table_name[] = "{name}";',
-        f"const uint32_t cpg_table_name_length = {len(name)}U;",
-        f"const uint32_t cpg_table_size = {len(content)}U;",
-        "const uint8_t cpg_table[] = {"]
-    for at in range(0, len(content), 16):
-        yield f"    {', '.join(map(HEX.__getitem__, content[at:at + 16]))},"
-    yield "};"
+    comment = [
+        f"The table of node {tables.nodes[node]}. Made by tools/c-table {__version__} of a pack with the SHA-256",
+        f"{hashlib.sha256(pack.bytes_of(tables)).hexdigest()}."]
+    least = {name: size for name, size in sizes(tables, node).items() if name != "CPG_MAX_COLUMNS"}
+    return c_constants.lines(c_constants.constants(tables, node), least, comment)
+
+
+def held(cpgc: Program, content: bytes, tables: Pack, node: int, graph_file: str | None) -> str:
+    """The C file, or the end of the tool where it isn't what cpgc says of the pack."""
+    text = "".join(f"{line}\n" for line in source(tables, node))
+    c_constants.hold(cpgc, text, content, tables, node)
+    if graph_file is not None:
+        c_constants.hold_head(cpgc, text, cpgc.file("graph.toml", cli.read(graph_file, cli.GRAPH)), tables, node)
+    return text
 
 
 # Names for C.
@@ -168,17 +173,24 @@ def costs(tables: Pack, node: int) -> Iterator[str]:
 def main() -> None:
     words = safe.words_with_node(__doc__).with_program()
     which = words.add_mutually_exclusive_group()
+    which.add_argument("--graph", metavar="GRAPH", help="ask too whether the head of the table is the one of this graph file")
     which.add_argument("--sizes", action="store_true", help="write the macros of cpg_node.h in place of the table")
     which.add_argument("--header", metavar="GRAPH", help="write names for what the node does, by the graph file of the pack")
     which.add_argument("--cost", action="store_true", help="write how many instructions the calls of the node take at most")
-    which.add_argument("--whole", action="store_true", help="leave nothing of the head out of the table")
+    which.add_argument("--pack", dest="as_pack", action="store_true", help="write the table as a pack, for cpg_open")
+    which.add_argument("--whole", action="store_true", help="write it as a pack, and leave nothing of the head out")
     said = words.parse_args()
     content, tables, node = safe.node_of(said)
     with Program(said.program) as cpgc:
+        if not (said.sizes or said.header or said.cost or said.as_pack or said.whole):
+            cli.write(held(cpgc, content, tables, node, said.graph))
+            return
         cpgc.asked("node", cpgc.file("tables.pack", content), "--", tables.nodes[node])
         it = safe.read(cpgc, said.header, said.pack).graph if said.header else None
     if it is not None:
         digests = hashlib.sha256(cli.read(said.header, cli.GRAPH)).hexdigest(), hashlib.sha256(content).hexdigest()
         cli.write_lines(list(header(it, tables, node, said.pack, digests)))
+    elif said.as_pack or said.whole:
+        cli.write(table(tables, node, said.whole))
     else:
-        cli.write_lines([" ".join(size_words(tables, node))] if said.sizes else costs(tables, node) if said.cost else source(tables, node, said.whole))
+        cli.write_lines([" ".join(size_words(tables, node))] if said.sizes else costs(tables, node))

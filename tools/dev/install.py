@@ -31,7 +31,7 @@ from dev import zipped
 
 TOP = Path(__file__).resolve().parents[2]
 INSTALLED = [name for name in TOOLS if name != "run-nodes"]  # which builds nodes of a checkout
-RUNTIME = "cpg_node.c cpg_node.h cpg_table.h".split()
+RUNTIME = "cpg_node.c cpg_node.h cpg_open.c cpg_open.h cpg_table.h".split()
 LIST = "share/cpgc/installed"
 PROGRAMS = "bin/", "lib/"
 Source = Path | str | bytes  # a file to copy, where a link leads, or the bytes of a file

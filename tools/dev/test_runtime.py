@@ -8,15 +8,16 @@ It builds the node with gcc under the address and undefined-behaviour sanitizers
 - how it opens lawful and damaged packs, with `cpgc live`;
 - that any calls with damaged packs end, and touch nothing else;
 - what it does on streams of records, lawful and damaged, by the packs of the examples, of generated graphs and of no graph, with
-  `cpgc live`;
+  `cpgc live`: with the table that it makes of the pack, and with the constants of `c-table`, which are the same table;
+- these constants, as `c-table` does it, with `cpgc node` and `cpgc check`;
 - what a cluster of such nodes does, which exchange nothing but frames, with `cpgc play`; its watch then reports nothing except each
   execution that hangs and, of lost frames, what it can;
 - what nodes do that are separate programs, each with only its own table (runtime/c/example), with `cpgc play`; also cycle after cycle;
 
 and runs cppcheck, clang-tidy and clang, which must report nothing.
 
---arm also runs these on an emulated Cortex-M3, and counts the instructions of their calls, which are no more than `c-table --cost` says. If gcc,
-or for --arm a package, is missing, a line says so and it is left out.
+--arm also runs these on an emulated Cortex-M3, and counts the instructions of their calls, which are no more than `c-table --cost` says, and those
+of each function. If gcc, or for --arm a package, is missing, a line says so and it is left out.
 The status is 0 if nothing differs.
 """
 from __future__ import annotations
@@ -26,6 +27,7 @@ import importlib.machinery
 import importlib.util
 import os
 import random
+import re
 import shutil
 import subprocess
 import sys
@@ -36,8 +38,9 @@ from collections.abc import Sequence
 from pathlib import Path
 from typing import Any
 
-from cpgc_tools import c_cost, c_table, cli, cycle, graph, pack, play, run_nodes, stream
+from cpgc_tools import c_constants, c_cost, c_table, cli, cycle, graph, pack, play, run_nodes, stream
 from cpgc_tools.pack import Pack
+from cpgc_tools.program import Program
 
 TOP = Path(__file__).resolve().parents[2]
 C = TOP / "runtime" / "c"
@@ -81,7 +84,9 @@ class Test:
 
     def __init__(self, program: Path, place: Path, seed: int) -> None:
         self.program, self.place, self.seed, self.wrong = program, place, seed, 0
+        self.asked = Program(str(program))
         self.counts: Counter[str] = Counter()
+        self.tables: dict[tuple[Path, str], Path] = {}
 
     def random(self, *words: object) -> random.Random:
         return random.Random(" ".join(map(str, (self.seed, *words))))
@@ -116,7 +121,7 @@ class Test:
 
     def build(self, names: Sequence[str], *flags: str) -> None:
         """Builds programs of runtime/c/test."""
-        shared = [C / "test" / "host.c", C / "cpg_node.c"]
+        shared = [C / "test" / "host.c", C / "cpg_node.c", C / "cpg_open.c"]
         objects = [self.place / f"{file.stem}.o" for file in shared]
         for file, object_ in zip(shared, objects):
             self.gcc(*flags, "-c", file, "-o", object_)
@@ -151,6 +156,21 @@ def generated(test: Test, count: int) -> list[Pair]:
         found += [pair] if pair else []
         number += 1
     return found
+
+
+def table(test: Test, path: Path, name: str) -> Path:
+    """The constants of a node, which cpgc has to say of the pack, as a shared object."""
+    if (path, name) not in test.tables:
+        content = path.read_bytes()
+        tables = pack.parsed(content)
+        node = tables.nodes.index(name)
+        text = "".join(f"{line}\n" for line in c_table.source(tables, node))
+        differs = c_constants.difference(test.asked, text, content, tables, node)
+        if differs:
+            test.differ(f"the table of {name} in {path.name}", differs)
+        made = test.tables[path, name] = test.place / f"table-{len(test.tables)}.so"
+        test.gcc("-shared", "-fPIC", "-I", C, test.file("table.c", text), "-o", made)
+    return test.tables[path, name]
 
 
 def node_names(path: Path) -> list[str]:
@@ -201,7 +221,7 @@ def compare_packs(test: Test, small: Path, count: int) -> None:
 
 
 def compare_sizes(test: Test, path: Path) -> None:
-    """A node that is built just large enough opens its pack, and one that is too small in any way is full."""
+    """A node that is built just large enough opens its pack, and one that is too small in any way is full; for constants it isn't built."""
     read = pack.read(str(path))
     node = max(range(len(read.nodes)), key=lambda it: len(read.rows[it]))
     sizes, name = c_table.sizes(read, node), read.nodes[node]
@@ -213,6 +233,9 @@ def compare_sizes(test: Test, path: Path) -> None:
         test.counts["sizes"] += 1
         if not told.startswith(wanted):
             test.differ(f"sizes, {less} less", told)
+        built = test.run("gcc", *flags, "-I", C, "-fsyntax-only", test.file("table.c", "\n".join(c_table.source(read, node))))[0] == 0
+        if built != (less in (None, "CPG_MAX_COLUMNS")):
+            test.differ(f"sizes of constants, {less} less", built)
 
 
 def compare_streams(test: Test, packs: Sequence[Pair], wild: Sequence[Path], count: int) -> None:
@@ -231,12 +254,13 @@ def compare_streams(test: Test, packs: Sequence[Pair], wild: Sequence[Path], cou
             test.differ("gen", done.stderr)
         stream = test.file("node.stream", done.stdout)
         wanted, got = test.cpgc("live", path, node, stream), test.c("live", path, node, stream)
+        constant = test.c("live", path, node, stream, table(test, path, node))
         test.counts["streams"] += 1
         test.counts["records"] += len(done.stdout) // 14
         test.counts["lines of streams"] += wanted[1].count("\n")
         test.counts["streams refused"] += wanted[0] == 4
-        if wanted != got:
-            test.differ(f"stream {number} of {path.name} {node}", wanted, got)
+        if not wanted == got == constant:
+            test.differ(f"stream {number} of {path.name} {node}", wanted, got, constant)
         number += 1
 
 
@@ -360,14 +384,17 @@ def compare_cycles(test: Test, name: str, text: str, scenario: str) -> None:
         test.differ(f"cycles of {name}", wanted, got)
 
 
+TABLE = "pack", "item", "process", "due", "cpg_node_table"
+
+
 def tell_size(test: Test, place: Path, tables: Pack) -> None:
     """Flash and RAM of the programs of nodes, as arm-none-eabi-size tells them, and what of it a table and a cpg_node take."""
     for node, name in enumerate(tables.nodes):
         text, data, bss = map(int, test.run("arm-none-eabi-size", place / f"node-{node}")[1].splitlines()[1].split()[:3])
         symbols = [line.split() for line in test.run("arm-none-eabi-nm", "-S", place / f"node-{node}")[1].splitlines()]
-        state = max([int(it[1], 16) for it in symbols if len(it) == 4 and it[3] == "node"], default=0)
-        print(f"Cortex-M3, node {name}: flash {text + data} bytes, {len(c_table.table(tables, node))} of them its table; "
-              f"RAM {data + bss} bytes and the stack, {state} of them its state")
+        sizes = {it[3]: int(it[1], 16) for it in symbols if len(it) == 4}
+        print(f"Cortex-M3, node {name}: flash {text + data} bytes, {sum(sizes[it] for it in TABLE)} of them its table; "
+              f"RAM {data + bss} bytes and the stack, {sizes['node']} of them its state")
 
 
 def compare_costs(test: Test, name: str, path: Path, file: Path, scenario: Path) -> None:
@@ -396,6 +423,30 @@ def compare_costs(test: Test, name: str, path: Path, file: Path, scenario: Path)
         print(f"Cortex-M3, node {called}: " + ", ".join(f"{it} {counted.get(it, 0):,} of at most {most[it]:,}" for it in most))
 
 
+FUNCTION = re.compile(r"^[0-9a-f]+ <(\w+)[^>]*>:\n((?:.+\n)+)", re.MULTILINE)
+INSTRUCTION = re.compile(r"^ *([0-9a-f]+):\t[0-9a-f ]+\t(?!\.)(\S+)\t?(.*)$", re.MULTILINE)
+BACK = re.compile(r"(?:\w+, )?([0-9a-f]+) <")
+
+
+def instructions(code: str) -> tuple[int, int]:
+    """How many instructions a function has, and the most of them from one to which a branch leads back on up to that."""
+    found = [(int(at, 16), name, words) for at, name, words in INSTRUCTION.findall(code)]
+    places = {at: number for number, (at, _, _) in enumerate(found)}
+    ends = [(number, int(to[1], 16)) for number, (_, name, words) in enumerate(found) if name != "bl" and (to := BACK.match(words))]
+    return len(found), max((number - places[to] + 1 for number, to in ends if places.get(to, number + 1) <= number), default=0)
+
+
+def compare_counts(test: Test) -> None:
+    """A function of cpg_node.c has no more instructions than `c-table --cost` counts with."""
+    made = test.place / "counts.o"
+    error = test.run(*run_nodes.ARM[:4], "-fno-inline", "-std=c99", "-c", C / "cpg_node.c", "-o", made)[2]
+    found = {name: instructions(code) for name, code in FUNCTION.findall(test.run("arm-none-eabi-objdump", "-d", made)[1])}
+    least = {name: (whole, c_cost.PASS.get(name, whole)) for name, whole in c_cost.WHOLE.items()}
+    more = {name: counts for name, counts in found.items() if any(one > other for one, other in zip(counts, least.get(name, (0, 0))))}
+    if error or more or not found:
+        test.differ("instructions of functions", error, more)
+
+
 def compare_calls(test: Test, paths: Sequence[Path], rounds: int) -> None:
     """Any calls of nodes whose packs are damaged, also after they were opened; once with large tables, once with small ones."""
     small = ["PROCESSES=4", "CONDITIONS=1", "OWN=2", "ROWS=8", "COLUMNS=24"]
@@ -410,17 +461,18 @@ def compare_calls(test: Test, paths: Sequence[Path], rounds: int) -> None:
         test.counts["any calls"] += calls
 
 
+SOURCES = C / "cpg_node.c", C / "cpg_open.c"
 CHECKERS = {
-    "cppcheck": ["--enable=all", "--std=c99", "--suppress=missingIncludeSystem", "--suppress=unusedFunction", "-q", C / "cpg_node.c"],
+    "cppcheck": ["--enable=all", "--std=c99", "--suppress=missingIncludeSystem", "--suppress=unusedFunction", "-q", *SOURCES],
     "clang-tidy": ["--quiet", "--checks=-*,clang-analyzer-*,bugprone-*,cert-*,misc-*,performance-*,portability-*,readability-*,"
                    "-bugprone-easily-swappable-parameters,-readability-function-cognitive-complexity,"
-                   "-readability-identifier-length,-readability-magic-numbers", C / "cpg_node.c", "--", "-std=c99"],
+                   "-readability-identifier-length,-readability-magic-numbers", *SOURCES, "--", "-std=c99"],
 }
 
 
 def compare_checkers(test: Test) -> None:
     """What reads the C as a text says nothing of it, nor does clang."""
-    for name, flags in {**CHECKERS, "clang": [*WARNINGS, "-Wsign-conversion", "-fsyntax-only", C / "cpg_node.c"]}.items():
+    for name, flags in {**CHECKERS, "clang": [*WARNINGS, "-Wsign-conversion", "-fsyntax-only", *SOURCES]}.items():
         if shutil.which(name) is None:
             print(f"{name} is left out: it isn't there")
             continue
@@ -460,11 +512,13 @@ def compare_examples(test: Test, arm: bool) -> None:
         if arm and not missing and name != "branching":
             compare_programs(test, *files, True)
             compare_costs(test, name, files[1], files[0], files[2])
+    if arm and not missing:
+        compare_counts(test)
 
 
 def summary(test: Test) -> None:
     it = test.counts
-    print(f"{it['checks']} checks of calls, {it['sizes']} of sizes; "
+    print(f"{it['checks']} checks of calls, {it['sizes']} of sizes; {len(test.tables)} tables of constants; "
           f"{it['refused10']} packs refused as none, {it['refused19']} for their node")
     print(f"streams: {it['records']} records, {it['lines of streams']} lines, {it['streams refused']} refused; "
           f"plays: {it['lines of plays']} lines")

@@ -129,32 +129,52 @@ static bool has_same_counts(const cpg_table *one, const cpg_table *other)
         && (one->conditions == other->conditions);
 }
 
+/* Whether so many bytes of two packs are the same. */
+static bool has_same_bytes(const cpg_table *one, uint32_t at, const cpg_table *other, uint32_t there, uint32_t count)
+{
+    return ((at + count) <= one->size) && ((there + count) <= other->size) && (memcmp(one->pack + at, other->pack + there, count) == 0);
+}
+
+static bool has_same_process(const cpg_table *one, const cpg_table *other, uint16_t row)
+{
+    const cpg_process *own = &one->process[row];
+    const cpg_process *its = &other->process[row];
+    return (own->condition == its->condition) && has_same_bytes(one, own->durations, other, its->durations, 8U * (one->k + 1U));
+}
+
+static bool has_same_due(const cpg_table *one, const cpg_table *other, uint32_t i)
+{
+    const cpg_due *due = &one->due[i];
+    const cpg_due *its = &other->due[i];
+    return (due->row == its->row) && (due->column == its->column) && has_same_bytes(one, due->at, other, its->at, 9U)
+        && has_same_bytes(one, due->at, other, its->at, 9U + (3U * one->pack[due->at + 8U]));
+}
+
 static bool is_same(const cpg_table *one, const cpg_table *other)
 {
     bool same = has_same_counts(one, other);
-    for (uint32_t i = 0U; same && (i < one->rows); i++) {
-        same = one->item[i] == other->item[i];
+    for (uint16_t row = 0U; same && (row < one->rows); row++) {
+        same = one->item[row] == other->item[row];
     }
-    for (uint32_t i = 0U; same && (i < one->own); i++) {
-        same = (one->process[i].durations == other->process[i].durations) && (one->process[i].condition == other->process[i].condition);
+    for (uint16_t row = 0U; same && (row < one->own); row++) {
+        same = has_same_process(one, other, row);
     }
     for (uint32_t i = 0U; same && (i < one->dues); i++) {
-        same = (one->due[i].at == other->due[i].at) && (one->due[i].row == other->due[i].row) && (one->due[i].column == other->due[i].column);
+        same = has_same_due(one, other, i);
     }
     return same;
 }
 
-const cpg_table *host_table(const char *path, const char *name)
+const cpg_table *host_table(const char *path, const cpg_opened *opened)
 {
-    static cpg_opened again;
     void *object = dlopen(path, RTLD_NOW);
     const cpg_table *table = (object != NULL) ? dlsym(object, "cpg_node_table") : NULL;
-    if ((table == NULL) || (cpg_open(&again, table->pack, table->size, name, (uint32_t)strlen(name)) != CPG_OK)) {
+    if (table == NULL) {
         (void)fprintf(stderr, "no table: %s\n", path);
         exit(7);
     }
-    if (!is_same(table, &again.table)) {
-        (void)fprintf(stderr, "another table than that of its bytes: %s\n", path);
+    if (!is_same(table, &opened->table)) {
+        (void)fprintf(stderr, "another table than that of the pack: %s\n", path);
         exit(7);
     }
     return table;

@@ -22,7 +22,8 @@ const char *host_process_name(uint32_t process);
 /* An item of it as a line names it: `start NAME`, `send eN` or `tell NAME`. */
 const char *host_item(uint16_t item);
 
-/* The table of tools/c-table that was built as a shared object. Exits where that isn't there, or isn't what cpg_open makes of its bytes. */
-const cpg_table *host_table(const char *path, const char *name);
+/* The constants of tools/c-table that were built as a shared object. Exits where they aren't there, or are another table than the
+ * one that cpg_open has made of the pack. */
+const cpg_table *host_table(const char *path, const cpg_opened *opened);
 
 #endif

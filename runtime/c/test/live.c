@@ -102,7 +102,7 @@ int main(int count, char **words)
     }
     const uint8_t *pack = host_file(words[1], &size);
     host_open(&opened, pack, size, words[2]);
-    cpg_begin(&node, (count > 4) ? host_table(words[4], words[2]) : &opened.table);
+    cpg_begin(&node, (count > 4) ? host_table(words[4], &opened) : &opened.table);
     const uint8_t *stream = host_file(words[3], &length);
     return run(stream, length);
 }

@@ -121,8 +121,8 @@ def files_of(words: Sequence[str], line: str = "") -> Files:
     if tool == "compare":
         return files_of_compare(without_options(rest)[0], program_of(words), line)
     if tool == "c-table":
-        plain, header = without_options(rest)
-        return Files([header, *plain], "c-table") if header else Files(plain, "node")
+        plain, graph_file = without_options(rest)
+        return Files([graph_file, *plain], "c-table") if graph_file else Files(plain, "node")
     return Files(rest)
 
 
@@ -140,19 +140,19 @@ def files_of_compare(words: Sequence[str], cpgc: str | None, line: str) -> Files
 
 
 def without_options(words: Sequence[str]) -> tuple[list[str], str | None]:
-    """The words of a tool that are no options, and the word of --header."""
+    """The words of a tool that are no options, and the graph file of --header or --graph."""
     plain: list[str] = []
-    header, left = None, list(words)
+    graph_file, left = None, list(words)
     while left:
         name, given, value = left.pop(0).partition("=")
-        if name in ("--program", "--cpgc", "--header"):
+        if name in ("--program", "--cpgc", "--header", "--graph"):
             value = value if given or not left else left.pop(0)
-            header = value if name == "--header" else header
+            graph_file = value if name in ("--header", "--graph") else graph_file
         elif name + given == "--":
-            return plain + left, header
+            return plain + left, graph_file
         elif not name.startswith("--"):
             plain.append(name + given + value)
-    return plain, header
+    return plain, graph_file
 
 
 def read(words: Sequence[str], as_json: bool) -> int:
