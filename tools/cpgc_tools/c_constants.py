@@ -9,7 +9,6 @@ pack in place of what the pack says of the node.
 """
 from __future__ import annotations
 
-import itertools
 import re
 from collections.abc import Iterator, Sequence
 from dataclasses import replace
@@ -58,12 +57,21 @@ class Constants(NamedTuple):
         """What of one time comes first."""
         return 0 if row >= self.acting else 2 if row < len(self.process) else 1
 
+    def part(self, at: int, size: int) -> bytes:
+        """So many of the bytes. Raises ValueError where they aren't there."""
+        if at + size > len(self.pack):
+            raise ValueError(f"byte {at + size - 1} isn't there")
+        return self.pack[at:at + size]
+
+    def time(self, at: int) -> int:
+        return int.from_bytes(self.part(at, TIME), "big")
+
     def column(self, at: int) -> Column:
-        end = at + TIME + 1
-        return int.from_bytes(self.pack[at:end - 1], "big"), self.pack[end:end + LITERAL * self.pack[end - 1]]
+        count = self.part(at + TIME, 1)[0]
+        return self.time(at), self.part(at + TIME + 1, LITERAL * count)
 
     def durations(self, own: Own) -> tuple[int, ...]:
-        return tuple(int.from_bytes(self.pack[at:at + TIME], "big") for at in itertools.islice(itertools.count(own.durations, TIME), self.k + 1))
+        return tuple(self.time(own.durations + TIME * faults) for faults in range(self.k + 1))
 
 
 # Made and written.
@@ -130,6 +138,8 @@ def read(text: str) -> Constants:
     sizes = {"pack": count["size"], "item": count["rows"], "process": 2 * count["own"], "due": 3 * count["dues"]}
     if any(len(arrays[name]) != size for name, size in sizes.items() if size):
         raise ValueError("an array has another length")
+    if not count["own"] <= count["acting"] <= count["rows"]:
+        raise ValueError("rows are counted otherwise")
     found = {name: arrays[name][:size] for name, size in sizes.items()}
     process, due = found["process"], found["due"]
     return Constants(bytes(found["pack"]), tuple(found["item"]), tuple(map(Own, process[::2], process[1::2])), tuple(map(Due, due[::3], due[1::3], due[2::3])),

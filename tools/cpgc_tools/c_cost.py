@@ -22,13 +22,14 @@ from cpgc_tools.pack import Pack, Row, asked
 
 # of each function of cpg_node.c its instructions, and at most how many of them are in a pass of its loop
 WHOLE = {
-    "byte_at": 7, "time_at": 18, "is_start": 6, "is_heard": 6, "cpg_begin": 46, "place_of": 4, "place_of_value": 5, "literal_at": 4, "range_at": 12,
-    "common": 16, "is_empty": 9, "is_within": 17, "follows": 37, "learn": 25, "know": 8, "due_time": 10, "is_awaited": 5, "cpg_next": 25,
-    "tell_ends": 40, "tell": 9, "tell_overrun": 34, "rule_out": 28, "had_to_come": 58, "end_of": 13, "start": 16, "value_of": 15, "take_due": 70,
-    "take_turn": 42, "cpg_poll": 34, "find_heard": 40, "contradicts": 63, "learn_column": 30, "cpg_hear": 63, "find_own": 15, "may_tell": 24,
-    "cpg_ended": 49,
+    "byte_at": 7, "word_at": 19, "time_at": 10, "is_start": 6, "is_heard": 6, "cpg_begin": 47, "place_of": 4, "place_of_value": 5, "literal_at": 4,
+    "range_at": 12, "common": 16, "is_empty": 9, "is_within": 17, "follows": 37, "learn": 32, "know": 8, "due_time": 9, "is_awaited": 5, "cpg_next": 26,
+    "tell_end": 24, "tell_ends": 26, "tell": 12, "tell_overrun": 36, "rule_out": 28, "had_to_come": 58, "end_of": 13, "start": 22, "told_place": 7,
+    "value_of": 10, "take_heard": 31, "take_act": 43, "take_due": 23, "take_next": 6, "take_dues": 25, "take_rest": 18, "take_turn": 12,
+    "take_instant": 6, "cpg_poll": 37, "find_heard": 39, "contradicts": 63, "learn_column": 30, "hear_due": 20, "cpg_hear": 49, "find_own": 15,
+    "may_tell": 24, "cpg_ended": 49,
 }
-PASS = {"time_at": 11, "cpg_begin": 17, "cpg_next": 15, "learn_column": 21, "find_own": 10}
+PASS = {"cpg_begin": 18, "cpg_next": 15, "tell_ends": 20, "take_dues": 18, "learn_column": 22, "find_own": 10}
 MEMSET = 40, 4  # of the library: at most so many, and so many for each byte
 TIME_BYTES = 8
 VARIABLES = "CPG_MAX_PROCESSES", "CPG_MAX_CONDITIONS"
@@ -40,7 +41,7 @@ def of(name: str, passes: int = 0) -> int:
 
 
 BYTE = of("byte_at")
-TIME = of("time_at", TIME_BYTES) + TIME_BYTES * BYTE
+TIME = of("time_at") + 2 * of("word_at") + TIME_BYTES * BYTE
 LITERAL = of("literal_at") + BYTE + of("place_of") + of("range_at") + 2 * BYTE  # where it stands, and what it says
 LEARN = of("learn") + 2 * of("common") + of("is_empty")
 
@@ -86,18 +87,19 @@ class Cost:
     @functools.cached_property
     def pass_of_poll(self) -> int:
         """A turn without its columns: the next instant, and what has ended. Of the executions of a node one at most ends at an instant."""
-        told = of("place_of") + of("place_of_value") + 2 * of("know")
-        return self.next + of("tell_ends", self.own) + told + of("tell_overrun", self.own) + of("tell") + of("take_turn")
+        ends = of("tell_ends", self.own) + of("tell_end") + of("place_of") + of("place_of_value") + 2 * of("know")
+        turn = of("take_instant") + of("take_turn") + of("take_rest") + of("take_dues")
+        return self.next + turn + ends + of("tell_overrun", self.own) + of("tell")
 
     def column(self, row: Row, literals: int) -> int:
         """A column whose time has come: it is taken out of the index, and looked at; at most one of a row leads to an event."""
-        found = PASS.get("take_turn", WHOLE["take_turn"]) + of("due_time") + TIME + of("take_due") + of("is_heard") + of("is_start")
-        return found + (had_to_come(literals) if row.heard else follows(literals))
+        found = PASS["take_dues"] + of("due_time") + TIME + of("take_next") + of("take_due") + of("is_heard")
+        return found + (of("take_heard") + had_to_come(literals) if row.heard else of("take_act") + of("is_start") + follows(literals))
 
     @property
     def event(self) -> int:
         """What is done for a start or a send, the greater of both."""
-        return of("tell") + max(of("start") + of("end_of") + TIME, of("value_of") + of("place_of_value"))
+        return of("tell") + max(of("start") + TIME, of("value_of") + of("told_place") + of("place_of_value"))
 
     def one_poll(self, time: int) -> int:
         """One call at an instant: all columns of it, up to an event; the next instant is looked at again if there is none."""
@@ -117,8 +119,8 @@ class Cost:
         most = max((literals for row, literals in columns if row.heard), default=0)
         search = of("find_heard", len(columns)) + (len(columns) + 1) * (of("due_time") + TIME + of("is_heard"))
         contradicts = of("contradicts", most) + BYTE + most * (LITERAL + 2 * (of("common") + of("is_empty"))) + of("common") + of("is_empty")
-        learns = of("learn_column", most) + BYTE + most * (LITERAL + LEARN) + LEARN
-        return of("cpg_hear") + of("place_of_value") + self.next + search + contradicts + learns
+        learns = of("hear_due") + of("learn_column", most) + BYTE + most * (LITERAL + LEARN) + LEARN
+        return of("cpg_hear") + of("told_place") + of("place_of_value") + self.next + search + contradicts + learns
 
     def poll(self) -> int:
         return max(map(self.one_poll, self.times), default=of("cpg_poll", 1) + self.next)

@@ -52,6 +52,11 @@ os.environ["ASAN_OPTIONS"] = "detect_leaks=0"         # the node takes no memory
 
 
 CYCLES = 3
+# a cycle of the fly-by-wire system in which faults strike at both rates, and each decision is for the longer way
+FAULTY = """
+faults = { "1.0.airdata" = 1, "0.1.kalman" = 1 }
+values = { "0.0.valid" = true, "0.1.valid" = true, "1.0.mode" = true, "1.0.stall" = true }
+"""
 # the value of C is there at 20, when the next cycle may begin
 TIGHT = """
 faults = 0
@@ -358,7 +363,7 @@ def compare_programs(test: Test, file: Path, path: Path, scenario: Path, arm: bo
         tell_size(test, place, read)
 
 
-def compare_cycles(test: Test, name: str, text: str, scenario: str) -> None:
+def compare_cycles(test: Test, name: str, text: str, scenario: str, arm: bool = False) -> None:
     """Nodes as programs of their own, cycle after cycle, begun again as soon as they may: each cycle is the same play."""
     made = compiled(test, name, text)
     assert made
@@ -367,10 +372,11 @@ def compare_cycles(test: Test, name: str, text: str, scenario: str) -> None:
     length = cycle.parts(it, tables)["cycle"]
     cluster = run_nodes.Cluster(it, tables, play.read_scenario(str(files[2])))
     place.mkdir()
-    flags = (*SANITIZERS, f"-DNODE_CYCLE={length}U")
-    nodes = [run_nodes.Node(run_nodes.build(tables, node, place, False, flags), False) for node in range(len(tables.nodes))]
+    flags = (*(() if arm else SANITIZERS), f"-DNODE_CYCLE={length}U")
+    cluster.turns = [{time + number * length for time in turns for number in range(CYCLES + 1)} for turns in cluster.turns]
+    nodes = [run_nodes.Node(run_nodes.build(tables, node, place, arm, flags), arm) for node in range(len(tables.nodes))]
     try:
-        cluster.run(nodes, CYCLES * length)
+        cluster.run(nodes, CYCLES * length, arm)
     finally:
         for node in nodes:
             node.stop()
@@ -382,6 +388,8 @@ def compare_cycles(test: Test, name: str, text: str, scenario: str) -> None:
     test.counts["programs"] += len(nodes)
     if not wanted or sorted(got) != sorted(wanted):
         test.differ(f"cycles of {name}", wanted, got)
+    elif arm:
+        tell_size(test, place, tables)
 
 
 TABLE = "pack", "item", "process", "due", "cpg_node_table"
@@ -514,6 +522,8 @@ def compare_examples(test: Test, arm: bool) -> None:
             compare_costs(test, name, files[1], files[0], files[2])
     if arm and not missing:
         compare_counts(test)
+        fbw = TOP / "examples/fbw"
+        compare_cycles(test, "fly-by-wire", test.cpgc("hyper", 1000, fbw / "inner.toml", 2000, fbw / "outer.toml")[1], FAULTY, True)
 
 
 def summary(test: Test) -> None:

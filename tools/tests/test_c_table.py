@@ -78,14 +78,14 @@ class CTable(Case):
                     with mock.patch.object(cpgc, "text", return_value=cpgc.text("node", path, tables.nodes[node])):
                         for other in wrong(text):
                             self.assertNotEqual(c_constants.difference(cpgc, other, content, tables, node), "", other)
-                    for one, other in (".pack = pack", ".pack = item"), ("[] = {\n    { ", "[] = {\n"):
+                    for one, other in (".pack = pack", ".pack = item"), ("    0x00U, ", "    "), ("U },\n};", "U },\n    { 0U, 0U, 0U },\n};"):
                         self.assertNotEqual(c_constants.difference(cpgc, text.replace(one, other), content, tables, node), "")
 
     def test_other_head(self) -> None:
         """A pack that was made of another graph is refused with --graph, and so is a table whose durations are others."""
         path = self.packed(PAIR)
         self.file("longer.toml", PAIR.replace("wcet = 10", "wcet = 11"))
-        self.of("c-table", path, "N2", "--graph", "longer.toml", status=4, err="cpgc: refused 17 other graph process 1\n")
+        self.of("c-table", path, "N2", "--graph", "longer.toml", status=4, err="cpgc: refused 17 other graph processes\n")
         tables = pack.read(path)
         text = "\n".join(c_table.source(tables, 1)).replace("0x0fU", "0x10U")
         with Program(CPGC) as cpgc, self.assertRaises(cli.Failure) as refused:
@@ -158,21 +158,22 @@ class CTable(Case):
     def test_cost(self) -> None:
         """On N1 A runs for 72 at most, and its message may be sent at 40, within it; on N2 nothing falls into B, from 50 to 82 and from 90.
 
-        A byte costs 7, a time 18 and 8 passes of 11 with a byte each, so 162. cpg_next: 25, a pass of 15 and a test of 5 for the one execution, and a
-        due time of 9 and 162. cpg_ended: 59, 14 and a pass of 9 to find it, 18, 8 and a time. cpg_begin: 49, four passes of 17 (two fault counts, a
+        A byte costs 7, and a time 10, two words of 19 and 8 bytes, so 104. cpg_next: 26, a pass of 15 and a test of 5 for the one execution, and a
+        due time of 9 and 104. cpg_ended: 49, 15 and a pass of 10 to find it, 24, 13 and a time. cpg_begin: 47, four passes of 18 (two fault counts, a
         value, an execution), and 40 and 4 for each of two rows.
 
-        An instant with a send: cpg_ended; two polls, each 35 and two passes of that, the next instant, 41 and a pass for ends with 27, 34 and a pass
-        of that with 9 for overruns, 44, and a due time; a column of 44, a due time, 70, 5, 5 and 37, a pass of that, a byte and a literal of
-        4 + 7 + 4 + 12 + 14 and 17; the event of 9 and a start of 20, 8 and a time, which is more than a send; and the next instant once more."""
+        An instant with a send: cpg_ended; two polls, each 37 and two passes of that, the next instant, 6, 12, 18 and 25 of the turn, 26 and a pass of
+        20 for ends with 24, 4, 5 and twice 8, 36 and a pass of that with 12 for overruns, and a due time; a column of 18, a due time, 6, 23, 6, 43, 6
+        and 37, a pass of that, a byte and a literal of 4 + 7 + 4 + 12 + 14 and 17; the event of 12 and a start of 22 and a time, which is more than a
+        send; and the next instant once more."""
         tables = pack.read(self.packed(PAIR))
         one, other = Cost(tables, 0), Cost(tables, 1)
-        self.assertEqual((one.next, one.ended(), one.begin()), (216, 270, 165))
-        due, poll = 9 + 162, 3 * 35
-        each = poll + 216 + 2 * 41 + 27 + 2 * 34 + 9 + 44 + due
-        column = 44 + due + 70 + 5 + 5 + 2 * 37 + 7 + 41 + 17
-        self.assertEqual(one.instant(40), 270 + 2 * each + column + 9 + 20 + 8 + 162 + 216)
+        self.assertEqual((one.next, one.ended(), one.begin()), (159, 215, 167))
+        due, poll = 9 + 104, 3 * 37
+        each = poll + 159 + 6 + 12 + 18 + 25 + 46 + 24 + 4 + 5 + 2 * 8 + 2 * 36 + 12 + due
+        column = 18 + due + 6 + 23 + 6 + 43 + 6 + 2 * 37 + 7 + 41 + 17
+        self.assertEqual(one.instant(40), 215 + 2 * each + column + 12 + 22 + 104 + 159)
         self.assertEqual([it[:4] for it in one.executions()], [(0, 0, 1, one.instant(40))])
         self.assertEqual([it[:3] for it in other.executions()], [(1, 50, 0)])
         lines = self.of("c-table", "graph.pack", "N1", "--cost").splitlines()
-        self.assertEqual([lines[-1].split(), lines[3].split()], [["A", "0", "1", f"{one.instant(40):,}"], ["cpg_poll", "1,337"]])
+        self.assertEqual([lines[-1].split(), lines[2].split()], [["A", "0", "1", f"{one.instant(40):,}"], ["cpg_poll", f"{one.poll():,}"]])
