@@ -131,7 +131,8 @@ some_shown g urgency order t is l e = omega (arith, nothing_late g urgency order
 module _ (g : Graph) (w : WellFormed g) (urgency : List ℕ) (top : IsTopological g urgency) (first_top : IsTopological g (first_order g urgency))
     (narrow : g.order ≡ None → IsNarrow g (first_order g urgency))
     (joins : HasSingleJoins g) (by : IsUrgencyOrder g urgency) where
-  compilation : (order : List ℕ) → IsCompileOrder g urgency order → (b : Built) → IsBuiltFor g urgency order b → DoTablesFit g b.tables.nodes → b.excess ≡ 0 →
+  -- tables under it are its compilation
+  pub compilation : (order : List ℕ) → IsCompileOrder g urgency order → (b : Built) → IsBuiltFor g urgency order b → DoTablesFit g b.tables.nodes → b.excess ≡ 0 →
       IsCompilation g urgency (record { built = b; order = order })
   compilation order taken b built fit e = record {
     compiled = record { narrow = narrow; taken = taken; in_time = in_time_under g urgency order b built e };

@@ -144,6 +144,15 @@ module _ (g : Graph) (order : List ℕ) (guards : Guards) (f : ForestState) (act
           let parts = and_parts x.0.1 y.0.1 (sym (both s few x.0 y.0 h.has.there.0 x.1 y.1 h.has.there.1) ∙ h.has.there.2) in
           record { asked = (asks s few x.0 x.1).0 parts.0; acts = (y.0, y.1, parts.1); time = h.time; has = h.has.has; is = h.is }
 
+  -- nothing is raised if the condition is heard no later wherever the process is active
+  pub heard_no_later : (c latest : ℕ) → IsRaised g (HasLater (heard_tree g f node c) active (heard_delay g node c)) latest latest →
+      IsRaised g (HasHeard g order guards f active node from to c) latest latest
+  heard_no_later c latest r = record {
+    from = omega arith;
+    above = λ n s law h. r.above n s law (record { time = h.time; has = record { has = h.has; there = h.acts }; is = h.is });
+    found = inl refl;
+  }
+
   pub none_heard : (first : ℕ) → IsRaised g (HasHeardOf g order guards f active node from to 0) first first
   none_heard first = raised_by_none g (HasHeardOf g order guards f active node from to 0) (HasHeardOf g order guards f active node from to 0) (λ n s h. below n s h) first
     where

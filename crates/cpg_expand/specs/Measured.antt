@@ -1,5 +1,5 @@
--- The measures of an order: its greatest excess and its greatest finish, and whether they are better than others.
-use Rattle.std.specs.Prelude.{ℕ, ◌≡◌, ◌<◌, ◌⊎◌, List, Option}
+-- The measures of an order: its greatest excess and its greatest finish.
+use Rattle.std.specs.Prelude.{ℕ, List, Option}
 use Rattle.cpg_base.specs.Graph.{Graph}
 use Rattle.cpg_base.specs.Scenario.{Scenario}
 use Rattle.cpg_run.specs.Frozen.{AreFrozenTimes}
@@ -15,7 +15,3 @@ pub record IsMeasured (g : Graph) (urgency order : List ℕ) (excess worst : ℕ
   pub worst_in : Scenario
   pub worst_by : Option ℕ
   pub is_worst : IsWorst g urgency order frozen worst worst_in worst_by
-
--- less excess, or the same excess and an earlier finish
-abbrev pub IsBetter : (excess worst : ℕ) → (other_excess other_worst : ℕ) → Type 0
-IsBetter e w f v = (e < f) ⊎ ((e ≡ f) × (w < v))

@@ -1,6 +1,5 @@
 //! From an order to what a builder answers, by trees.
-ghost use Rattle.std.specs.Prelude.{ℕ, ◌≡◌, ◌↔◌, IfOk, IfErr, IsTrue, None};
-ghost use Rattle.cpg_expand.specs.Measured.{IsBetter};
+ghost use Rattle.std.specs.Prelude.{ℕ, ◌≡◌, IfOk, IfErr, None};
 ghost use Rattle.cpg_expand.specs.GrownFor.{IsGrownFor, IsWidth};
 ghost use Rattle.cpg_expand.specs.Large.{HasLargeTree, ShowsLarge};
 ghost use Rattle.cpg_expand.specs.WideRows.{DoTablesFit, HaveWideRows};
@@ -111,16 +110,6 @@ pub fn grow_bounded(alloc: Global, admitted: &Admitted, order: Order) -> Result<
 }
 
 impl Grown {
-    /// Whether the greatest excess is less than that of another order, or as much and the greatest finish earlier.
-    pub fn is_better(&self, other: &Grown) -> bool
-        ensures { IsTrue result ↔ IsBetter self.now.excess.time self.now.worst.time other.now.excess.time other.now.worst.time }
-    {
-        if self.excess.time == other.excess.time {
-            return self.worst.time < other.worst.time;
-        }
-        self.excess.time < other.excess.time
-    }
-
     /// The exact tables, with the frozen times and the measures. Each tree is given back once its row is made. If an item has
     /// too many views, the columns of rows are counted as they are made, and `TooWide` shows the least such item if a row has
     /// more than 16,384, or all rows of all tables more than 524,288.

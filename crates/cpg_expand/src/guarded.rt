@@ -1,5 +1,5 @@
 //! Trees down guards.
-ghost use Rattle.std.specs.Prelude.{⊤, ◌≡◌, ◌<◌, ◌≤◌, All, IfErr, IfOk, false, true};
+ghost use Rattle.std.specs.Prelude.{⊤, ◌≡◌, ◌<◌, ◌≤◌, All, IfErr, IfOk, None, false, true};
 ghost use Rattle.std.specs.Bool.{OnTrue};
 ghost use Rattle.cpg_base.specs.Graph.{condition_count, edge_count, is_message};
 ghost use Rattle.cpg_expand.specs.Agreeing.{IsTree};
@@ -41,6 +41,48 @@ fn by_value<T: Copy + Eq>(
 }
 
 /// Where a guard comes to an activation.
+#[derive(Clone, Copy)]
+struct Activity<'a> {
+    alloc: Global,
+    problem: &'a Problem,
+}
+
+impl Descent<bool> for Activity<'_> {
+    ghost begun = { λ a. condition_count a.problem.now ≤ 32 };
+
+    ghost conditions = { λ a. condition_count a.problem.now };
+
+    ghost may = { λ a b. ⊤ };
+
+    ghost made = { λ a t. IsTree a.problem.now t };
+
+    ghost told = { λ a guard t. IsActiveTree a.problem.now.faults guard t };
+
+    ghost wide = { λ a. None };
+
+    ghost large = { λ a b. ⊥ };
+
+    fn wide(&self) -> Option<u32> {
+        None
+    }
+
+    fn leaf(&self, activation: Activation) -> Result<Tree<bool>, BuildFault> {
+        let faults = self.problem.faults();
+        let constant = Tree::constant(self.alloc, activation.is_active(), faults)?;
+        Ok(constant)
+    }
+
+    fn test(
+        &self,
+        condition: u32,
+        no: &Tree<bool>,
+        yes: &Tree<bool>,
+    ) -> Result<Tree<bool>, OutOfMemory> {
+        by_value(self.alloc, self.problem, condition, yes, no)
+    }
+}
+
+/// Where a guard comes to an activation.
 pub(crate) fn active(
     alloc: Global,
     problem: &Problem,
@@ -51,17 +93,11 @@ pub(crate) fn active(
     ensures tree { IfOk result (IsTree problem.now) }
     ensures active { IfOk result (IsActiveTree problem.now.faults guard.now) }
 {
-    match guard.top() {
-        GuardTop::Leaf(activation) => {
-            let constant = Tree::constant(alloc, activation.is_active(), problem.faults())?;
-            Ok(constant)
-        }
-        GuardTop::Test { condition, no, yes } => {
-            let no = active(alloc, problem, no)?;
-            let yes = active(alloc, problem, yes)?;
-            let picked = by_value(alloc, problem, condition, &yes, &no)?;
-            Ok(picked)
-        }
+    let activity = Activity { alloc, problem };
+    match tree_down(alloc, &activity, guard) {
+        Ok(active) => Ok(active),
+        Err(BuildFault::TooWide(_)) => unreachable!(),
+        Err(BuildFault::OutOfMemory) => Err(OutOfMemory),
     }
 }
 

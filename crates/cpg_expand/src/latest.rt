@@ -7,7 +7,7 @@ ghost use Rattle.cpg_base.specs.Order.{place};
 ghost use Rattle.cpg_expand.specs.Earlier.{AreAlong, IsBothTree};
 ghost use Rattle.cpg_expand.specs.Agreeing.{IsTree};
 ghost use Rattle.cpg_expand.specs.Forest.{HasTrees, ends_of, heard_delay, heard_tree, times_of};
-ghost use Rattle.cpg_expand.specs.Latest.{HasEnded, HasEndedOf, HasHeardOf, HasInput, HasInputOf, HasLater, HasQueued, HasQueuedOf, IsLatestSend, IsLatestStart, IsRaised, or_later};
+ghost use Rattle.cpg_expand.specs.Latest.{HasEnded, HasEndedOf, HasHeard, HasHeardOf, HasInput, HasInputOf, HasLater, HasQueued, HasQueuedOf, IsLatestSend, IsLatestStart, IsRaised, or_later};
 ghost use Rattle.cpg_expand.specs.Tops.{IsTop};
 ghost use Rattle.cpg_tree_columns.specs.Meeting.{HasWhere};
 
@@ -160,6 +160,35 @@ fn both(
     Ok(both)
 }
 
+/// A time, or when a node has heard a condition at the latest where a guard of a span tests it, before a place and where a tree is
+/// true, whichever is greater.
+fn after_asked(
+    alloc: Global,
+    span: &NodeSpan<'_>,
+    forest: &Forest,
+    active: &Tree<bool>,
+    to: u32,
+    condition: u32,
+    latest: u64,
+) -> Result<u64, OutOfMemory>
+    requires along { AreAlong span.now.problem.now span.now.guards.now span.now.order.now }
+    requires forest { HasTrees span.now.problem.now forest.now }
+    requires active { IsTree span.now.problem.now active.now }
+    requires condition { condition < condition_count span.now.problem.now }
+    ensures { IfOk result (IsRaised span.now.problem.now
+        (HasHeard span.now.problem.now span.now.order.now span.now.guards.now forest.now active.now span.now.node span.now.from to condition) latest) }
+{
+    let problem = span.problem;
+    // where it is heard no later, it doesn't matter which guards test it
+    if after_condition(problem, forest, span.node, condition, active, latest) == latest {
+        return Ok(latest);
+    }
+    let asked = asked(alloc, span, to, condition)?;
+    let wanted = both(alloc, problem, &asked, active)?;
+    let heard = after_condition(problem, forest, span.node, condition, &wanted, latest);
+    Ok(heard)
+}
+
 /// A time, or when a node has heard at the latest what a guard of a span tests, before a place and where a tree is true,
 /// whichever is greater.
 fn after_hearing(
@@ -177,12 +206,9 @@ fn after_hearing(
         (HasHeardOf span.now.problem.now span.now.order.now span.now.guards.now forest.now active.now span.now.node span.now.from to
         (condition_count span.now.problem.now)) first) }
 {
-    let problem = span.problem;
     let mut latest = first;
-    for condition in 0..problem.conditions() {
-        let asked = asked(alloc, span, to, condition)?;
-        let wanted = both(alloc, problem, &asked, active)?;
-        latest = after_condition(problem, forest, span.node, condition, &wanted, latest);
+    for condition in 0..span.problem.conditions() {
+        latest = after_asked(alloc, span, forest, active, to, condition, latest)?;
     }
     Ok(latest)
 }

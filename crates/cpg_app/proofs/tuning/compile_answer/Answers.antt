@@ -3,6 +3,7 @@ use Rattle.cpg_order.specs.Urgency.{first_order}
 use Rattle.cpg_reach.specs.Wide.{IsNarrow}
 use Rattle.cpg_core.specs.declared.fault.CompileFault.{CompileFault}
 use Rattle.cpg_core.specs.Compilation.{ShowsCompileFault}
+use Rattle.cpg_core.proofs.AcceptedTables.{accepted_have_tables}
 use Rattle.cpg_core.proofs.CompiledLaws.{none_or_some}
 use Rattle.cpg_app.proofs.tuning.compile_answer.Goals as goal
 
@@ -14,7 +15,8 @@ returns-in-Ok c =
       | inl ungiven ↦ c.in-Ok.ensures.accepted.compiled.narrow ungiven
       | inr given ↦ (rw c.in_default.is at c.in_ok-item.ensures.none) given
     ] in
-    (narrow, c.in-Ok.ensures.accepted)
+    let tables = accepted_have_tables g urgency c.args.admitted.now.guards c.in-Ok.finish c.first_order-order.ensures.admitted narrow c.in-Ok.ensures.accepted in
+    (narrow, tables.0, tables.1, tables.2)
 
 pub returns-in-Err-Late : goal.returns-in-Err-Late
 returns-in-Err-Late c =

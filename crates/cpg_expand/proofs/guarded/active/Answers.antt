@@ -1,0 +1,5 @@
+use Rattle.cpg_expand.proofs.PartsKnown.{any_leaves}
+use Rattle.cpg_expand.proofs.guarded.active.Goals as goal
+
+pub tree_down-requires-clause-leaves : goal.tree_down-requires-clause-leaves
+tree_down-requires-clause-leaves c = any_leaves c.args.guard.now
