@@ -18,7 +18,7 @@ use Rattle.cpg_base.specs.Scenario.{Scenario, number_of}
 use Rattle.cpg_cube.specs.declared.literal.Literal.{Literal}
 use Rattle.cpg_cube.specs.Cube.{IsRising, holds, matches}
 use Rattle.cpg_cube.proofs.CubeLows.{holds-low, holds-high, holds-from}
-use Rattle.cpg_tree.specs.declared.node.TreeNode.{TreeNode}
+use Rattle.cpg_tree.specs.TreeNode.{TreeNode}
 use Rattle.cpg_row_trees.specs.declared.places.Sorted.{Sorted}
 use Rattle.cpg_tree.specs.declared.space.Lifted.{Lifted}
 use Rattle.cpg_tree.specs.declared.space.Space.{Space}

@@ -8,7 +8,7 @@ use Rattle.cpg_base.proofs.Lists.{Contains-nil}
 use Rattle.cpg_base.specs.Scenario.{Scenario, number_of}
 use Rattle.cpg_cube.specs.declared.literal.Literal.{Literal}
 use Rattle.cpg_cube.proofs.CubeLows.{holds-low, holds-high}
-use Rattle.cpg_tree.specs.declared.node.TreeNode.{TreeNode}
+use Rattle.cpg_tree.specs.TreeNode.{TreeNode}
 use Rattle.cpg_row_trees.specs.declared.places.Spot.{Spot}
 use Rattle.cpg_row_trees.specs.declared.places.Sorted.{Sorted}
 use Rattle.cpg_tree.specs.declared.space.Space.{Space}

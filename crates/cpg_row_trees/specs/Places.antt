@@ -3,7 +3,7 @@ use Rattle.std.specs.Prelude.{ℕ, ◌≡◌, ◌<◌, true, List, [], Option, N
 use Rattle.cpg_base.specs.Scenario.{Scenario}
 use Rattle.cpg_cube.specs.Cube.{matches}
 use Rattle.cpg_cube.specs.declared.literal.Literal.{Literal}
-use Rattle.cpg_tree.specs.declared.node.TreeNode.{TreeNode}
+use Rattle.cpg_tree.specs.TreeNode.{TreeNode}
 use Rattle.cpg_row_trees.specs.declared.places.Places.{Places}
 use Rattle.cpg_tree.specs.declared.space.Space.{Space}
 use Rattle.cpg_tree.specs.Space.{Lies}

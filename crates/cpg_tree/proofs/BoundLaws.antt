@@ -1,5 +1,5 @@
 -- The bounds of the forks on the sides of a fork.
-use Rattle.std.proofs.Common.{ℕ, ◌≡◌, min, List, [], ◌∷◌, ◌++◌, length, take, drop, Bool, true, arith, refl, sym, ap, ◌∙◌, Box, Global}
+use Rattle.std.proofs.Common.{ℕ, ◌≡◌, min, List, [], ◌∷◌, ◌++◌, length, take, drop, Bool, true, arith, refl, sym, ap, ◌∙◌}
 use Rattle.std.specs.Prelude.{nat_le}
 use Rattle.std.specs.List.{IsLastAndRest}
 use Rattle.std.proofs.lemmas.Bool.{leb-true}
@@ -7,7 +7,7 @@ use Rattle.std.proofs.lemmas.List.{append_cancel_left, length-append}
 use Rattle.std.proofs.Math.Seq.{take-append_seam, drop-append_seam}
 use Rattle.cpg_tree.specs.declared.bounds.Bound.{Bound}
 use Rattle.cpg_tree.specs.declared.bounds.Span.{Span}
-use Rattle.cpg_tree.specs.declared.node.TreeNode.{TreeNode, Fork'}
+use Rattle.cpg_tree.specs.TreeNode.{TreeNode, Fork}
 use Rattle.cpg_tree.specs.Bounds.{AreAbove, AreBelow, bounds_in, span_in}
 use Rattle.cpg_tree.specs.Greater.{IsAtLeast}
 use Rattle.cpg_tree.proofs.Greatness.{least_under, most_over}
@@ -41,9 +41,9 @@ module _ (bounds sides : List Bound) (last : Bound) (cut : IsLastAndRest bounds 
   above_is e = ap (λ n. drop n sides) (forks_are (ap (λ (b : Bound). b.forks) last_is ∙ e)) ∙ ap (drop (length front)) sides_are ∙ drop-append_seam front back
 
 -- the bounds of the sides of a tree that is a fork
-module _ {T : Type 0} (number : T → ℕ) (v cut : ℕ) (below above n : TreeNode T) {p : Box (Unit {0}) Global} (is : n ≡ Fork' v cut p below above) (bounds part : List Bound)
+module _ {T : Type 0} (number : T → ℕ) (v cut : ℕ) (below above n : TreeNode T) (is : n ≡ Fork v cut below above) (bounds part : List Bound)
     (are : bounds ≡ bounds_in number n) where
-  fork_are : bounds ≡ bounds_in number (Fork' v cut p below above)
+  fork_are : bounds ≡ bounds_in number (Fork v cut below above)
   fork_are = are ∙ ap (bounds_in number) is
 
   pub side_below : AreBelow bounds part → part ≡ bounds_in number below

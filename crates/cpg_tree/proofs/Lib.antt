@@ -17,3 +17,9 @@ pub mod OnePath
 pub mod AtLeast
 pub mod Readings
 pub mod Where
+pub mod Flats
+pub mod ForkLaws
+pub mod MapLaws
+pub mod Moves
+pub mod AtLaws
+pub mod JoinLaws

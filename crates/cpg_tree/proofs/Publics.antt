@@ -3,7 +3,7 @@ use Rattle.std.proofs.Common.{ℕ, ◌≡◌, min, Bool, true, false, List, if�
 use Rattle.cpg_base.specs.Scenario.{Scenario}
 use Rattle.cpg_cube.specs.Cube.{low_in, high_in}
 use Rattle.cpg_base.specs.Variable.{top}
-use Rattle.cpg_tree.specs.declared.node.TreeNode.{TreeNode}
+use Rattle.cpg_tree.specs.TreeNode.{TreeNode}
 use Rattle.cpg_tree.specs.Space.{Space, Lies, HasFew, IsWhole}
 use Rattle.cpg_tree.specs.Decision.{value_at, low_at, high_at, IsGood, IsFit, DoForksPass}
 use Rattle.cpg_tree.specs.Paths.{paths_of}

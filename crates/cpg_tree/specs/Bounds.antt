@@ -2,7 +2,7 @@
 use Rattle.std.specs.Prelude.{ℕ, ◌≡◌, max, min, List, [], ◌∷◌, ◌++◌, length}
 use Rattle.cpg_tree.specs.declared.bounds.Bound.{Bound}
 use Rattle.cpg_tree.specs.declared.bounds.Span.{Span}
-use Rattle.cpg_tree.specs.declared.node.TreeNode.{TreeNode, Leaf, Fork'}
+use Rattle.cpg_tree.specs.TreeNode.{TreeNode, Leaf, Fork}
 use Rattle.cpg_tree.specs.Greater.{least_in, most_in}
 
 -- the least and the greatest number of a tree
@@ -12,7 +12,7 @@ span_in number node = record { least = least_in number node; most = most_in numb
 -- a bound of each fork, behind those of its sides
 abbrev pub bounds_in : {T : Type 0} → (T → ℕ) → TreeNode T → List Bound
 bounds_in number (Leaf x) = []
-bounds_in number (Fork' v cut p below above) = bounds_in number below ++ bounds_in number above ++ (record {
+bounds_in number (Fork v cut below above) = bounds_in number below ++ bounds_in number above ++ (record {
   span = record { least = min (least_in number below) (least_in number above); most = max (most_in number below) (most_in number above) };
   forks = length (bounds_in number below);
 } ∷ [])

@@ -1,3 +1,4 @@
+pub mod TreeNode
 pub mod Asked
 pub mod Space
 pub mod Decision
@@ -9,3 +10,6 @@ pub mod Greater
 pub mod Bounds
 pub mod Later
 pub mod Read
+pub mod Flat
+pub mod ReadBack
+pub mod Added

@@ -3,7 +3,7 @@ use Rattle.std.specs.Prelude.{ℕ, ◌+◌, ◌≡◌, ◌≢◌, ◌≤◌, Boo
 use Rattle.cpg_base.specs.Graph.{Graph, process_count, condition_count, value_variable}
 use Rattle.cpg_base.specs.Scenario.{number_of_value, Scenario, number_of}
 use Rattle.cpg_base.specs.Variable.{top}
-use Rattle.cpg_tree.specs.declared.node.TreeNode.{TreeNode}
+use Rattle.cpg_tree.specs.TreeNode.{TreeNode}
 use Rattle.cpg_tree.specs.Space.{Space}
 use Rattle.cpg_tree.specs.Decision.{value_at, low_at, high_at}
 

@@ -2,20 +2,22 @@
 #![tactic(auto)]
 
 mod asked;
+mod at;
 mod bounds;
-mod choosing;
-mod greater;
-mod node;
-mod picking;
+mod fork;
+mod item;
+mod join;
+mod map;
 mod reading;
 mod space;
 mod tally;
+mod top;
 mod tree;
-mod variables;
 
-pub use node::TreeNode;
+pub use fork::fork_of;
+pub use item::Item;
 pub use reading::{AsIs, Later, Reading, time_later};
 pub use space::Space;
 pub use tally::{Parting, Tally};
+pub use top::{Top, top_of};
 pub use tree::Tree;
-pub use variables::{fault, value};

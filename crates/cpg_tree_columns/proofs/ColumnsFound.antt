@@ -8,7 +8,7 @@ use Rattle.cpg_base.specs.Variable.{top}
 use Rattle.cpg_cube.specs.declared.literal.Literal.{Literal}
 use Rattle.cpg_cube.specs.Cube.{low_in, high_in}
 use Rattle.cpg_cube.specs.Narrow.{narrowed_by, meet_literal, range_left, with_literal}
-use Rattle.cpg_tree.specs.declared.node.TreeNode.{TreeNode, Leaf, Fork'}
+use Rattle.cpg_tree.specs.TreeNode.{TreeNode, Leaf, Fork}
 use Rattle.cpg_tree.specs.declared.space.Space.{Space}
 use Rattle.cpg_tree.specs.Space.{is_open_below, is_open_above, below_cut, above_cut}
 use Rattle.cpg_tree.specs.Decision.{IsFit, IsGood}
@@ -74,7 +74,7 @@ flat_both xs ys = flat_map-append (λ (p : Path (Option ℕ)). column_of p.0 p.1
 pub columns_are : (k : ℕ) (node : TreeNode (Option ℕ)) (room : Space) (cube : List Literal) → IsRoom k room → IsTold k room cube → IsFit room node →
     columns_from k cube node ≡ columns_of_paths (paths_from k cube node)
 columns_are k (Leaf x) room cube is told fit = sym (append-nil (column_of cube x))
-columns_are k (Fork' v cut p below upper) room cube is told fit =
+columns_are k (Fork v cut below upper) room cube is told fit =
     ap₂ ◌++◌
     (ap (λ (o : Option (List Literal)). option_map_or (λ c. columns_from k c below) o []) (some_below k room is v cut fit.0 fit.1 fit.2 cube told)
     ∙ columns_are k below (below_cut room v cut) (narrowed_by (up_to v cut) cube) (room_below k room is v cut fit.0 fit.1 fit.2) (told_below k room is v cut fit.0 fit.1 fit.2 cube told) fit.3)

@@ -1,5 +1,5 @@
 -- If the columns of paths stand by their least scenarios, the first with a time has the least scenario with it.
-use Rattle.std.proofs.Common.{ℕ, ◌+◌, ◌≤◌, ◌≡◌, ◌≢◌, ◌==◌, true, false, List, [], ◌∷◌, ◌++◌, get_or, Option, Some, None, unwrap_or, option_map, Box, Global, All, Contains, IsPermutation, refl, sym}
+use Rattle.std.proofs.Common.{ℕ, ◌+◌, ◌≤◌, ◌≡◌, ◌≢◌, ◌==◌, true, false, List, [], ◌∷◌, ◌++◌, get_or, Option, Some, None, unwrap_or, option_map, All, Contains, IsPermutation, refl, sym}
 use Rattle.std.proofs.Common.{ap, ap₂, ◌∙◌, subst, inl, inr, eq-eqb, ne_eqb}
 use Rattle.std.specs.Option.{IfNone, IfSome, option_map_or}
 use Rattle.std.proofs.lemmas.Bool.{cases_eq, cond-true, cond-false}
@@ -24,7 +24,7 @@ use Rattle.cpg_cube.specs.declared.cube.Narrowing.{Narrowing}
 use Rattle.cpg_cube.specs.Undo.{IsUndo, restored}
 use Rattle.cpg_cube.proofs.CubeLows.{lows-least}
 use Rattle.cpg_cube.proofs.KeyLows.{lows_are_key}
-use Rattle.cpg_tree.specs.declared.node.TreeNode.{TreeNode, Fork'}
+use Rattle.cpg_tree.specs.TreeNode.{TreeNode, Fork}
 use Rattle.cpg_tree.specs.Decision.{IsGood}
 use Rattle.cpg_tree.specs.Paths.{up_to, above, paths_of}
 use Rattle.cpg_tree.specs.Tree.{Path}
@@ -61,7 +61,7 @@ module _ (wanted : ℕ) where
 
   -- ---- on the way down
 
-  module _ (k : ℕ) (cube : List Literal) (v cut : ℕ) (below upper node : TreeNode (Option ℕ)) {p : Box (Unit {0}) Global} (is : node ≡ Fork' v cut p below upper) where
+  module _ (k : ℕ) (cube : List Literal) (v cut : ℕ) (below upper node : TreeNode (Option ℕ)) (is : node ≡ Fork v cut below upper) where
     of_below : (low : List Literal) → with_literal (up_to v cut) cube ≡ Some low → option_map_or (λ c. columns_from k c below) (with_literal (up_to v cut) cube) [] ≡ columns_from k low below
     of_below low e = ap (λ (o : Option (List Literal)). option_map_or (λ c. columns_from k c below) o []) e
 

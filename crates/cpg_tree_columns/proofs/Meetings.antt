@@ -1,6 +1,6 @@
 -- A scenario that two trees come to in a space, and the greatest number of the one where the other is true.
 use Rattle.std.proofs.Common.{ℕ, ◌+◌, ◌-◌, ◌<◌, ◌≤◌, ◌≡◌, Bool, true, false, nat_lt, Option, Some, None, unwrap_or, get_or, length, sum_by, arith, refl, sym, ap, ◌∙◌, subst, inl, inr, ◌⊎◌, lt-ltb}
-use Rattle.std.proofs.Common.{le-ltb, Box, Global}
+use Rattle.std.proofs.Common.{le-ltb}
 use Rattle.std.specs.Prelude.{nat_le}
 use Rattle.std.specs.Option.{IfNone, IfSome}
 use Rattle.std.specs.Bool.{OnTrue}
@@ -15,7 +15,7 @@ use Rattle.cpg_base.proofs.Sums.{sum_changed, same_sum_by, sum_by_zeros}
 use Rattle.cpg_base.specs.Scenario.{Scenario, IsScenario, number_of, fault_of, number_of_value}
 use Rattle.cpg_cube.specs.Fit.{scenario_of}
 use Rattle.cpg_cube.proofs.Boxes.{made_number, made_lawful}
-use Rattle.cpg_tree.specs.declared.node.TreeNode.{TreeNode, Leaf, Fork'}
+use Rattle.cpg_tree.specs.TreeNode.{TreeNode, Leaf, Fork}
 use Rattle.cpg_tree.specs.Decision.{value_at, IsGood}
 use Rattle.cpg_tree_columns.specs.Meeting.{AreForksOf, AreOf, ComesTo, HasWhere, IsFoundIn, IsMetIn, IsMostIn, IsMostWhere, IsNowhere, IsReachedWhere, IsRoomOf, IsUpTo}
 use Rattle.cpg_tree.specs.Paths.{paths_of}
@@ -220,12 +220,12 @@ pub leaf_met : (room : Space) (node : TreeNode Bool) (b : Bool) → node ≡ Lea
 leaf_met room node true is = true_leaf room node true is refl
 leaf_met room node false is = tt
 
-module _ (v cut : ℕ) (there : v < 256) (low high node : TreeNode Bool) {p : Box (Unit {0}) Global} (is : node ≡ Fork' v cut p low high) (room : Space) where
+module _ (v cut : ℕ) (there : v < 256) (low high node : TreeNode Bool) (is : node ≡ Fork v cut low high) (room : Space) where
   low_is : (s : Scenario) → number_of s v ≤ cut → value_at node s ≡ value_at low s
-  low_is s h = ap (λ (n : TreeNode Bool). value_at n s) is ∙ value_below v cut p low high s h
+  low_is s h = ap (λ (n : TreeNode Bool). value_at n s) is ∙ value_below v cut low high s h
 
   high_is : (s : Scenario) → cut < number_of s v → value_at node s ≡ value_at high s
-  high_is s h = ap (λ (n : TreeNode Bool). value_at n s) is ∙ value_above v cut p low high s h
+  high_is s h = ap (λ (n : TreeNode Bool). value_at n s) is ∙ value_above v cut low high s h
 
   low_parts : (g : Graph) → AreForksOf g node node → IsVariable g v × AreForksOf g low low
   low_parts g forks =
@@ -296,12 +296,12 @@ most_leaf room node wanted (Some number) best is some met = record {
     same_up : (m n : ℕ) → Some m ≡ Some n → n ≤ m
     same_up m n e = omega (arith, ap (λ o. unwrap_or o 0) e)
 
-module _ (v cut : ℕ) (there : v < 256) (low high node : TreeNode (Option ℕ)) {p : Box (Unit {0}) Global} (is : node ≡ Fork' v cut p low high) (wanted : TreeNode Bool) (room : Space) where
+module _ (v cut : ℕ) (there : v < 256) (low high node : TreeNode (Option ℕ)) (is : node ≡ Fork v cut low high) (wanted : TreeNode Bool) (room : Space) where
   low_value : (s : Scenario) → number_of s v ≤ cut → value_at node s ≡ value_at low s
-  low_value s h = ap (λ (n : TreeNode (Option ℕ)). value_at n s) is ∙ value_below v cut p low high s h
+  low_value s h = ap (λ (n : TreeNode (Option ℕ)). value_at n s) is ∙ value_below v cut low high s h
 
   high_value : (s : Scenario) → cut < number_of s v → value_at node s ≡ value_at high s
-  high_value s h = ap (λ (n : TreeNode (Option ℕ)). value_at n s) is ∙ value_above v cut p low high s h
+  high_value s h = ap (λ (n : TreeNode (Option ℕ)). value_at n s) is ∙ value_above v cut low high s h
 
   low_forks : (g : Graph) → AreForksOf g node wanted → IsVariable g v × AreForksOf g low wanted
   low_forks g forks =

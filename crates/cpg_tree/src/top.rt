@@ -1,0 +1,44 @@
+//! The top of a tree in a list.
+ghost use Rattle.cpg_tree.specs.Flat.{IsFlat, ShowsTop, IsLess};
+
+use crate::item::Item;
+
+/// A value, or a fork with the lists of its sides.
+#[derive(Clone, Copy)]
+pub enum Top<'a, T> {
+    Value(T),
+    Cut {
+        variable: u8,
+        cut: u8,
+        below: &'a [Item<T>],
+        above: &'a [Item<T>],
+    },
+}
+
+/// The top of the tree that a list is of.
+#[inline]
+pub fn top_of<T: Copy>(items: &[Item<T>]) -> Top<'_, T>
+    requires { IsFlat items.now }
+    ensures shows { ShowsTop items.now result }
+    ensures less { IsLess items.now result }
+{
+    let Some((last, sides)) = items.split_last() else {
+        unreachable!();
+    };
+    match *last {
+        Item::Value(value) => Top::Value(value),
+        Item::Cut {
+            variable,
+            cut,
+            below,
+        } => {
+            let (below, above) = sides.split_at((below as usize).min(sides.len()));
+            Top::Cut {
+                variable,
+                cut,
+                below,
+                above,
+            }
+        }
+    }
+}
