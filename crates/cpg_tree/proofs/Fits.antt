@@ -166,7 +166,7 @@ pub fits_joined : {T : Type 0} (below near far_above above : TreeNode T) (room :
     cut < far →
     is_open_below room v cut ≡ true → IsFit (below_cut room v cut) below → IsFit (above_cut room v cut) above →
     (v < 256) × (is_open_below room v far ≡ true) × (is_open_above room v far ≡ true) × IsFit (below_cut room v far) below × IsFit (above_cut room v far) far_above
-fits_joined {T} below near far_above above {p} room v cut next far is same less under fit_below fit_above =
+fits_joined {T} below near far_above above room v cut next far is same less under fit_below fit_above =
     let fit = subst (λ (u : ℕ). IsFit (above_cut room v cut) (Fork u far near far_above)) same (subst (λ (n : TreeNode T). IsFit (above_cut room v cut) n) is fit_above) in (
       fit.0,
       joined_open_below room v cut far less under,
