@@ -25,3 +25,4 @@ pub mod AtLaws
 pub mod JoinLaws
 pub mod PickLaws
 pub mod GoodLists
+pub mod VariableLaws
