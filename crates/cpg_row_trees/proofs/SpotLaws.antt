@@ -97,7 +97,8 @@ module _ (cubes : List (List Literal)) (room one two : Space) (places low high :
   sorted_parted =
       let lo = of_one.told in
       let hi = of_two.told in
-      let fork = forks old.items.items lo.0 hi.0 (split_of start middle old.items.items half.items.items full.items.items lo.0 hi.0 (subst (λ xs. half.items.items ≡ xs ++ flat lo.0) kept lo.1) hi.1 first second) in
+      let of_low = subst (λ xs. half.items.items ≡ xs ++ flat lo.0) kept lo.1 in
+      let fork = forks old.items.items lo.0 hi.0 (split_of start middle old.items.items half.items.items full.items.items lo.0 hi.0 of_low hi.1 first second) in
       record {
         told = (fork.0, fork.1, told_parted cubes room one two places low high v cut lo.0 hi.0 fork.0 fork.2.made keeps_below keeps_above lo.2 hi.2 goes_one goes_two);
         fewer = omega (arith, of_one.fewer, of_two.fewer, less, as_full);

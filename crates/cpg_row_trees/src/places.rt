@@ -103,7 +103,7 @@ impl TreeGrowth {
 
     /// Whether there may be one more item, which is counted.
     pub(crate) fn may_grow(&mut self) -> bool
-        ensures items { self.new.items ≡ self.old.items }
+        ensures items { self.new.items.items ≡ self.old.items.items }
         ensures left { OnTrue result (self.new.left < self.old.left) }
     {
         if self.left == 0 {

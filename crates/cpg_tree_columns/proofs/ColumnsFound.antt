@@ -1,5 +1,6 @@
 -- The columns that are found on the way down a tree that fits are those of its paths.
-use Rattle.std.proofs.Common.{ℕ, ◌+◌, ◌<◌, ◌≤◌, ◌≡◌, max, min, ◌==◌, nat_lt, true, List, [], ◌∷◌, ◌++◌, Some, Option, arith, sym, ap, ap₂, ◌∙◌, subst, inl, inr, eq-eqb, ne_eqb, lt-ltb, le-ltb, append_assoc}
+use Rattle.std.proofs.Common.{ℕ, ◌+◌, ◌<◌, ◌≤◌, ◌≡◌, max, min, ◌==◌, nat_lt, true, List, [], ◌∷◌, ◌++◌, Some, Option, arith, sym, ap, ap₂, ◌∙◌, subst, inl, inr, eq-eqb, ne_eqb}
+use Rattle.std.proofs.Common.{lt-ltb, le-ltb, append_assoc}
 use Rattle.std.specs.Option.{option_map_or}
 use Rattle.std.proofs.lemmas.Bool.{cases_eq, cases_lt, cond-true, cond-false, le-leb}
 use Rattle.std.proofs.lemmas.List.{append-nil}

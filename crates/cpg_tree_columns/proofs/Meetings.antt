@@ -1,6 +1,6 @@
 -- A scenario that two trees come to in a space, and the greatest number of the one where the other is true.
-use Rattle.std.proofs.Common.{ℕ, ◌+◌, ◌-◌, ◌<◌, ◌≤◌, ◌≡◌, Bool, true, false, nat_lt, Option, Some, None, List, unwrap_or, get_or, length, sum_by, arith, refl, sym, ap, ◌∙◌, subst, inl, inr, ◌⊎◌, lt-ltb}
-use Rattle.std.proofs.Common.{le-ltb}
+use Rattle.std.proofs.Common.{ℕ, ◌+◌, ◌-◌, ◌<◌, ◌≤◌, ◌≡◌, Bool, true, false, nat_lt, Option, Some, None, List, unwrap_or, get_or, length, sum_by, arith, refl, sym, ap, ◌∙◌, subst, inl, inr, ◌⊎◌}
+use Rattle.std.proofs.Common.{le-ltb, lt-ltb}
 use Rattle.std.specs.Prelude.{nat_le}
 use Rattle.std.specs.Option.{IfNone, IfSome}
 use Rattle.std.specs.Bool.{OnFalse, OnTrue}

@@ -1,7 +1,10 @@
-use Rattle.std.proofs.Common.{map, Bor, List, subst, sym, refl, arith, ◌≡◌, ◌≤◌, ◌<◌, ◌∙◌}
+use Rattle.std.proofs.Common.{ℕ, map, Bor, List, Option, subst, sym, ap, refl, arith, ◌≡◌, ◌≤◌, ◌<◌, ◌++◌, ◌∙◌}
 use Rattle.std.proofs.lemmas.Bool.{OnTrue_at}
 use Rattle.cpg_base.specs.Scenario.{number_of}
 use Rattle.cpg_cube.specs.declared.literal.Literal.{Literal}
+use Rattle.cpg_tree.specs.TreeNode.{TreeNode, Leaf}
+use Rattle.cpg_tree.specs.Flat.{flat}
+use Rattle.cpg_tree.specs.declared.item.Item.{Item}
 use Rattle.cpg_tree.specs.declared.space.Space.{Space}
 use Rattle.cpg_tree.specs.Space.{Lies}
 use Rattle.cpg_row_trees.specs.declared.places.PlaceCut.{PlaceCut}
@@ -53,3 +56,11 @@ forked-returns t c =
           (λ s lies. c.close_above-most.ensures.lies s (subst (λ (r : Space). Lies r s) (sym kept) lies)) goes_over;
       same = below_again again over c.sorted_out-2.new.space c.reopen_below.new.self v same_over c.close_below-was.result c.reopen_below.ensures c.close_below-was.ensures.back ∙ back;
     }
+
+pub sorted_out-returns-in_ok-add_leaf-in-Leaf-clause-sorted : goal.sorted_out-returns-in_ok-add_leaf-in-Leaf-clause-sorted
+sorted_out-returns-in_ok-add_leaf-in-Leaf-clause-sorted t c =
+    let cubes : List (List Literal) = map (λ (b : Bor (List Literal)). b.now) c.args.cubes.now in
+    let leaf : TreeNode (Option ℕ) = Leaf c.in-Leaf.place in
+    sorted_leaf cubes c.args.space.now (places_of c.args.spots.items) c.in-Leaf.place c.args.growth.now c.add_leaf.new.self (rw c.as_slice.ensures.value at c.in-Leaf.ensures)
+    (c.in_ok-add_leaf-in-Leaf.ensures.items ∙ ap (λ (xs : List (Item (Option ℕ))). xs ++ flat leaf) c.may_grow.ensures.items)
+    (omega (arith, c.in_ok-add_leaf-in-Leaf.ensures.left, OnTrue_at c.if-not-may_grow.false c.may_grow.ensures.left))

@@ -15,8 +15,8 @@ grown-requires c =
     let told = (OnTrue_at c.if-not-has_tree.false c.in_ok-has_tree.ensures.sorted).told in
     (told.0, all_added c.in_ok-growth.growth.items.items c.sorted_out.new.growth.items.items told.0 c.in_ok-growth.ensures.items told.1)
 
-pub returns-else-not-has_tree : goal.returns-else-not-has_tree
-returns-else-not-has_tree c s few =
+pub returns : goal.returns
+returns c s few =
     let cubes : List (List Literal) = map (λ (b : Bor (List Literal)). b.now) c.args.cubes.now in
     let told = (OnTrue_at c.if-not-has_tree.false c.in_ok-has_tree.ensures.sorted).told in
     let is = all_added c.in_ok-growth.growth.items.items c.sorted_out.new.growth.items.items told.0 c.in_ok-growth.ensures.items told.1 in

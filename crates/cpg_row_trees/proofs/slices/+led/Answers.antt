@@ -1,6 +1,9 @@
-use Rattle.std.proofs.Common.{arith, rules, refl, map, ap, length, Bor, List, ◌≡◌, ◌∙◌, ◌&&◌}
+use Rattle.std.proofs.Common.{ℕ, arith, rules, refl, map, ap, length, Bor, List, Option, ◌≡◌, ◌++◌, ◌∙◌, ◌&&◌}
 use Rattle.std.proofs.lemmas.Bool.{OnTrue_at}
 use Rattle.cpg_cube.specs.declared.literal.Literal.{Literal}
+use Rattle.cpg_tree.specs.TreeNode.{TreeNode, Leaf}
+use Rattle.cpg_tree.specs.Flat.{flat}
+use Rattle.cpg_tree.specs.declared.item.Item.{Item}
 use Rattle.cpg_tree.specs.declared.space.Space.{Space}
 use Rattle.cpg_cube.specs.Cube.{holds, matches}
 use Rattle.cpg_row_trees.specs.declared.places.TreeGrowth.{TreeGrowth}
@@ -83,3 +86,11 @@ pub led_apart-leave-requires-2 : goal.led_apart-leave-requires-2
 led_apart-leave-requires-2 t c =
     let same_above : c.led-2.new.path.items ≡ c.enter-2.new.path.items = OnTrue_at c.if-not-has_above.false c.in_ok-has_above.ensures.path in
     omega (arith, ap (λ (ls : List Literal). length ls) same_above, c.in_ok-over.ensures.some)
+
+pub led-returns-in_ok-add_leaf-in-Leaf-clause-led : goal.led-returns-in_ok-add_leaf-in-Leaf-clause-led
+led-returns-in_ok-add_leaf-in-Leaf-clause-led t c =
+    let cubes : List (List Literal) = map (λ (b : Bor (List Literal)). b.now) c.args.cubes.now in
+    let leaf : TreeNode (Option ℕ) = Leaf c.in-Leaf.place in
+    led_leaf cubes c.args.k c.args.space.now c.args.slice.from c.args.slice.to c.in-Leaf.place c.args.growth.now c.add_leaf.new.self c.in-Leaf.ensures
+    (c.in_ok-add_leaf-in-Leaf.ensures.items ∙ ap (λ (xs : List (Item (Option ℕ))). xs ++ flat leaf) c.may_grow.ensures.items)
+    (omega (arith, c.in_ok-add_leaf-in-Leaf.ensures.left, OnTrue_at c.if-not-may_grow.false c.may_grow.ensures.left))

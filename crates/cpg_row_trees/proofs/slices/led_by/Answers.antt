@@ -21,8 +21,8 @@ grown-requires c =
     let leads = (OnTrue_at c.if-not-has_tree.false c.in_ok-has_tree.ensures.led).leads in
     (leads.0, all_added c.in_ok-growth.growth.items.items c.led.new.growth.items.items leads.0 c.in_ok-growth.ensures.items leads.1)
 
-pub returns-else-not-has_tree : goal.returns-else-not-has_tree
-returns-else-not-has_tree c s few =
+pub returns : goal.returns
+returns c s few =
     let cubes : List (List Literal) = map (λ (b : Bor (List Literal)). b.now) c.args.cubes.now in
     let leads = (OnTrue_at c.if-not-has_tree.false c.in_ok-has_tree.ensures.led).leads in
     let is = all_added c.in_ok-growth.growth.items.items c.led.new.growth.items.items leads.0 c.in_ok-growth.ensures.items leads.1 in

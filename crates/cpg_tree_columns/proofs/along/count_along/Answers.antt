@@ -9,9 +9,12 @@ use Rattle.cpg_tree_columns.proofs.along.count_along.Goals as goal
 
 pub returns : goal.returns
 returns c =
+    let root : TreeNode (Option ℕ) = c.items.ensures.flat.0 in
+    let are = c.items.ensures.flat.1 in
+    let good = c.items.ensures.good root are in
+    let seen_paths = c.items.ensures.paths root are in
     let g = c.args.problem.now in
     let order = c.args.order.now in
     let k : ℕ = c.args.tree.now.faults in
-    let root : TreeNode (Option ℕ) = c.items.ensures.flat.0 in
-    IfSome_then c.leaves_along-count.result c.leaves_along-count.ensures (λ count along. subst (AreByLows (λ (c : Column). c.cube) g order) (ap columns_of_paths (sym (c.items.ensures.paths c.items.ensures.flat.0 c.items.ensures.flat.1)))
-    (sorted_columns g order c.in_ok-places.places c.in_ok-places.ensures k root (c.items.ensures.good c.items.ensures.flat.0 c.items.ensures.flat.1) (along c.items.ensures.flat.0 c.items.ensures.flat.1)))
+    IfSome_then c.leaves_along-count.result c.leaves_along-count.ensures (λ count along. subst (AreByLows (λ (c : Column). c.cube) g order) (ap columns_of_paths (sym seen_paths))
+    (sorted_columns g order c.in_ok-places.places c.in_ok-places.ensures k root good (along root are)))

@@ -34,7 +34,8 @@ returns-in_ok-push-in-Value-clause-columns t c n are =
 
 pub returns-in_default-clause-columns : goal.returns-in_default-clause-columns
 returns-in_default-clause-columns t c n are =
-    leaf_columns c.args.k c.args.cube.now c.args.items.now n None c.args.columns.now.items c.args.columns.now.items (rw c.in_default.is at c.in-Value.ensures.shows) are (sym (append-nil c.args.columns.now.items))
+    leaf_columns c.args.k c.args.cube.now c.args.items.now n None c.args.columns.now.items c.args.columns.now.items
+    (rw c.in_default.is at c.in-Value.ensures.shows) are (sym (append-nil c.args.columns.now.items))
 
 pub returns-in_ok-push_columns-in-Some-low-2-clause-columns : goal.returns-in_ok-push_columns-in-Some-low-2-clause-columns
 returns-in_ok-push_columns-in-Some-low-2-clause-columns t c n are =

@@ -18,23 +18,29 @@ push_columns-requires c =
 
 pub returns-clause-all : goal.returns-clause-all
 returns-clause-all c =
-    let k : ℕ = c.args.tree.now.faults in
     let root : TreeNode (Option ℕ) = c.items.ensures.flat.0 in
-    c.in_ok-push_columns.ensures.columns c.items.ensures.flat.0 c.items.ensures.flat.1 ∙ ap₂ ◌++◌ (c.in_ok-reserve.ensures.items ∙ c.new-columns.ensures.items)
+    let are = c.items.ensures.flat.1 in
+    let good = c.items.ensures.good root are in
+    let seen_paths = c.items.ensures.paths root are in
+    let k : ℕ = c.args.tree.now.faults in
+    c.in_ok-push_columns.ensures.columns root are ∙ ap₂ ◌++◌ (c.in_ok-reserve.ensures.items ∙ c.new-columns.ensures.items)
     (ap₂ (λ (m : ℕ) (cube : List Literal). columns_from m cube root) c.faults.ensures c.whole-whole.ensures)
-    ∙ all_columns k root (c.items.ensures.good c.items.ensures.flat.0 c.items.ensures.flat.1) ∙ ap columns_of_paths (sym (c.items.ensures.paths c.items.ensures.flat.0 c.items.ensures.flat.1))
+    ∙ all_columns k root good ∙ ap columns_of_paths (sym seen_paths)
 
 pub returns-clause-tidy : goal.returns-clause-tidy
 returns-clause-tidy c =
+    let root : TreeNode (Option ℕ) = c.items.ensures.flat.0 in
+    let are = c.items.ensures.flat.1 in
+    let good = c.items.ensures.good root are in
+    let seen_paths = c.items.ensures.paths root are in
     let g = c.args.problem.now in
     let k : ℕ = c.args.tree.now.faults in
-    let root : TreeNode (Option ℕ) = c.items.ensures.flat.0 in
     let same : k ≡ g.faults = c.requires.faults in
-    let paths : c.args.tree.now.paths ≡ paths_of g.faults root = (c.items.ensures.paths c.items.ensures.flat.0 c.items.ensures.flat.1) ∙ ap (λ (m : ℕ). paths_of m root) same in
+    let paths : c.args.tree.now.paths ≡ paths_of g.faults root = seen_paths ∙ ap (λ (m : ℕ). paths_of m root) same in
     let is : c.push_columns.new.columns.items ≡ columns_of_paths (paths_of g.faults root) =
-    c.in_ok-push_columns.ensures.columns c.items.ensures.flat.0 c.items.ensures.flat.1 ∙ ap₂ ◌++◌ (c.in_ok-reserve.ensures.items ∙ c.new-columns.ensures.items)
+    c.in_ok-push_columns.ensures.columns root are ∙ ap₂ ◌++◌ (c.in_ok-reserve.ensures.items ∙ c.new-columns.ensures.items)
     (ap₂ (λ (m : ℕ) (cube : List Literal). columns_from m cube root) c.faults.ensures c.whole-whole.ensures)
-    ∙ all_columns k root (c.items.ensures.good c.items.ensures.flat.0 c.items.ensures.flat.1) ∙ ap (λ (m : ℕ). columns_of_paths (paths_of m root)) same in
-    tidy_columns g c.processes-processes.ensures.within.few_processes root (subst (λ (m : ℕ). IsGood m root) same (c.items.ensures.good c.items.ensures.flat.0 c.items.ensures.flat.1))
+    ∙ all_columns k root good ∙ ap (λ (m : ℕ). columns_of_paths (paths_of m root)) same in
+    tidy_columns g c.processes-processes.ensures.within.few_processes root (subst (λ (m : ℕ). IsGood m root) same good)
     (subst (All (λ (p : Path (Option ℕ)). IsKnown g p.0)) paths c.requires.known) c.push_columns.new.columns.items
     (subst (IsPermutation (columns_of_paths (paths_of g.faults root))) (sym is) (IsPermutation-refl (columns_of_paths (paths_of g.faults root))))

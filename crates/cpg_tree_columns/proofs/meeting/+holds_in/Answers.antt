@@ -4,7 +4,7 @@ use Rattle.cpg_tree.specs.declared.space.Space.{Space}
 use Rattle.cpg_tree.specs.Space.{below_cut, above_cut}
 use Rattle.cpg_tree.proofs.Flats.{flat-same}
 use Rattle.cpg_tree.proofs.Forks.{from_false, from_true}
-use Rattle.cpg_tree_columns.proofs.Meetings.{IsTrueIn, IsNeverIn, leaf_met, leaf_never, true_low, true_high, true_below, true_above, never_low, never_high, never_both}
+use Rattle.cpg_tree_columns.proofs.Meetings.{IsTrueIn, leaf_met, leaf_never, true_low, true_high, true_below, true_above, never_low, never_high, never_both}
 use Rattle.cpg_tree.proofs.Passes.{of_true, of_false}
 use Rattle.cpg_tree.proofs.Spaces.{lies_reopened}
 use Rattle.cpg_tree_columns.proofs.meeting.+holds_in.Goals as goal
@@ -19,28 +19,32 @@ pub returns-then-not-is_open_below-clause-met : goal.returns-then-not-is_open_be
 returns-then-not-is_open_below-clause-met t c =
     let shows = c.in-Cut.ensures.shows in
     of_true c.holds_in.result c.holds_in.ensures.met
-    (λ met n are. true_high c.in-Cut.variable c.in-Cut.cut c.in-Cut.ensures.variable shows.0 shows.1 n (flat-same n (Fork c.in-Cut.variable c.in-Cut.cut shows.0 shows.1) (sym are ∙ shows.4)) c.args.space.now
+    (λ met n are. true_high c.in-Cut.variable c.in-Cut.cut c.in-Cut.ensures.variable shows.0 shows.1 n
+    (flat-same n (Fork c.in-Cut.variable c.in-Cut.cut shows.0 shows.1) (sym are ∙ shows.4)) c.args.space.now
     (from_false c.is_open_below.result c.if-not-is_open_below.true c.is_open_below.ensures.none) (met shows.1 shows.3))
 
 pub returns-then-not-is_open_below-clause-never : goal.returns-then-not-is_open_below-clause-never
 returns-then-not-is_open_below-clause-never t c =
     let shows = c.in-Cut.ensures.shows in
     of_false c.holds_in.result c.holds_in.ensures.never
-    (λ never n are. never_high c.in-Cut.variable c.in-Cut.cut c.in-Cut.ensures.variable shows.0 shows.1 n (flat-same n (Fork c.in-Cut.variable c.in-Cut.cut shows.0 shows.1) (sym are ∙ shows.4)) c.args.space.now
+    (λ never n are. never_high c.in-Cut.variable c.in-Cut.cut c.in-Cut.ensures.variable shows.0 shows.1 n
+    (flat-same n (Fork c.in-Cut.variable c.in-Cut.cut shows.0 shows.1) (sym are ∙ shows.4)) c.args.space.now
     (from_false c.is_open_below.result c.if-not-is_open_below.true c.is_open_below.ensures.none) (never shows.1 shows.3))
 
 pub returns-then-not-is_open_above-clause-met : goal.returns-then-not-is_open_above-clause-met
 returns-then-not-is_open_above-clause-met t c =
     let shows = c.in-Cut.ensures.shows in
     of_true c.holds_in-then-not-is_open_above.result c.holds_in-then-not-is_open_above.ensures.met
-    (λ met n are. true_low c.in-Cut.variable c.in-Cut.cut c.in-Cut.ensures.variable shows.0 shows.1 n (flat-same n (Fork c.in-Cut.variable c.in-Cut.cut shows.0 shows.1) (sym are ∙ shows.4)) c.args.space.now
+    (λ met n are. true_low c.in-Cut.variable c.in-Cut.cut c.in-Cut.ensures.variable shows.0 shows.1 n
+    (flat-same n (Fork c.in-Cut.variable c.in-Cut.cut shows.0 shows.1) (sym are ∙ shows.4)) c.args.space.now
     (from_false c.is_open_above.result c.if-not-is_open_above.true c.is_open_above.ensures.none) (met shows.0 shows.2))
 
 pub returns-then-not-is_open_above-clause-never : goal.returns-then-not-is_open_above-clause-never
 returns-then-not-is_open_above-clause-never t c =
     let shows = c.in-Cut.ensures.shows in
     of_false c.holds_in-then-not-is_open_above.result c.holds_in-then-not-is_open_above.ensures.never
-    (λ never n are. never_low c.in-Cut.variable c.in-Cut.cut c.in-Cut.ensures.variable shows.0 shows.1 n (flat-same n (Fork c.in-Cut.variable c.in-Cut.cut shows.0 shows.1) (sym are ∙ shows.4)) c.args.space.now
+    (λ never n are. never_low c.in-Cut.variable c.in-Cut.cut c.in-Cut.ensures.variable shows.0 shows.1 n
+    (flat-same n (Fork c.in-Cut.variable c.in-Cut.cut shows.0 shows.1) (sym are ∙ shows.4)) c.args.space.now
     (from_false c.is_open_above.result c.if-not-is_open_above.true c.is_open_above.ensures.none) (never shows.0 shows.2))
 
 pub returns-then-low-clause-met : goal.returns-then-low-clause-met

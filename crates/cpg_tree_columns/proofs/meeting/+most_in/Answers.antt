@@ -12,14 +12,16 @@ use Rattle.cpg_tree_columns.proofs.meeting.+most_in.Goals as goal
 pub returns-then-not-is_open_below-clause-most : goal.returns-then-not-is_open_below-clause-most
 returns-then-not-is_open_below-clause-most t c n w are wanted =
     let shows = c.in-Cut.ensures.shows in
-    most_high c.in-Cut.variable c.in-Cut.cut c.in-Cut.ensures.variable shows.0 shows.1 n (flat-same n (Fork c.in-Cut.variable c.in-Cut.cut shows.0 shows.1) (sym are ∙ shows.4)) w c.args.space.now c.args.best
+    most_high c.in-Cut.variable c.in-Cut.cut c.in-Cut.ensures.variable shows.0 shows.1 n
+    (flat-same n (Fork c.in-Cut.variable c.in-Cut.cut shows.0 shows.1) (sym are ∙ shows.4)) w c.args.space.now c.args.best
     c.most_in.result
     (from_false c.is_open_below.result c.if-not-is_open_below.true c.is_open_below.ensures.none) (c.most_in.ensures.most shows.1 w shows.3 wanted)
 
 pub returns-then-not-is_open_above-clause-most : goal.returns-then-not-is_open_above-clause-most
 returns-then-not-is_open_above-clause-most t c n w are wanted =
     let shows = c.in-Cut.ensures.shows in
-    most_low c.in-Cut.variable c.in-Cut.cut c.in-Cut.ensures.variable shows.0 shows.1 n (flat-same n (Fork c.in-Cut.variable c.in-Cut.cut shows.0 shows.1) (sym are ∙ shows.4)) w c.args.space.now c.args.best
+    most_low c.in-Cut.variable c.in-Cut.cut c.in-Cut.ensures.variable shows.0 shows.1 n
+    (flat-same n (Fork c.in-Cut.variable c.in-Cut.cut shows.0 shows.1) (sym are ∙ shows.4)) w c.args.space.now c.args.best
     c.most_in-then-not-is_open_above.result
     (from_false c.is_open_above.result c.if-not-is_open_above.true c.is_open_above.ensures.none) (c.most_in-then-not-is_open_above.ensures.most shows.0 w shows.2 wanted)
 
@@ -45,7 +47,8 @@ returns-else-not-is_open_above-clause-most t c n w are wanted =
     c.close_above-most.ensures.back in
     let upper : c.close_below-least.new.self ≡ above_cut room c.in-Cut.variable c.in-Cut.cut = c.close_below-least.ensures.is ∙
     ap (λ (r : Space). above_cut r c.in-Cut.variable c.in-Cut.cut) back in
-    most_both c.in-Cut.variable c.in-Cut.cut c.in-Cut.ensures.variable shows.0 shows.1 n (flat-same n (Fork c.in-Cut.variable c.in-Cut.cut shows.0 shows.1) (sym are ∙ shows.4)) w room c.args.best c.most_in-low.result
+    most_both c.in-Cut.variable c.in-Cut.cut c.in-Cut.ensures.variable shows.0 shows.1 n
+    (flat-same n (Fork c.in-Cut.variable c.in-Cut.cut shows.0 shows.1) (sym are ∙ shows.4)) w room c.args.best c.most_in-low.result
     c.most_in-high.result
     (sym c.is_open_below.ensures.is ∙ c.if-not-is_open_below.false) (sym c.is_open_above.ensures.is ∙ c.if-not-is_open_above.false)
     (λ s lies h. subst (λ (r : Space). Lies r s) c.close_above-most.ensures.is (c.close_above-most.ensures.lies s lies h))

@@ -1,5 +1,5 @@
-use Rattle.std.proofs.Common.{◌≡◌, ◌∙◌, Option, ℕ, sym, ap, ap₂}
-use Rattle.cpg_tree.specs.TreeNode.{TreeNode, Leaf, Fork}
+use Rattle.std.proofs.Common.{◌∙◌, sym, ap, ap₂}
+use Rattle.cpg_tree.specs.TreeNode.{Leaf, Fork}
 use Rattle.cpg_tree.proofs.Flats.{flat-same}
 use Rattle.cpg_tree_columns.specs.Greatest.{greater, most_of}
 use Rattle.cpg_tree_columns.proofs.peaks.+most_of.Goals as goal
