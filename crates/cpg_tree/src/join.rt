@@ -37,7 +37,7 @@ fn part_items<'a, T: Copy>(items: &'a [Item<T>], space: &Space) -> &'a [Item<T>]
 }
 
 /// Adds the tree of the answers to a value and the values, for the scenarios of a space.
-fn fill_items<T: Copy, U: Copy, V: Copy + Eq, F: Fn(T, U) -> V>(
+pub(crate) fn fill_items<T: Copy, U: Copy, V: Copy + Eq, F: Fn(T, U) -> V>(
     items: &[Item<U>],
     space: &mut Space,
     value: T,

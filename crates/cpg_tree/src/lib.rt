@@ -4,7 +4,9 @@
 mod asked;
 mod at;
 mod bounds;
+mod choosing;
 mod fork;
+mod greater;
 mod item;
 mod join;
 mod map;
