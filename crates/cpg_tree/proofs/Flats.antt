@@ -15,7 +15,7 @@ read_back-append : {T : Type 0} (xs ys : List (Item T)) (stack : List (TreeNode 
 read_back-append [] ys stack = refl
 read_back-append (x ∷ xs) ys stack = read_back-append xs ys (stacked x stack)
 
-read_back-flat : {T : Type 0} (n : TreeNode T) (stack : List (TreeNode T)) → read_back (flat n) stack ≡ n ∷ stack
+pub read_back-flat : {T : Type 0} (n : TreeNode T) (stack : List (TreeNode T)) → read_back (flat n) stack ≡ n ∷ stack
 read_back-flat (Leaf x) stack = refl
 read_back-flat {T} (Fork v cut below above) stack =
     let last : List (Item T) = Cut v cut (length (flat below)) ∷ [] in
@@ -39,6 +39,10 @@ paths_in-flat k items n are = ap (paths_in k) are ∙ ap (paths_on k) (read_back
 pub flat-long : {T : Type 0} (n : TreeNode T) → 0 < length (flat n)
 flat-long (Leaf x) = omega arith
 flat-long (Fork v cut below above) = omega (arith, length-append (flat below ++ flat above) (Cut v cut (length (flat below)) ∷ []))
+
+-- what is added to no items is all there is
+pub all_added : {T : Type 0} (old new : List (Item T)) (n : TreeNode T) → old ≡ [] → new ≡ old ++ flat n → new ≡ flat n
+all_added {T} old new n none added = added ∙ ap (λ (xs : List (Item T)). xs ++ flat n) none
 
 -- ---- the last item tells what the tree is
 

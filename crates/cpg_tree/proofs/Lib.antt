@@ -25,3 +25,5 @@ pub mod MapLaws
 pub mod Moves
 pub mod AtLaws
 pub mod JoinLaws
+pub mod PickLaws
+pub mod GoodLists

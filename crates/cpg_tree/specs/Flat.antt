@@ -23,3 +23,8 @@ ShowsTop {T} items (TopCut v cut below above) = (x : TreeNode T) × (y : TreeNod
 abbrev pub IsLess : {T : Type 0} → List (Item T) → Top T → Type 0
 IsLess items (TopValue x) = Unit {0}
 IsLess items (TopCut v cut below above) = (length below.now < length items) × (length above.now < length items)
+
+-- its variable is one of 256
+abbrev pub HasVariable : {T : Type 0} → Top T → Type 0
+HasVariable (TopValue x) = Unit {0}
+HasVariable (TopCut v cut below above) = v < 256

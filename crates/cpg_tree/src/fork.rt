@@ -80,7 +80,7 @@ fn take_out<T: Copy>(out: &mut Vec<Item<T>>, from: usize, count: usize)
 }
 
 /// Adds a fork behind as many items of its side below, and those of its side above.
-fn push_cut<T: Copy>(
+pub fn push_cut<T: Copy>(
     out: &mut Vec<Item<T>>,
     variable: u8,
     cut: u8,
@@ -115,9 +115,62 @@ pub fn fork_of<T: Copy>(
     push_cut(out, variable, cut, middle - start)
 }
 
+/// Whether a look at the last items of two lists tells that the first is equal neither to the second nor to what that has
+/// below a fork on a variable. No clause speaks of it: it only saves time.
+fn are_apart<T: Copy + Eq>(below: Item<T>, above: Item<T>, variable: u8) -> bool {
+    match above {
+        Item::Value(high) => match below {
+            Item::Value(low) => low != high,
+            Item::Cut { .. } => true,
+        },
+        Item::Cut {
+            variable: next,
+            cut,
+            ..
+        } => match below {
+            Item::Value(_) => next != variable,
+            Item::Cut {
+                variable: own,
+                cut: own_cut,
+                ..
+            } => next != variable && (own != next || own_cut != cut),
+        },
+    }
+}
+
+/// As `are_apart`, of the two lists that a list ends in.
+#[inline]
+fn sides_are_apart<T: Copy + Eq>(items: &[Item<T>], middle: usize, variable: u8) -> bool {
+    if middle == 0 || middle >= items.len() {
+        return false;
+    }
+    are_apart(items[middle - 1], items[items.len() - 1], variable)
+}
+
 /// A fork of the two trees that a list ends in, from a start and a middle on, or one tree if both are equal. If the side
 /// above is a fork on the same variable with an equal side below, the first cut is left out.
 pub(crate) fn fork<T: Copy + Eq>(
+    out: &mut Vec<Item<T>>,
+    start: usize,
+    middle: usize,
+    variable: u8,
+    cut: u8,
+) -> Result<(), OutOfMemory>
+    requires equal { (x y : T) → T.eq x y ≡ true → x ≡ y }
+    requires order { start ≤ middle }
+    requires long { middle ≤ length out.old.items }
+    ensures long { IfOk result (λ _. start ≤ length out.new.items) }
+    ensures made { IfOk result (λ _. ForksEnd start middle variable cut out.old.items out.new.items) }
+{
+    if sides_are_apart(out.as_slice(), middle, variable) {
+        return fork_of(out, start, middle, variable, cut);
+    }
+    fork_by_sides(out, start, middle, variable, cut)
+}
+
+/// As `fork`, by a look at the whole of both lists.
+#[inline(never)]
+fn fork_by_sides<T: Copy + Eq>(
     out: &mut Vec<Item<T>>,
     start: usize,
     middle: usize,

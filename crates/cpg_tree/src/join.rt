@@ -1,40 +1,15 @@
 //! The answers of a function to the values of two trees.
 ghost use Rattle.std.specs.Prelude.{◌≡◌, ◌≤◌, true, IfOk, length, vec_len};
-ghost use Rattle.cpg_tree.specs.Space.{is_open_below, is_open_above};
 ghost use Rattle.cpg_tree.specs.TreeNode.{TreeNode};
 ghost use Rattle.cpg_tree.specs.Flat.{IsFlat, flat};
-ghost use Rattle.cpg_tree.specs.Added.{Adds, IsFilled, IsJoined, PartIs};
+ghost use Rattle.cpg_tree.specs.Added.{Adds, IsFilled, IsJoined};
 
 use crate::fork::fork;
 use crate::item::Item;
+use crate::part::part_in;
 use crate::top::{Top, top_of};
 use cpg_base::OutOfMemory;
 use crate::space::Space;
-
-/// The part of a tree that all scenarios of a space come to.
-fn part_items<'a, T: Copy>(items: &'a [Item<T>], space: &Space) -> &'a [Item<T>]
-    requires { IsFlat items.now }
-    ensures part { (n : TreeNode T) → items.now ≡ flat n → PartIs space.now n result.now }
-    ensures flat { IsFlat result.now }
-{
-    match top_of(items) {
-        Top::Value(_) => items,
-        Top::Cut {
-            variable,
-            cut,
-            below,
-            above,
-        } => {
-            if !space.is_open_below(variable, cut) {
-                return part_items(above, space);
-            }
-            if !space.is_open_above(variable, cut) {
-                return part_items(below, space);
-            }
-            items
-        }
-    }
-}
 
 /// Adds the tree of the answers to a value and the values, for the scenarios of a space.
 pub(crate) fn fill_items<T: Copy, U: Copy, V: Copy + Eq, F: Fn(T, U) -> V>(
@@ -99,7 +74,7 @@ pub(crate) fn join_items<T: Copy, U: Copy, V: Copy + Eq, F: Fn(T, U) -> V>(
         Adds (IsJoined (F.post f.now) space.old n m) out.old.items out.new.items) }
 {
     // so that no leaf goes through the other tree from its top
-    let other = part_items(other, space);
+    let other = part_in(other, space);
     match top_of(items) {
         Top::Value(value) => fill_items(other, space, value, f, out),
         Top::Cut {

@@ -10,14 +10,17 @@ mod greater;
 mod item;
 mod join;
 mod map;
+mod part;
+mod pick;
 mod reading;
 mod space;
 mod tally;
 mod top;
 mod tree;
 
-pub use fork::fork_of;
+pub use fork::{fork_of, push_cut};
 pub use item::Item;
+pub use part::part_in;
 pub use reading::{AsIs, Later, Reading, time_later};
 pub use space::Space;
 pub use tally::{Parting, Tally};

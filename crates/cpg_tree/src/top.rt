@@ -1,5 +1,5 @@
 //! The top of a tree in a list.
-ghost use Rattle.cpg_tree.specs.Flat.{IsFlat, ShowsTop, IsLess};
+ghost use Rattle.cpg_tree.specs.Flat.{HasVariable, IsFlat, IsLess, ShowsTop};
 
 use crate::item::Item;
 
@@ -21,6 +21,7 @@ pub fn top_of<T: Copy>(items: &[Item<T>]) -> Top<'_, T>
     requires { IsFlat items.now }
     ensures shows { ShowsTop items.now result }
     ensures less { IsLess items.now result }
+    ensures variable { HasVariable result }
 {
     let Some((last, sides)) = items.split_last() else {
         unreachable!();

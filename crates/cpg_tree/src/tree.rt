@@ -7,7 +7,7 @@ ghost use Rattle.cpg_tree.specs.Flat.{IsFlat, flat};
 ghost use Rattle.cpg_tree.specs.Later.{IsAtLeast, time_later};
 ghost use Rattle.cpg_tree.specs.Paths.{paths_of};
 ghost use Rattle.cpg_tree.specs.ReadBack.{IsGoodList};
-ghost use Rattle.cpg_tree.specs.Tree.{HasOnePathEach, IsTidyPath, DoPathsPass, IsConstant, IsMap, IsJoin, IsPick, IsValueAt};
+ghost use Rattle.cpg_tree.specs.Tree.{HasOnePathEach, IsTidyPath, DoPathsPass, IsConstant, IsMap, IsJoin, IsValueAt};
 
 use crate::at::{at_items, leaf_count};
 use crate::item::Item;
@@ -105,8 +105,8 @@ impl<T: Copy> Tree<T> {
         ensures each { IfOk result (λ t. HasOnePathEach t.faults t.paths) }
         ensures tidy { IfOk result (λ t. All (IsTidyPath t.faults) t.paths) }
     {
-        let items = self.items.clone()?;
-        Ok(Tree::of(self.alloc, self.faults, items))
+        let copied = Vec::from_slice(self.alloc, self.items())?;
+        Ok(Tree::of(self.alloc, self.faults(), copied))
     }
 
     /// How many paths there are, and `None` exactly if a number of 64 bits can't tell it.
@@ -131,10 +131,12 @@ impl<T: Copy> Tree<T> {
         ensures tidy { IfOk result (λ t. All (IsTidyPath t.faults) t.paths) }
         ensures pass { IfOk result (λ t. (test : ℕ → Bool) → DoPathsPass test self.now.paths → DoPathsPass test other.now.paths → DoPathsPass test t.paths) }
     {
-        let mut space = Space::whole(self.faults);
+        let faults = self.faults();
+        let mut space = Space::whole(faults);
         let mut made = Vec::new(self.alloc);
-        join_items(self.items(), other.items(), &mut space, f, &mut made)?;
-        Ok(Tree::of(self.alloc, self.faults, made))
+        let others = other.items();
+        join_items(self.items(), others, &mut space, f, &mut made)?;
+        Ok(Tree::of(self.alloc, faults, made))
     }
 
     /// The answers of a function to the values.
@@ -148,7 +150,7 @@ impl<T: Copy> Tree<T> {
     {
         let mut made = Vec::new(self.alloc);
         map_items(self.items(), f, &mut made)?;
-        Ok(Tree::of(self.alloc, self.faults, made))
+        Ok(Tree::of(self.alloc, self.faults(), made))
     }
 }
 

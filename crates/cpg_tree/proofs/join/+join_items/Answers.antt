@@ -12,7 +12,7 @@ returns-then-not-is_open_below-clause-made g t c =
     let shows = c.in-Cut.ensures.shows in
     of_answer c.join_items.result _ _ c.join_items.ensures.made
     (λ u made n m are others.
-    let part = c.part_items-other.ensures.part m others in
+    let part = c.part_in-other.ensures.part m others in
     joins_whole (λ (x : g.row.T.Denot) (y : g.row.U.Denot) (z : g.row.V.Denot). g.F.Fn.post c.args.f.now (x, (y, tt)) z) c.args.space.now n m part.0 c.args.out.now.items c.join_items.new.out.items part.2
     (joins_above c.args.space.now c.in-Cut.variable c.in-Cut.cut shows.0 shows.1 n c.args.items.now shows.4 are
     (λ (x : g.row.T.Denot) (y : g.row.U.Denot) (z : g.row.V.Denot). g.F.Fn.post c.args.f.now (x, (y, tt)) z) part.0 c.args.out.now.items c.join_items.new.out.items
@@ -23,7 +23,7 @@ returns-then-not-is_open_above-clause-made g t c =
     let shows = c.in-Cut.ensures.shows in
     of_answer c.join_items-then-not-is_open_above.result _ _ c.join_items-then-not-is_open_above.ensures.made
     (λ u made n m are others.
-    let part = c.part_items-other.ensures.part m others in
+    let part = c.part_in-other.ensures.part m others in
     joins_whole (λ (x : g.row.T.Denot) (y : g.row.U.Denot) (z : g.row.V.Denot). g.F.Fn.post c.args.f.now (x, (y, tt)) z) c.args.space.now n m part.0 c.args.out.now.items c.join_items-then-not-is_open_above.new.out.items part.2
     (joins_below c.args.space.now c.in-Cut.variable c.in-Cut.cut shows.0 shows.1 n c.args.items.now shows.4 are
     (λ (x : g.row.T.Denot) (y : g.row.U.Denot) (z : g.row.V.Denot). g.F.Fn.post c.args.f.now (x, (y, tt)) z) part.0 c.args.out.now.items c.join_items-then-not-is_open_above.new.out.items
@@ -33,7 +33,7 @@ pub returns-in-Value-clause-made : goal.returns-in-Value-clause-made
 returns-in-Value-clause-made g t c =
     of_answer c.fill_items.result _ _ c.fill_items.ensures.made
     (λ u made n m are others.
-    let part = c.part_items-other.ensures.part m others in
+    let part = c.part_in-other.ensures.part m others in
     joins_whole (λ (x : g.row.T.Denot) (y : g.row.U.Denot) (z : g.row.V.Denot). g.F.Fn.post c.args.f.now (x, (y, tt)) z) c.args.space.now n m part.0 c.args.out.now.items c.fill_items.new.out.items part.2
     (joins_leaf (λ (x : g.row.T.Denot) (y : g.row.U.Denot) (z : g.row.V.Denot). g.F.Fn.post c.args.f.now (x, (y, tt)) z) c.args.space.now c.in-Value.value n part.0 c.args.items.now c.args.out.now.items c.fill_items.new.out.items
     c.in-Value.ensures.shows are (made part.0 part.1)))
@@ -56,7 +56,7 @@ returns-in_ok-join_items-in-Cut-2-clause-made g t c =
     let shows = c.in-Cut.ensures.shows in
     of_answer c.fork.result _ _ c.fork.ensures.made
     (λ u forks n m are others.
-    let part = c.part_items-other.ensures.part m others in
+    let part = c.part_in-other.ensures.part m others in
     joins_whole (λ (x : g.row.T.Denot) (y : g.row.U.Denot) (z : g.row.V.Denot). g.F.Fn.post c.args.f.now (x, (y, tt)) z) c.args.space.now n m part.0 c.args.out.now.items c.fork.new.out.items part.2
     (joins_fork c.args.space.now c.in-Cut.variable c.in-Cut.cut shows.0 shows.1 n c.args.items.now shows.4 are
     (λ (x : g.row.T.Denot) (y : g.row.U.Denot) (z : g.row.V.Denot). g.F.Fn.post c.args.f.now (x, (y, tt)) z) part.0 c.args.out.now.items c.fork.new.out.items

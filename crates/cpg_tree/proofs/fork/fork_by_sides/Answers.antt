@@ -3,7 +3,7 @@ use Rattle.cpg_tree.specs.Added.{IsMet}
 use Rattle.cpg_tree.specs.declared.item.Item.{Item}
 use Rattle.cpg_tree.proofs.Forks.{from_true}
 use Rattle.cpg_tree.proofs.ForkLaws.{forks_same, forks_met}
-use Rattle.cpg_tree.proofs.fork.fork.Goals as goal
+use Rattle.cpg_tree.proofs.fork.fork_by_sides.Goals as goal
 
 pub returns-then-sides_are_same-clause-made : goal.returns-then-sides_are_same-clause-made
 returns-then-sides_are_same-clause-made g c before below above split =
