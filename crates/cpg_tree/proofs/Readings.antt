@@ -11,7 +11,7 @@ use Rattle.cpg_cube.specs.Narrow.{narrowed_by}
 use Rattle.cpg_tree.specs.TreeNode.{TreeNode, Leaf, Fork}
 use Rattle.cpg_tree.specs.Decision.{value_at, low_at, high_at, IsFit, IsGood, DoForksPass}
 use Rattle.cpg_tree.specs.Later.{time_later}
-use Rattle.cpg_tree.specs.Paths.{up_to, above, paths_from}
+use Rattle.cpg_tree.specs.Paths.{up_to, above, paths_from, paths_of}
 use Rattle.cpg_tree.specs.Read.{read_by, later_path, later_by}
 use Rattle.cpg_tree.specs.declared.item.Item.{Item}
 use Rattle.cpg_tree.specs.Added.{Adds, IsFilled, IsKept, IsPart}
@@ -88,6 +88,9 @@ module _ {T : Type 0} (number : T → ℕ) where
 
 pub state_read : (k delay : ℕ) (a : TreeNode (Option ℕ)) → state k (read_by (time_later delay) a) ≡ later_by delay (state k a)
 state_read k delay a = ap (λ (paths : List (Path ℕ)). record { faults = k; paths = paths }) (paths_read (time_later delay) k [] a)
+
+pub later_paths : (delay : ℕ) (t : TreeState (Option ℕ)) (a : TreeNode (Option ℕ)) → t.paths ≡ paths_of t.faults a → (later_by delay t).paths ≡ paths_of t.faults (read_by (time_later delay) a)
+later_paths delay t a paths = ap (λ (ps : List (Path (Option ℕ))). map (later_path delay) ps) paths ∙ sym (ap (λ (u : TreeState ℕ). u.paths) (state_read t.faults delay a))
 
 -- ---- the tree of later times
 

@@ -246,8 +246,9 @@ impl<T: Copy> Tree<T> {
             other_reading: also,
             made,
         };
+        let others = other.items();
         let mut items = Vec::new(self.alloc());
-        greater_items(self.items(), other.items(), &mut space, &how, &mut items)?;
+        greater_items(self.items(), others, &mut space, &how, &mut items)?;
         Ok(Tree::of(self.alloc(), faults, items))
     }
 }

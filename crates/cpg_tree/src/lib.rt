@@ -12,6 +12,7 @@ mod join;
 mod map;
 mod part;
 mod pick;
+mod picking;
 mod reading;
 mod space;
 mod tally;

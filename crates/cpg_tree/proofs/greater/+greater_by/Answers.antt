@@ -1,12 +1,12 @@
-use Rattle.std.proofs.Common.{arith, ℕ, ◌≡◌, ◌<◌, ◌≤◌, ◌∙◌, max, ap, sym, subst}
+use Rattle.std.proofs.Common.{arith, ℕ, ◌≡◌, ◌<◌, ◌≤◌, ◌∙◌, length, max, ap, sym, subst}
 use Rattle.cpg_base.specs.Scenario.{Scenario, number_of}
 use Rattle.cpg_tree.specs.Asked.{AreOpen, IsInner, IsWay, LiesInBoth, Rooms, lowered, raised_back}
 use Rattle.cpg_tree.specs.Space.{above_cut}
-use Rattle.cpg_tree.specs.TreeNode.{TreeNode, Leaf}
+use Rattle.cpg_tree.specs.TreeNode.{TreeNode, Leaf, Fork}
 use Rattle.cpg_tree.proofs.BoundLaws.{at_least_by}
 use Rattle.cpg_tree.proofs.Flats.{flat-same}
 use Rattle.cpg_tree.proofs.Forks.{both_opened, both_reopened, of_answer}
-use Rattle.cpg_tree.proofs.GreaterLaws.{added_above, added_below, added_fork, leaf_added, other_added, own_added}
+use Rattle.cpg_tree.proofs.GreaterLaws.{added_above, added_below, added_fork, leaf_added, other_added, own_added, part_bounded, side_bounded}
 use Rattle.cpg_tree.proofs.greater.+greater_by.Goals as goal
 
 pub returns-then-is_at_least-clause-made : goal.returns-then-is_at_least-clause-made
@@ -101,3 +101,167 @@ returns-in_ok-greater_by-in-Both-2-clause-made g t c =
     (c.len-middle.ensures ∙ c.greater_by-in-Both.new.out.ok.0) forks
     (c.in_ok-greater_by-in-Both.ensures.made shows.0 part.0 (c.sides.ensures.below ∙ shows.2) part.1)
     (c.in_ok-greater_by-in-Both-2.ensures.made shows.1 part.0 (c.sides.ensures.above ∙ shows.3) part.1))
+
+pub greater_by-requires : goal.greater_by-requires
+greater_by-requires g t c κs within =
+    let number : g.row.T.Denot → ℕ = g.R.Reading.number c.args.how.now.read.now in
+    let other_number : g.row.U.Denot → ℕ = g.S.Reading.number c.args.how.now.other_reading.now in
+    let shows = c.in-Cut.ensures.shows in
+    let small : length c.sides.result.1.items.now < t = omega (arith, c.decreases, ap length c.sides.ensures.above, c.in-Cut.ensures.less.1) in (
+      small,
+      (
+        within.0,
+        (
+          within.1.0,
+          (
+            within.1.1.0,
+            (
+              within.1.1.1.0,
+              (
+                within.1.1.1.1,
+                (
+                  c.requires.callable,
+                  (
+                    c.requires.equal,
+                    (
+                      side_bounded number (Fork c.in-Cut.variable c.in-Cut.cut shows.0 shows.1) shows.1 c.args.own.items.now c.sides.result.1.items.now c.args.own.bounds.now
+                      c.sides.result.1.bounds.now c.requires.own shows.4 (c.sides.ensures.above ∙ shows.3)
+                      (λ e. (c.sides.ensures.bounds number c.in-Cut.variable c.in-Cut.cut shows.0 shows.1 shows.2 e).1),
+                      part_bounded other_number c.args.rooms.now.walked c.args.other.items.now c.bounded_part-other.result.items.now c.args.other.bounds.now c.bounded_part-other.result.bounds.now
+                      c.requires.others c.bounded_part-other.ensures.part,
+                    ),
+                  ),
+                ),
+              ),
+            ),
+          ),
+        ),
+      ),
+    )
+
+pub greater_by-requires-in-Below : goal.greater_by-requires-in-Below
+greater_by-requires-in-Below g t c κs within =
+    let number : g.row.T.Denot → ℕ = g.R.Reading.number c.args.how.now.read.now in
+    let other_number : g.row.U.Denot → ℕ = g.S.Reading.number c.args.how.now.other_reading.now in
+    let shows = c.in-Cut.ensures.shows in
+    let small : length c.sides.result.0.items.now < t = omega (arith, c.decreases, ap length c.sides.ensures.below, c.in-Cut.ensures.less.0) in (
+      small,
+      (
+        within.0,
+        (
+          within.1.0,
+          (
+            within.1.1.0,
+            (
+              within.1.1.1.0,
+              (
+                within.1.1.1.1,
+                (
+                  c.requires.callable,
+                  (
+                    c.requires.equal,
+                    (
+                      side_bounded number (Fork c.in-Cut.variable c.in-Cut.cut shows.0 shows.1) shows.0 c.args.own.items.now c.sides.result.0.items.now c.args.own.bounds.now
+                      c.sides.result.0.bounds.now c.requires.own shows.4 (c.sides.ensures.below ∙ shows.2)
+                      (λ e. (c.sides.ensures.bounds number c.in-Cut.variable c.in-Cut.cut shows.0 shows.1 shows.2 e).0),
+                      part_bounded other_number c.args.rooms.now.walked c.args.other.items.now c.bounded_part-other.result.items.now c.args.other.bounds.now c.bounded_part-other.result.bounds.now
+                      c.requires.others c.bounded_part-other.ensures.part,
+                    ),
+                  ),
+                ),
+              ),
+            ),
+          ),
+        ),
+      ),
+    )
+
+pub greater_by-requires-in-Both : goal.greater_by-requires-in-Both
+greater_by-requires-in-Both g t c κs within =
+    let number : g.row.T.Denot → ℕ = g.R.Reading.number c.args.how.now.read.now in
+    let other_number : g.row.U.Denot → ℕ = g.S.Reading.number c.args.how.now.other_reading.now in
+    let shows = c.in-Cut.ensures.shows in
+    let small : length c.sides.result.0.items.now < t = omega (arith, c.decreases, ap length c.sides.ensures.below, c.in-Cut.ensures.less.0) in (
+      small,
+      (
+        within.0,
+        (
+          within.1.0,
+          (
+            within.1.1.0,
+            (
+              within.1.1.1.0,
+              (
+                within.1.1.1.1,
+                (
+                  c.requires.callable,
+                  (
+                    c.requires.equal,
+                    (
+                      side_bounded number (Fork c.in-Cut.variable c.in-Cut.cut shows.0 shows.1) shows.0 c.args.own.items.now c.sides.result.0.items.now c.args.own.bounds.now
+                      c.sides.result.0.bounds.now c.requires.own shows.4 (c.sides.ensures.below ∙ shows.2)
+                      (λ e. (c.sides.ensures.bounds number c.in-Cut.variable c.in-Cut.cut shows.0 shows.1 shows.2 e).0),
+                      part_bounded other_number c.args.rooms.now.walked c.args.other.items.now c.bounded_part-other.result.items.now c.args.other.bounds.now c.bounded_part-other.result.bounds.now
+                      c.requires.others c.bounded_part-other.ensures.part,
+                    ),
+                  ),
+                ),
+              ),
+            ),
+          ),
+        ),
+      ),
+    )
+
+pub greater_by-requires-in-Both-2 : goal.greater_by-requires-in-Both-2
+greater_by-requires-in-Both-2 g t c κs within =
+    let number : g.row.T.Denot → ℕ = g.R.Reading.number c.args.how.now.read.now in
+    let other_number : g.row.U.Denot → ℕ = g.S.Reading.number c.args.how.now.other_reading.now in
+    let shows = c.in-Cut.ensures.shows in
+    let small : length c.sides.result.1.items.now < t = omega (arith, c.decreases, ap length c.sides.ensures.above, c.in-Cut.ensures.less.1) in (
+      small,
+      (
+        within.0,
+        (
+          within.1.0,
+          (
+            within.1.1.0,
+            (
+              within.1.1.1.0,
+              (
+                within.1.1.1.1,
+                (
+                  c.requires.callable,
+                  (
+                    c.requires.equal,
+                    (
+                      side_bounded number (Fork c.in-Cut.variable c.in-Cut.cut shows.0 shows.1) shows.1 c.args.own.items.now c.sides.result.1.items.now c.args.own.bounds.now
+                      c.sides.result.1.bounds.now c.requires.own shows.4 (c.sides.ensures.above ∙ shows.3)
+                      (λ e. (c.sides.ensures.bounds number c.in-Cut.variable c.in-Cut.cut shows.0 shows.1 shows.2 e).1),
+                      part_bounded other_number c.args.rooms.now.walked c.args.other.items.now c.bounded_part-other.result.items.now c.args.other.bounds.now c.bounded_part-other.result.bounds.now
+                      c.requires.others c.bounded_part-other.ensures.part,
+                    ),
+                  ),
+                ),
+              ),
+            ),
+          ),
+        ),
+      ),
+    )
+
+pub returns-in_ok-greater_by-in-Both-2-clause-long : goal.returns-in_ok-greater_by-in-Both-2-clause-long
+returns-in_ok-greater_by-in-Both-2-clause-long g t c =
+    of_answer c.fork.result _ _ c.fork.ensures.long (λ u h. omega (arith, h, c.len-start.ensures, c.fork.new.out.ok.0))
+
+pub returns-in_ok-greater_by-in-Both-2-clause-back : goal.returns-in_ok-greater_by-in-Both-2-clause-back
+returns-in_ok-greater_by-in-Both-2-clause-back g t c =
+    let rooms : Rooms = c.args.rooms.now in
+    let met : Rooms = c.way.new.self in
+    let way : AreOpen rooms c.in-Cut.variable c.in-Cut.cut × (met ≡ rooms) = subst (IsWay rooms met c.in-Cut.variable c.in-Cut.cut) c.in-Both.is c.way.ensures in
+    of_answer c.fork.result _ _ c.fork.ensures.long
+    (λ u h. c.reopen_below-in-Both.ensures
+    ∙ ap (λ (q : Rooms). raised_back q c.in-Cut.variable c.close_below-lows.result) c.in_ok-greater_by-in-Both-2.ensures.back
+    ∙ c.close_below-lows.ensures.back
+    ∙ both_opened met c.close_above-highs.new.self c.greater_by-in-Both.new.rooms c.reopen_above-in-Both.new.self c.in-Cut.variable c.close_above-highs.result c.close_above-highs.ensures.back
+    c.in_ok-greater_by-in-Both.ensures.back c.reopen_above-in-Both.ensures ∙ way.1)
