@@ -27,3 +27,4 @@ pub mod AtLaws
 pub mod JoinLaws
 pub mod PickLaws
 pub mod GoodLists
+pub mod VariableLaws

@@ -18,6 +18,7 @@ mod space;
 mod tally;
 mod top;
 mod tree;
+mod variables;
 
 pub use fork::{fork_of, push_cut};
 pub use item::Item;
@@ -27,3 +28,4 @@ pub use space::Space;
 pub use tally::{Parting, Tally};
 pub use top::{Top, top_of};
 pub use tree::Tree;
+pub use variables::{fault, value};

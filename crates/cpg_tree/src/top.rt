@@ -26,7 +26,8 @@ pub fn top_of<T: Copy>(items: &[Item<T>]) -> Top<'_, T>
     let Some((last, sides)) = items.split_last() else {
         unreachable!();
     };
-    match *last {
+    let item = *last;
+    match item {
         Item::Value(value) => Top::Value(value),
         Item::Cut {
             variable,

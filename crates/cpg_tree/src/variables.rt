@@ -1,0 +1,75 @@
+//! Trees of the numbers of variables.
+ghost use Rattle.std.specs.Prelude.{◌≡◌, ◌≤◌, ◌<◌, ◌+◌, ℕ, Bool, true, All, IfOk, vec_len};
+ghost use Rattle.cpg_base.specs.Scenario.{number_of_value};
+ghost use Rattle.cpg_tree.specs.Added.{Adds};
+ghost use Rattle.cpg_tree.specs.Tree.{HasOnePathEach, IsTidyPath, DoPathsPass, IsNumber};
+ghost use Rattle.cpg_tree.specs.Variables.{IsCounted, IsValued};
+
+use crate::Tree;
+use crate::fork::fork_of;
+use crate::item::Item;
+use cpg_base::{FIRST_VALUE, OutOfMemory};
+use std::alloc::Global;
+
+/// Adds the tree of the count of a process, if it is `first` or more.
+fn push_counts(
+    process: u8,
+    first: u8,
+    k: u8,
+    out: &mut Vec<Item<u8>>,
+) -> Result<(), OutOfMemory>
+    requires process { process < 128 }
+    requires first { first ≤ k }
+    ensures long { IfOk result (λ _. vec_len out.old ≤ vec_len out.new) }
+    ensures made { IfOk result (λ _. Adds (IsCounted process first k) out.old.items out.new.items) }
+{
+    if first == k {
+        out.push(Item::Value(k))?;
+        return Ok(());
+    }
+    let start = out.len();
+    out.push(Item::Value(first))?;
+    let middle = out.len();
+    push_counts(process, first + 1, k, out)?;
+    fork_of(out, start, middle, process, first)
+}
+
+/// Adds the tree of the value of a condition.
+fn push_value(condition: u8, out: &mut Vec<Item<bool>>) -> Result<(), OutOfMemory>
+    requires { condition < 32 }
+    ensures { IfOk result (λ _. Adds (IsValued (128 + condition)) out.old.items out.new.items) }
+{
+    let start = out.len();
+    out.push(Item::Value(false))?;
+    let middle = out.len();
+    out.push(Item::Value(true))?;
+    fork_of(out, start, middle, FIRST_VALUE + condition, 0)
+}
+
+/// How many faults a process has.
+pub fn fault(alloc: Global, process: u32, k: u8) -> Result<Tree<u8>, OutOfMemory>
+    requires process { process < 128 }
+    requires k { k ≤ 8 }
+    ensures is { IfOk result (IsNumber process k (λ n. n)) }
+    ensures each { IfOk result (λ t. HasOnePathEach t.faults t.paths) }
+    ensures tidy { IfOk result (λ t. All (IsTidyPath t.faults) t.paths) }
+    ensures pass { IfOk result (λ t. (test : ℕ → Bool) → test process ≡ true → DoPathsPass test t.paths) }
+{
+    let mut items = Vec::with_capacity(alloc, 2 * k as usize + 1)?;
+    push_counts(process as u8, 0, k, &mut items)?;
+    Ok(Tree::of(alloc, k, items))
+}
+
+/// The value of a condition.
+pub fn value(alloc: Global, condition: u32, k: u8) -> Result<Tree<bool>, OutOfMemory>
+    requires condition { condition < 32 }
+    requires k { k ≤ 8 }
+    ensures is { IfOk result (IsNumber (128 + condition) k number_of_value) }
+    ensures each { IfOk result (λ t. HasOnePathEach t.faults t.paths) }
+    ensures tidy { IfOk result (λ t. All (IsTidyPath t.faults) t.paths) }
+    ensures pass { IfOk result (λ t. (test : ℕ → Bool) → test (128 + condition) ≡ true → DoPathsPass test t.paths) }
+{
+    let mut items = Vec::with_capacity(alloc, 3)?;
+    push_value(condition as u8, &mut items)?;
+    Ok(Tree::of(alloc, k, items))
+}
