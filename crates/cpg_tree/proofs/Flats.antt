@@ -46,21 +46,21 @@ all_added {T} old new n none added = added ∙ ap (λ (xs : List (Item T)). xs +
 
 -- ---- the last item tells what the tree is
 
-module _ {T : Type 0} where
-  last_or : Item T → List (Item T) → Item T
+module _ {A : Type 0} where
+  last_or : A → List A → A
   last_or x [] = x
   last_or x (y ∷ ys) = last_or y ys
 
-  last-append : (d x : Item T) (xs : List (Item T)) → last_or d (xs ++ (x ∷ [])) ≡ x
+  last-append : (d x : A) (xs : List A) → last_or d (xs ++ (x ∷ [])) ≡ x
   unfolding last_or
   last-append d x [] = refl
   last-append d x (y ∷ ys) = last-append y x ys
 
   -- two lists with one item more each
-  pub last_same : (xs ys : List (Item T)) (x y : Item T) → xs ++ (x ∷ []) ≡ ys ++ (y ∷ []) → x ≡ y
+  pub last_same : (xs ys : List A) (x y : A) → xs ++ (x ∷ []) ≡ ys ++ (y ∷ []) → x ≡ y
   last_same xs ys x y e = sym (last-append x x xs) ∙ ap (last_or x) e ∙ last-append x y ys
 
-  pub rest_same : (xs ys : List (Item T)) (x y : Item T) → xs ++ (x ∷ []) ≡ ys ++ (y ∷ []) → xs ≡ ys
+  pub rest_same : (xs ys : List A) (x y : A) → xs ++ (x ∷ []) ≡ ys ++ (y ∷ []) → xs ≡ ys
   rest_same xs ys x y e =
       let long : length xs ≡ length ys = omega (arith, ap length e, length-append xs (x ∷ []), length-append ys (y ∷ [])) in
       sym (take-append_seam xs (x ∷ [])) ∙ ap (take (length xs)) e ∙ ap (λ n. take n (ys ++ (y ∷ []))) long ∙ take-append_seam ys (y ∷ [])
