@@ -1,6 +1,7 @@
 use Rattle.std.proofs.Common.{arith, ℕ, ◌≡◌, ◌<◌, ◌≤◌, ◌∙◌, length, max, ap, sym, subst}
 use Rattle.cpg_base.specs.Scenario.{Scenario, number_of}
 use Rattle.cpg_tree.specs.Asked.{AreOpen, IsInner, IsWay, LiesInBoth, Rooms, lowered, raised_back}
+use Rattle.cpg_tree.specs.Bounds.{IsBounded}
 use Rattle.cpg_tree.specs.Space.{above_cut}
 use Rattle.cpg_tree.specs.TreeNode.{TreeNode, Leaf, Fork}
 use Rattle.cpg_tree.proofs.BoundLaws.{at_least_by}
@@ -107,148 +108,56 @@ greater_by-requires g t c κs within =
     let number : g.row.T.Denot → ℕ = g.R.Reading.number c.args.how.now.read.now in
     let other_number : g.row.U.Denot → ℕ = g.S.Reading.number c.args.how.now.other_reading.now in
     let shows = c.in-Cut.ensures.shows in
-    let small : length c.sides.result.1.items.now < t = omega (arith, c.decreases, ap length c.sides.ensures.above, c.in-Cut.ensures.less.1) in (
-      small,
-      (
-        within.0,
-        (
-          within.1.0,
-          (
-            within.1.1.0,
-            (
-              within.1.1.1.0,
-              (
-                within.1.1.1.1,
-                (
-                  c.requires.callable,
-                  (
-                    c.requires.equal,
-                    (
-                      side_bounded number (Fork c.in-Cut.variable c.in-Cut.cut shows.0 shows.1) shows.1 c.args.own.items.now c.sides.result.1.items.now c.args.own.bounds.now
-                      c.sides.result.1.bounds.now c.requires.own shows.4 (c.sides.ensures.above ∙ shows.3)
-                      (λ e. (c.sides.ensures.bounds number c.in-Cut.variable c.in-Cut.cut shows.0 shows.1 shows.2 e).1),
-                      part_bounded other_number c.args.rooms.now.walked c.args.other.items.now c.bounded_part-other.result.items.now c.args.other.bounds.now c.bounded_part-other.result.bounds.now
-                      c.requires.others c.bounded_part-other.ensures.part,
-                    ),
-                  ),
-                ),
-              ),
-            ),
-          ),
-        ),
-      ),
-    )
+    let small : length c.sides.result.1.items.now < t = omega (arith, c.decreases, ap length c.sides.ensures.above, c.in-Cut.ensures.less.1) in
+    let own : IsBounded number c.sides.result.1.items.now c.sides.result.1.bounds.now =
+    side_bounded number (Fork c.in-Cut.variable c.in-Cut.cut shows.0 shows.1) shows.1 c.args.own.items.now c.sides.result.1.items.now c.args.own.bounds.now
+    c.sides.result.1.bounds.now c.requires.own shows.4 (c.sides.ensures.above ∙ shows.3)
+    (λ e. (c.sides.ensures.bounds number c.in-Cut.variable c.in-Cut.cut shows.0 shows.1 shows.2 e).1) in
+    let others : IsBounded other_number c.bounded_part-other.result.items.now c.bounded_part-other.result.bounds.now =
+    part_bounded other_number c.args.rooms.now.walked c.args.other.items.now c.bounded_part-other.result.items.now c.args.other.bounds.now c.bounded_part-other.result.bounds.now
+    c.requires.others c.bounded_part-other.ensures.part in (small, (within.0, (within.1.0, (within.1.1.0, (within.1.1.1.0, (within.1.1.1.1.0, (within.1.1.1.1.1, (c.requires.callable, (c.requires.equal, (own, others))))))))))
 
 pub greater_by-requires-in-Below : goal.greater_by-requires-in-Below
 greater_by-requires-in-Below g t c κs within =
     let number : g.row.T.Denot → ℕ = g.R.Reading.number c.args.how.now.read.now in
     let other_number : g.row.U.Denot → ℕ = g.S.Reading.number c.args.how.now.other_reading.now in
     let shows = c.in-Cut.ensures.shows in
-    let small : length c.sides.result.0.items.now < t = omega (arith, c.decreases, ap length c.sides.ensures.below, c.in-Cut.ensures.less.0) in (
-      small,
-      (
-        within.0,
-        (
-          within.1.0,
-          (
-            within.1.1.0,
-            (
-              within.1.1.1.0,
-              (
-                within.1.1.1.1,
-                (
-                  c.requires.callable,
-                  (
-                    c.requires.equal,
-                    (
-                      side_bounded number (Fork c.in-Cut.variable c.in-Cut.cut shows.0 shows.1) shows.0 c.args.own.items.now c.sides.result.0.items.now c.args.own.bounds.now
-                      c.sides.result.0.bounds.now c.requires.own shows.4 (c.sides.ensures.below ∙ shows.2)
-                      (λ e. (c.sides.ensures.bounds number c.in-Cut.variable c.in-Cut.cut shows.0 shows.1 shows.2 e).0),
-                      part_bounded other_number c.args.rooms.now.walked c.args.other.items.now c.bounded_part-other.result.items.now c.args.other.bounds.now c.bounded_part-other.result.bounds.now
-                      c.requires.others c.bounded_part-other.ensures.part,
-                    ),
-                  ),
-                ),
-              ),
-            ),
-          ),
-        ),
-      ),
-    )
+    let small : length c.sides.result.0.items.now < t = omega (arith, c.decreases, ap length c.sides.ensures.below, c.in-Cut.ensures.less.0) in
+    let own : IsBounded number c.sides.result.0.items.now c.sides.result.0.bounds.now =
+    side_bounded number (Fork c.in-Cut.variable c.in-Cut.cut shows.0 shows.1) shows.0 c.args.own.items.now c.sides.result.0.items.now c.args.own.bounds.now
+    c.sides.result.0.bounds.now c.requires.own shows.4 (c.sides.ensures.below ∙ shows.2)
+    (λ e. (c.sides.ensures.bounds number c.in-Cut.variable c.in-Cut.cut shows.0 shows.1 shows.2 e).0) in
+    let others : IsBounded other_number c.bounded_part-other.result.items.now c.bounded_part-other.result.bounds.now =
+    part_bounded other_number c.args.rooms.now.walked c.args.other.items.now c.bounded_part-other.result.items.now c.args.other.bounds.now c.bounded_part-other.result.bounds.now
+    c.requires.others c.bounded_part-other.ensures.part in (small, (within.0, (within.1.0, (within.1.1.0, (within.1.1.1.0, (within.1.1.1.1.0, (within.1.1.1.1.1, (c.requires.callable, (c.requires.equal, (own, others))))))))))
 
 pub greater_by-requires-in-Both : goal.greater_by-requires-in-Both
 greater_by-requires-in-Both g t c κs within =
     let number : g.row.T.Denot → ℕ = g.R.Reading.number c.args.how.now.read.now in
     let other_number : g.row.U.Denot → ℕ = g.S.Reading.number c.args.how.now.other_reading.now in
     let shows = c.in-Cut.ensures.shows in
-    let small : length c.sides.result.0.items.now < t = omega (arith, c.decreases, ap length c.sides.ensures.below, c.in-Cut.ensures.less.0) in (
-      small,
-      (
-        within.0,
-        (
-          within.1.0,
-          (
-            within.1.1.0,
-            (
-              within.1.1.1.0,
-              (
-                within.1.1.1.1,
-                (
-                  c.requires.callable,
-                  (
-                    c.requires.equal,
-                    (
-                      side_bounded number (Fork c.in-Cut.variable c.in-Cut.cut shows.0 shows.1) shows.0 c.args.own.items.now c.sides.result.0.items.now c.args.own.bounds.now
-                      c.sides.result.0.bounds.now c.requires.own shows.4 (c.sides.ensures.below ∙ shows.2)
-                      (λ e. (c.sides.ensures.bounds number c.in-Cut.variable c.in-Cut.cut shows.0 shows.1 shows.2 e).0),
-                      part_bounded other_number c.args.rooms.now.walked c.args.other.items.now c.bounded_part-other.result.items.now c.args.other.bounds.now c.bounded_part-other.result.bounds.now
-                      c.requires.others c.bounded_part-other.ensures.part,
-                    ),
-                  ),
-                ),
-              ),
-            ),
-          ),
-        ),
-      ),
-    )
+    let small : length c.sides.result.0.items.now < t = omega (arith, c.decreases, ap length c.sides.ensures.below, c.in-Cut.ensures.less.0) in
+    let own : IsBounded number c.sides.result.0.items.now c.sides.result.0.bounds.now =
+    side_bounded number (Fork c.in-Cut.variable c.in-Cut.cut shows.0 shows.1) shows.0 c.args.own.items.now c.sides.result.0.items.now c.args.own.bounds.now
+    c.sides.result.0.bounds.now c.requires.own shows.4 (c.sides.ensures.below ∙ shows.2)
+    (λ e. (c.sides.ensures.bounds number c.in-Cut.variable c.in-Cut.cut shows.0 shows.1 shows.2 e).0) in
+    let others : IsBounded other_number c.bounded_part-other.result.items.now c.bounded_part-other.result.bounds.now =
+    part_bounded other_number c.args.rooms.now.walked c.args.other.items.now c.bounded_part-other.result.items.now c.args.other.bounds.now c.bounded_part-other.result.bounds.now
+    c.requires.others c.bounded_part-other.ensures.part in (small, (within.0, (within.1.0, (within.1.1.0, (within.1.1.1.0, (within.1.1.1.1.0, (within.1.1.1.1.1, (c.requires.callable, (c.requires.equal, (own, others))))))))))
 
 pub greater_by-requires-in-Both-2 : goal.greater_by-requires-in-Both-2
 greater_by-requires-in-Both-2 g t c κs within =
     let number : g.row.T.Denot → ℕ = g.R.Reading.number c.args.how.now.read.now in
     let other_number : g.row.U.Denot → ℕ = g.S.Reading.number c.args.how.now.other_reading.now in
     let shows = c.in-Cut.ensures.shows in
-    let small : length c.sides.result.1.items.now < t = omega (arith, c.decreases, ap length c.sides.ensures.above, c.in-Cut.ensures.less.1) in (
-      small,
-      (
-        within.0,
-        (
-          within.1.0,
-          (
-            within.1.1.0,
-            (
-              within.1.1.1.0,
-              (
-                within.1.1.1.1,
-                (
-                  c.requires.callable,
-                  (
-                    c.requires.equal,
-                    (
-                      side_bounded number (Fork c.in-Cut.variable c.in-Cut.cut shows.0 shows.1) shows.1 c.args.own.items.now c.sides.result.1.items.now c.args.own.bounds.now
-                      c.sides.result.1.bounds.now c.requires.own shows.4 (c.sides.ensures.above ∙ shows.3)
-                      (λ e. (c.sides.ensures.bounds number c.in-Cut.variable c.in-Cut.cut shows.0 shows.1 shows.2 e).1),
-                      part_bounded other_number c.args.rooms.now.walked c.args.other.items.now c.bounded_part-other.result.items.now c.args.other.bounds.now c.bounded_part-other.result.bounds.now
-                      c.requires.others c.bounded_part-other.ensures.part,
-                    ),
-                  ),
-                ),
-              ),
-            ),
-          ),
-        ),
-      ),
-    )
+    let small : length c.sides.result.1.items.now < t = omega (arith, c.decreases, ap length c.sides.ensures.above, c.in-Cut.ensures.less.1) in
+    let own : IsBounded number c.sides.result.1.items.now c.sides.result.1.bounds.now =
+    side_bounded number (Fork c.in-Cut.variable c.in-Cut.cut shows.0 shows.1) shows.1 c.args.own.items.now c.sides.result.1.items.now c.args.own.bounds.now
+    c.sides.result.1.bounds.now c.requires.own shows.4 (c.sides.ensures.above ∙ shows.3)
+    (λ e. (c.sides.ensures.bounds number c.in-Cut.variable c.in-Cut.cut shows.0 shows.1 shows.2 e).1) in
+    let others : IsBounded other_number c.bounded_part-other.result.items.now c.bounded_part-other.result.bounds.now =
+    part_bounded other_number c.args.rooms.now.walked c.args.other.items.now c.bounded_part-other.result.items.now c.args.other.bounds.now c.bounded_part-other.result.bounds.now
+    c.requires.others c.bounded_part-other.ensures.part in (small, (within.0, (within.1.0, (within.1.1.0, (within.1.1.1.0, (within.1.1.1.1.0, (within.1.1.1.1.1, (c.requires.callable, (c.requires.equal, (own, others))))))))))
 
 pub returns-in_ok-greater_by-in-Both-2-clause-long : goal.returns-in_ok-greater_by-in-Both-2-clause-long
 returns-in_ok-greater_by-in-Both-2-clause-long g t c =
