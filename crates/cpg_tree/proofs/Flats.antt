@@ -46,21 +46,21 @@ all_added {T} old new n none added = added ∙ ap (λ (xs : List (Item T)). xs +
 
 -- ---- the last item tells what the tree is
 
-module _ {T : Type 0} where
-  last_or : Item T → List (Item T) → Item T
+module _ {A : Type 0} where
+  last_or : A → List A → A
   last_or x [] = x
   last_or x (y ∷ ys) = last_or y ys
 
-  last-append : (d x : Item T) (xs : List (Item T)) → last_or d (xs ++ (x ∷ [])) ≡ x
+  last-append : (d x : A) (xs : List A) → last_or d (xs ++ (x ∷ [])) ≡ x
   unfolding last_or
   last-append d x [] = refl
   last-append d x (y ∷ ys) = last-append y x ys
 
   -- two lists with one item more each
-  pub last_same : (xs ys : List (Item T)) (x y : Item T) → xs ++ (x ∷ []) ≡ ys ++ (y ∷ []) → x ≡ y
+  pub last_same : (xs ys : List A) (x y : A) → xs ++ (x ∷ []) ≡ ys ++ (y ∷ []) → x ≡ y
   last_same xs ys x y e = sym (last-append x x xs) ∙ ap (last_or x) e ∙ last-append x y ys
 
-  pub rest_same : (xs ys : List (Item T)) (x y : Item T) → xs ++ (x ∷ []) ≡ ys ++ (y ∷ []) → xs ≡ ys
+  pub rest_same : (xs ys : List A) (x y : A) → xs ++ (x ∷ []) ≡ ys ++ (y ∷ []) → xs ≡ ys
   rest_same xs ys x y e =
       let long : length xs ≡ length ys = omega (arith, ap length e, length-append xs (x ∷ []), length-append ys (y ∷ [])) in
       sym (take-append_seam xs (x ∷ [])) ∙ ap (take (length xs)) e ∙ ap (λ n. take n (ys ++ (y ∷ []))) long ∙ take-append_seam ys (y ∷ [])
@@ -109,7 +109,8 @@ shows_cut {T} (Fork u far below above) items sides v cut m is last =
     let rest : sides ≡ flat below ++ flat above = rest_same sides (flat below ++ flat above) _ _ both in
     let number : m ≡ length (flat below) = cc in
     let short : min m (length sides) ≡ length (flat below) = omega (arith, number, ap length rest, length-append (flat below) (flat above)) in (
-      below, above,
+      below,
+      above,
       ap (take (min m (length sides))) rest ∙ take_front (flat below) (flat above) _ short,
       ap (drop (min m (length sides))) rest ∙ drop_front (flat below) (flat above) _ short,
       is ∙ ap (λ i. flat below ++ flat above ++ (i ∷ [])) (sym same) ∙ ap (λ k. flat below ++ flat above ++ (Cut v cut k ∷ [])) number,

@@ -2,6 +2,8 @@ pub mod Spaces
 pub mod Forks
 pub mod Greatness
 pub mod BoundLaws
+pub mod GreaterLaws
+pub mod WhereLaws
 pub mod Fits
 pub mod PathLaws
 pub mod Publics

@@ -11,8 +11,10 @@ use Rattle.cpg_cube.specs.Narrow.{narrowed_by}
 use Rattle.cpg_tree.specs.TreeNode.{TreeNode, Leaf, Fork}
 use Rattle.cpg_tree.specs.Decision.{value_at, low_at, high_at, IsFit, IsGood, DoForksPass}
 use Rattle.cpg_tree.specs.Later.{time_later}
-use Rattle.cpg_tree.specs.Paths.{up_to, above, paths_from}
+use Rattle.cpg_tree.specs.Paths.{up_to, above, paths_from, paths_of}
 use Rattle.cpg_tree.specs.Read.{read_by, later_path, later_by}
+use Rattle.cpg_tree.specs.declared.item.Item.{Item}
+use Rattle.cpg_tree.specs.Added.{Adds, IsFilled, IsKept, IsPart}
 use Rattle.cpg_tree.specs.Results.{IsFillOf, IsWithin}
 use Rattle.cpg_tree.specs.Space.{Space, below_cut, above_cut}
 use Rattle.cpg_tree.specs.Tree.{Path, TreeState, is_on, IsOn, IsMap, IsAsWide, HasOnePathEach, DoPathsPass}
@@ -72,8 +74,23 @@ module _ {T : Type 0} (number : T → ℕ) where
     highs = λ k s u d. omega (arith, high_read k a s u, made.highs k s u d);
   }
 
+  -- and so with the passing of tests
+  passes_read : (test : ℕ → Bool) (a : TreeNode T) → DoForksPass test (read_by number a) → DoForksPass test a
+  passes_read test (Leaf x) pass = tt
+  passes_read test (Fork v cut below above) pass = (pass.0, passes_read test below pass.1, passes_read test above pass.2)
+
+  pub part_read : (room : Space) (a part : TreeNode T) → IsPart room a part → IsPart room (read_by number a) (read_by number part)
+  part_read room a part is = record { same = within_read room a part is.same; pass = λ test on. pass_read test part (is.pass test (passes_read test a on)) }
+
+  pub kept_read : (room : Space) (a : TreeNode T) (old new : List (Item ℕ)) → Adds (IsFilled (λ (x : ℕ) (y : T) (z : ℕ). z ≡ max x (number y)) room 0 a) old new →
+      Adds (IsKept room (read_by number a)) old new
+  kept_read room a old new p = (p.0, p.1, record { made = filled_read room a p.0 p.2.made; fit = p.2.fit; pass = λ test on. p.2.pass test (passes_read test a on) })
+
 pub state_read : (k delay : ℕ) (a : TreeNode (Option ℕ)) → state k (read_by (time_later delay) a) ≡ later_by delay (state k a)
 state_read k delay a = ap (λ (paths : List (Path ℕ)). record { faults = k; paths = paths }) (paths_read (time_later delay) k [] a)
+
+pub later_paths : (delay : ℕ) (t : TreeState (Option ℕ)) (a : TreeNode (Option ℕ)) → t.paths ≡ paths_of t.faults a → (later_by delay t).paths ≡ paths_of t.faults (read_by (time_later delay) a)
+later_paths delay t a paths = ap (λ (ps : List (Path (Option ℕ))). map (later_path delay) ps) paths ∙ sym (ap (λ (u : TreeState ℕ). u.paths) (state_read t.faults delay a))
 
 -- ---- the tree of later times
 

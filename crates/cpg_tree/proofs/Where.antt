@@ -28,6 +28,9 @@ module _ {T U V : Type 0} (answers : T → U → V → Type 0) (none : V) (rooms
   pub where_on : (n : TreeNode Bool) → n ≡ Leaf true → (r : TreeNode V) → IsJoinIn answers (LiesInBoth rooms) a b r → IsJoinWhereOf answers none (LiesInBoth rooms) n a b r
   where_on n is r made = two_leaf_of fact low high (LiesInBoth rooms) true n is r made
 
+  pub where_off : (n : TreeNode Bool) → n ≡ Leaf false → IsJoinWhereOf answers none (LiesInBoth rooms) n a b (Leaf none)
+  where_off n is = two_leaf_of fact low high (LiesInBoth rooms) false n is (Leaf none) (record { value = λ s d. refl; lows = λ s u d. omega arith; highs = λ k s u d. omega arith })
+
   module _ (v cut : ℕ) (below above n : TreeNode Bool) (is : n ≡ Fork v cut below above) (r : TreeNode V) where
     pub where_below : IsJoinWhereOf answers none (LiesInBoth rooms) below a b r → ((s : Scenario) → Lies rooms.asked s → number_of s v ≤ cut) → IsJoinWhereOf answers none (LiesInBoth rooms) n a b r
     where_below made only = two_below_of fact low high (LiesInBoth rooms) v cut below above n is r made (λ s d. only s d.0)

@@ -8,6 +8,7 @@ pub mod Tree
 pub mod Variables
 pub mod Greater
 pub mod Bounds
+pub mod AddedInBoth
 pub mod Later
 pub mod Read
 pub mod Flat

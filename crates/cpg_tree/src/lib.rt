@@ -4,12 +4,15 @@
 mod asked;
 mod at;
 mod bounds;
+mod choosing;
 mod fork;
+mod greater;
 mod item;
 mod join;
 mod map;
 mod part;
 mod pick;
+mod picking;
 mod reading;
 mod space;
 mod tally;

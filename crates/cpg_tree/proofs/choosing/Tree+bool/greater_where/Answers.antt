@@ -1,0 +1,40 @@
+use Rattle.std.proofs.Common.{ℕ, max, ◌≡◌, sym, subst}
+use Rattle.cpg_tree.specs.Tree.{TreeState, IsJoinWhere, DoPathsPass}
+use Rattle.cpg_tree.proofs.Flats.{all_added}
+use Rattle.cpg_tree.proofs.Publics.{good_made}
+use Rattle.cpg_tree.proofs.Where.{where_seen, where_pass}
+use Rattle.cpg_tree.proofs.choosing.Tree+bool.greater_where.Goals as goal
+
+pub of-requires : goal.of-requires
+of-requires g c =
+    let n = c.items.ensures.flat in
+    let a = c.items-own_items.ensures.flat in
+    let b = c.items-other_items.ensures.flat in
+    let r = c.in_ok-greater_where.ensures.made n.0 a.0 b.0 n.1 a.1 b.1 in
+    let are = all_added c.new-items.result.items c.greater_where.new.out.items r.0 c.new-items.ensures.items r.1 in
+    good_made c.faults-faults.result c.whole-space.result r.0 c.greater_where.new.out.items c.whole-space.ensures.is r.2.fit are
+
+pub returns-clause-is : goal.returns-clause-is
+returns-clause-is g c =
+    let n = c.items.ensures.flat in
+    let a = c.items-own_items.ensures.flat in
+    let b = c.items-other_items.ensures.flat in
+    let r = c.in_ok-greater_where.ensures.made n.0 a.0 b.0 n.1 a.1 b.1 in
+    let are = all_added c.new-items.result.items c.greater_where.new.out.items r.0 c.new-items.ensures.items r.1 in
+    let answers : g.row.T.Denot → g.row.U.Denot → g.row.V.Denot → Type 0 = λ x y z. g.F.Fn.post c.args.made.now
+    (max (g.R.Reading.number c.args.read.now x) (g.S.Reading.number c.args.also.now y), tt) z in
+    subst (IsJoinWhere answers c.args.none c.args.self.now c.args.tree.now c.args.other.now) (sym (c.of.ensures.is r.0 are))
+    (where_seen n.0 a.0 b.0 r.0 c.args.self.now c.args.tree.now c.args.other.now (c.items.ensures.paths n.0 n.1) (c.items-own_items.ensures.paths a.0 a.1) (c.items-other_items.ensures.paths b.0 b.1)
+    c.faults-faults.result answers c.args.none c.faults-faults.ensures c.requires.first c.requires.second (c.items.ensures.good n.0 n.1) (c.items-own_items.ensures.good a.0 a.1)
+    (c.items-other_items.ensures.good b.0 b.1) c.whole-space.result c.whole-space.ensures.is c.whole-space.ensures.lies r.2.fit r.2.made)
+
+pub returns-clause-pass : goal.returns-clause-pass
+returns-clause-pass g c test first second third =
+    let n = c.items.ensures.flat in
+    let a = c.items-own_items.ensures.flat in
+    let b = c.items-other_items.ensures.flat in
+    let r = c.in_ok-greater_where.ensures.made n.0 a.0 b.0 n.1 a.1 b.1 in
+    let are = all_added c.new-items.result.items c.greater_where.new.out.items r.0 c.new-items.ensures.items r.1 in
+    subst (λ (x : TreeState g.row.V.Denot). DoPathsPass test x.paths) (sym (c.of.ensures.is r.0 are))
+    (where_pass n.0 a.0 b.0 r.0 c.args.self.now c.args.tree.now c.args.other.now (c.items.ensures.paths n.0 n.1) (c.items-own_items.ensures.paths a.0 a.1) (c.items-other_items.ensures.paths b.0 b.1)
+    c.faults-faults.result test (r.2.pass test) first second third)

@@ -1,0 +1,148 @@
+//! The greater of two trees where a chooser is true.
+ghost use Rattle.std.specs.Prelude.{◌≡◌, ◌≤◌, max, ℕ, Bool, All, IfOk, true, vec_len};
+ghost use Rattle.cpg_tree.specs.Added.{Adds};
+ghost use Rattle.cpg_tree.specs.AddedInBoth.{IsJoinedWhere};
+ghost use Rattle.cpg_tree.specs.Bounds.{IsBounded};
+ghost use Rattle.cpg_tree.specs.Flat.{IsFlat, flat};
+ghost use Rattle.cpg_tree.specs.Tree.{DoPathsPass, HasOnePathEach, IsJoinWhere, IsTidyPath};
+ghost use Rattle.cpg_tree.specs.TreeNode.{TreeNode};
+
+use crate::Tree;
+use crate::asked::Rooms;
+use crate::bounds::{BoundedTree, push_bounds};
+use crate::fork::fork;
+use crate::greater::{Greater, greater_by};
+use crate::item::Item;
+use crate::reading::Reading;
+use crate::space::Space;
+use crate::top::{Top, top_of};
+use cpg_base::OutOfMemory;
+
+/// Two trees with the spans of their forks.
+#[derive(Clone, Copy)]
+pub(crate) struct TreePair<'a, T, U> {
+    pub(crate) own: BoundedTree<'a, T>,
+    pub(crate) other: BoundedTree<'a, U>,
+}
+
+/// Adds what is made of the greater number of two trees where a chooser is true, and else one value, in the scenarios of two
+/// spaces. Only what is asked for is narrowed on the way, so that the answer has the forks of the two trees' answer in the
+/// whole space.
+fn greater_where<T: Copy, U: Copy, V: Copy + Eq, R: Reading<T>, S: Reading<U>, F: Fn(u64) -> V>(
+    chooser: &[Item<bool>],
+    pair: &TreePair<'_, T, U>,
+    rooms: &mut Rooms,
+    how: &Greater<'_, R, S, F>,
+    none: V,
+    out: &mut Vec<Item<V>>,
+) -> Result<(), OutOfMemory>
+    requires callable { F.IsAlwaysCallable how.now.made.now }
+    requires equal { (x y : V) → V.eq x y ≡ true → x ≡ y }
+    requires flat { IsFlat chooser.now }
+    requires own { IsBounded (R.number how.now.read.now) pair.now.own.items.now pair.now.own.bounds.now }
+    requires others { IsBounded (S.number how.now.other_reading.now) pair.now.other.items.now pair.now.other.bounds.now }
+    ensures long { IfOk result (λ _. vec_len out.old ≤ vec_len out.new) }
+    ensures back { IfOk result (λ _. rooms.new ≡ rooms.old) }
+    ensures made { IfOk result (λ _. (c : TreeNode Bool) (n : TreeNode T) (m : TreeNode U) → chooser.now ≡ flat c → pair.now.own.items.now ≡ flat n →
+        pair.now.other.items.now ≡ flat m →
+        Adds (IsJoinedWhere (λ x y z. F.post how.now.made.now (max (R.number how.now.read.now x) (S.number how.now.other_reading.now y)) z) none rooms.old c n m)
+            out.old.items out.new.items) }
+{
+    match top_of(chooser) {
+        Top::Value(is_on) => {
+            if is_on {
+                return greater_by(pair.own, pair.other, rooms, how, out);
+            }
+            out.push(Item::Value(none))?;
+            Ok(())
+        }
+        Top::Cut {
+            variable,
+            cut,
+            below,
+            above,
+        } => {
+            if !rooms.asked.is_open_below(variable, cut) {
+                return greater_where(above, pair, rooms, how, none, out);
+            }
+            if !rooms.asked.is_open_above(variable, cut) {
+                return greater_where(below, pair, rooms, how, none, out);
+            }
+            let start = out.len();
+            let highs = rooms.ask_below(variable, cut);
+            greater_where(below, pair, rooms, how, none, out)?;
+            rooms.reopen_above(variable, highs);
+            let middle = out.len();
+            let lows = rooms.ask_above(variable, cut);
+            greater_where(above, pair, rooms, how, none, out)?;
+            rooms.reopen_below(variable, lows);
+            fork(out, start, middle, variable, cut)
+        }
+    }
+}
+
+impl Tree<bool> {
+    /// What a function makes in each scenario of the greater number of two trees whose leaves are read as numbers where this
+    /// one is true, and one value elsewhere: nothing is made of what is left out. The one error is `OutOfMemory`.
+    pub fn greater_where<
+        T: Copy,
+        U: Copy,
+        V: Copy + Eq,
+        R: Reading<T>,
+        S: Reading<U>,
+        F: Fn(u64) -> V,
+    >(
+        &self,
+        tree: &Tree<T>,
+        read: &R,
+        other: &Tree<U>,
+        also: &S,
+        made: &F,
+        none: V,
+    ) -> Result<Tree<V>, OutOfMemory>
+        requires callable { F.IsAlwaysCallable made.now }
+        requires equal { (x y : V) → V.eq x y ≡ true → x ≡ y }
+        requires first { self.now.faults ≡ tree.now.faults }
+        requires second { self.now.faults ≡ other.now.faults }
+        ensures is { IfOk result (IsJoinWhere (λ x y z. F.post made.now (max (R.number read.now x) (S.number also.now y)) z) none
+            self.now tree.now other.now) }
+        ensures each { IfOk result (λ t. HasOnePathEach t.faults t.paths) }
+        ensures tidy { IfOk result (λ t. All (IsTidyPath t.faults) t.paths) }
+        ensures pass { IfOk result (λ t. (test : ℕ → Bool) → DoPathsPass test self.now.paths → DoPathsPass test tree.now.paths →
+            DoPathsPass test other.now.paths → DoPathsPass test t.paths) }
+    {
+        let alloc = self.alloc();
+        let own_items = tree.items();
+        let other_items = other.items();
+        // one list for both takes fewer and larger blocks than two
+        let mut bounds = Vec::new(alloc);
+        push_bounds(own_items, read, &mut bounds)?;
+        let forks = bounds.len();
+        push_bounds(other_items, also, &mut bounds)?;
+        let (own_bounds, other_bounds) = bounds.split_at(forks);
+        let pair = TreePair {
+            own: BoundedTree {
+                items: own_items,
+                bounds: own_bounds,
+            },
+            other: BoundedTree {
+                items: other_items,
+                bounds: other_bounds,
+            },
+        };
+        let how = Greater {
+            read,
+            other_reading: also,
+            made,
+        };
+        let faults = self.faults();
+        let space = Space::whole(faults);
+        let mut rooms = Rooms {
+            asked: space,
+            walked: space,
+        };
+        let mut items = Vec::new(alloc);
+        greater_where(self.items(), &pair, &mut rooms, &how, none, &mut items)?;
+        Ok(Tree::of(alloc, faults, items))
+    }
+}

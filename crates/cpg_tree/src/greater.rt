@@ -1,0 +1,278 @@
+//! The greater of two trees whose leaves are read as numbers.
+ghost use Rattle.std.specs.Prelude.{◌≡◌, ◌≤◌, max, ℕ, Bool, All, IfOk, true, vec_len};
+ghost use Rattle.cpg_tree.specs.Added.{Adds, IsFilled, IsJoined};
+ghost use Rattle.cpg_tree.specs.AddedInBoth.{BoundedPartIs, IsJoinedIn};
+ghost use Rattle.cpg_tree.specs.Bounds.{IsBounded, bounds_in};
+ghost use Rattle.cpg_tree.specs.Flat.{IsFlat, flat};
+ghost use Rattle.cpg_tree.specs.Later.{time_later};
+ghost use Rattle.cpg_tree.specs.Tree.{DoPathsPass, HasOnePathEach, IsJoin, IsTidyPath};
+ghost use Rattle.cpg_tree.specs.TreeNode.{TreeNode};
+
+use crate::Tree;
+use crate::asked::{Rooms, Way};
+use crate::bounds::{BoundedTree, push_bounds, sides, span_of};
+use crate::fork::fork;
+use crate::item::Item;
+use crate::join::fill_items;
+use crate::reading::{AsIs, Later, Reading};
+use crate::space::Space;
+use crate::top::{Top, top_of};
+use cpg_base::OutOfMemory;
+
+/// How the leaves of two trees are read as numbers, and what is made of the greater one.
+#[derive(Clone, Copy)]
+pub(crate) struct Greater<'a, R, S, F> {
+    pub(crate) read: &'a R,
+    pub(crate) other_reading: &'a S,
+    pub(crate) made: &'a F,
+}
+
+/// The part of a tree that all scenarios of a space come to.
+fn bounded_part<'a, T: Copy>(tree: BoundedTree<'a, T>, space: &Space) -> BoundedTree<'a, T>
+    requires { IsFlat tree.items.now }
+    ensures part { (n : TreeNode T) → tree.entry.items.now ≡ flat n → BoundedPartIs space.now n tree.entry.bounds.now result.items.now result.bounds.now }
+    ensures flat { IsFlat result.items.now }
+{
+    match top_of(tree.items) {
+        Top::Value(_) => tree,
+        Top::Cut {
+            variable,
+            cut,
+            below,
+            above,
+        } => {
+            if !space.is_open_below(variable, cut) {
+                return bounded_part(sides(tree.bounds, below, above).1, space);
+            }
+            if !space.is_open_above(variable, cut) {
+                return bounded_part(sides(tree.bounds, below, above).0, space);
+            }
+            tree
+        }
+    }
+}
+
+/// Adds what is made of a value or the tree's number, whichever is greater, for the scenarios of a space.
+pub(crate) fn at_least<T: Copy, V: Copy + Eq, R: Reading<T>, F: Fn(u64) -> V>(
+    items: &[Item<T>],
+    space: &mut Space,
+    value: u64,
+    read: &R,
+    made: &F,
+    out: &mut Vec<Item<V>>,
+) -> Result<(), OutOfMemory>
+    requires callable { F.IsAlwaysCallable made.now }
+    requires equal { (x y : V) → V.eq x y ≡ true → x ≡ y }
+    requires flat { IsFlat items.now }
+    ensures long { IfOk result (λ _. vec_len out.old ≤ vec_len out.new) }
+    ensures back { IfOk result (λ _. space.new ≡ space.old) }
+    ensures made { IfOk result (λ _. (n : TreeNode T) → items.now ≡ flat n →
+        Adds (IsFilled (λ x y z. F.post made.now (max x (R.number read.now y)) z) space.old value n) out.old.items out.new.items) }
+{
+    fill_items(
+        items,
+        space,
+        value,
+        &|first: u64, second: T| made(first.max(read.number(second))),
+        out,
+    )
+}
+
+/// Adds what is made of the greater number of two trees in the scenarios of two spaces. If one is at least the other everywhere,
+/// nothing of the other is tested. What is asked for is the first space alone: the second is what the forks on the way have
+/// left, so that the answer has the forks that it has in the whole space.
+pub(crate) fn greater_by<
+    T: Copy,
+    U: Copy,
+    V: Copy + Eq,
+    R: Reading<T>,
+    S: Reading<U>,
+    F: Fn(u64) -> V,
+>(
+    own: BoundedTree<'_, T>,
+    other: BoundedTree<'_, U>,
+    rooms: &mut Rooms,
+    how: &Greater<'_, R, S, F>,
+    out: &mut Vec<Item<V>>,
+) -> Result<(), OutOfMemory>
+    requires callable { F.IsAlwaysCallable how.now.made.now }
+    requires equal { (x y : V) → V.eq x y ≡ true → x ≡ y }
+    requires own { IsBounded (R.number how.now.read.now) own.items.now own.bounds.now }
+    requires others { IsBounded (S.number how.now.other_reading.now) other.items.now other.bounds.now }
+    ensures long { IfOk result (λ _. vec_len out.old ≤ vec_len out.new) }
+    ensures back { IfOk result (λ _. rooms.new ≡ rooms.old) }
+    ensures made { IfOk result (λ _. (n : TreeNode T) (m : TreeNode U) → own.entry.items.now ≡ flat n → other.entry.items.now ≡ flat m →
+        Adds (IsJoinedIn (λ x y z. F.post how.now.made.now (max (R.number how.now.read.now x) (S.number how.now.other_reading.now y)) z) rooms.old n m)
+            out.old.items out.new.items) }
+{
+    let other = bounded_part(other, &rooms.walked);
+    let own_span = span_of(own, how.read);
+    let other_span = span_of(other, how.other_reading);
+    if own_span.is_at_least(other_span) {
+        return at_least(own.items, &mut rooms.asked, 0, how.read, how.made, out);
+    }
+    if other_span.is_at_least(own_span) {
+        return at_least(
+            other.items,
+            &mut rooms.asked,
+            0,
+            how.other_reading,
+            how.made,
+            out,
+        );
+    }
+    match top_of(own.items) {
+        Top::Value(value) => {
+            let number = how.read.number(value);
+            at_least(
+                other.items,
+                &mut rooms.asked,
+                number,
+                how.other_reading,
+                how.made,
+                out,
+            )
+        }
+        Top::Cut {
+            variable,
+            cut,
+            below,
+            above,
+        } => {
+            let (below, above) = sides(own.bounds, below, above);
+            match rooms.way(variable, cut) {
+                Way::Above(lows) => {
+                    greater_by(above, other, rooms, how, out)?;
+                    rooms.reopen_below(variable, lows);
+                    Ok(())
+                }
+                Way::Below(highs) => {
+                    greater_by(below, other, rooms, how, out)?;
+                    rooms.reopen_above(variable, highs);
+                    Ok(())
+                }
+                Way::Both => {
+                    let start = out.len();
+                    let highs = rooms.close_above(variable, cut);
+                    greater_by(below, other, rooms, how, out)?;
+                    rooms.reopen_above(variable, highs);
+                    let middle = out.len();
+                    let lows = rooms.close_below(variable, cut);
+                    greater_by(above, other, rooms, how, out)?;
+                    rooms.reopen_below(variable, lows);
+                    fork(out, start, middle, variable, cut)
+                }
+            }
+        }
+    }
+}
+
+/// Adds what is made of the greater number of two trees in the scenarios of a space.
+pub(crate) fn greater_items<
+    T: Copy,
+    U: Copy,
+    V: Copy + Eq,
+    R: Reading<T>,
+    S: Reading<U>,
+    F: Fn(u64) -> V,
+>(
+    own: &[Item<T>],
+    other: &[Item<U>],
+    space: &mut Space,
+    how: &Greater<'_, R, S, F>,
+    out: &mut Vec<Item<V>>,
+) -> Result<(), OutOfMemory>
+    requires callable { F.IsAlwaysCallable how.now.made.now }
+    requires equal { (x y : V) → V.eq x y ≡ true → x ≡ y }
+    requires flat { IsFlat own.now }
+    requires other_flat { IsFlat other.now }
+    ensures long { IfOk result (λ _. vec_len out.old ≤ vec_len out.new) }
+    ensures made { IfOk result (λ _. (n : TreeNode T) (m : TreeNode U) → own.now ≡ flat n → other.now ≡ flat m →
+        Adds (IsJoined (λ x y z. F.post how.now.made.now (max (R.number how.now.read.now x) (S.number how.now.other_reading.now y)) z) space.old n m)
+            out.old.items out.new.items) }
+{
+    if let Top::Value(value) = top_of(own) {
+        let number = how.read.number(value);
+        return at_least(other, space, number, how.other_reading, how.made, out);
+    }
+    if let Top::Value(value) = top_of(other) {
+        let number = how.other_reading.number(value);
+        return at_least(own, space, number, how.read, how.made, out);
+    }
+    // one list for both takes fewer and larger blocks than two
+    let mut bounds = Vec::new(*out.allocator());
+    push_bounds(own, how.read, &mut bounds)?;
+    let forks = bounds.len();
+    push_bounds(other, how.other_reading, &mut bounds)?;
+    let (own_bounds, other_bounds) = bounds.split_at(forks);
+    let own = BoundedTree {
+        items: own,
+        bounds: own_bounds,
+    };
+    let other = BoundedTree {
+        items: other,
+        bounds: other_bounds,
+    };
+    let mut rooms = Rooms {
+        asked: *space,
+        walked: *space,
+    };
+    greater_by(own, other, &mut rooms, how, out)
+}
+
+impl<T: Copy> Tree<T> {
+    /// What a function makes in each scenario of the greater number of two trees whose leaves are read as numbers. If one
+    /// tree's numbers are at least the other's everywhere, nothing of the other is tested, which no clause asks for. The one
+    /// error is `OutOfMemory`.
+    pub fn greater<U: Copy, V: Copy + Eq, R: Reading<T>, S: Reading<U>, F: Fn(u64) -> V>(
+        &self,
+        read: &R,
+        other: &Tree<U>,
+        also: &S,
+        made: &F,
+    ) -> Result<Tree<V>, OutOfMemory>
+        requires callable { F.IsAlwaysCallable made.now }
+        requires equal { (x y : V) → V.eq x y ≡ true → x ≡ y }
+        requires same { self.now.faults ≡ other.now.faults }
+        ensures is { IfOk result (IsJoin (λ x y z. F.post made.now (max (R.number read.now x) (S.number also.now y)) z) self.now other.now) }
+        ensures each { IfOk result (λ t. HasOnePathEach t.faults t.paths) }
+        ensures tidy { IfOk result (λ t. All (IsTidyPath t.faults) t.paths) }
+        ensures pass { IfOk result (λ t. (test : ℕ → Bool) → DoPathsPass test self.now.paths → DoPathsPass test other.now.paths → DoPathsPass test t.paths) }
+    {
+        let faults = self.faults();
+        let mut space = Space::whole(faults);
+        let how = Greater {
+            read,
+            other_reading: also,
+            made,
+        };
+        let others = other.items();
+        let mut items = Vec::new(self.alloc());
+        greater_items(self.items(), others, &mut space, &how, &mut items)?;
+        Ok(Tree::of(self.alloc(), faults, items))
+    }
+}
+
+impl Tree<u64> {
+    /// In each scenario the greater value of two trees.
+    pub fn max(&self, other: &Tree<u64>) -> Result<Tree<u64>, OutOfMemory>
+        requires same { self.now.faults ≡ other.now.faults }
+        ensures is { IfOk result (IsJoin (λ x y z. z ≡ max x y) self.now other.now) }
+        ensures each { IfOk result (λ t. HasOnePathEach t.faults t.paths) }
+        ensures tidy { IfOk result (λ t. All (IsTidyPath t.faults) t.paths) }
+        ensures pass { IfOk result (λ t. (test : ℕ → Bool) → DoPathsPass test self.now.paths → DoPathsPass test other.now.paths → DoPathsPass test t.paths) }
+    {
+        self.greater(&AsIs, other, &AsIs, &|number: u64| number)
+    }
+
+    /// In each scenario the greater of this tree's number and another's, 0 if that has none, later by a delay.
+    pub fn max_later(&self, other: &Tree<Option<u64>>, delay: u64) -> Result<Tree<u64>, OutOfMemory>
+        requires same { self.now.faults ≡ other.now.faults }
+        ensures is { IfOk result (IsJoin (λ x y z. z ≡ max x (time_later delay y)) self.now other.now) }
+        ensures each { IfOk result (λ t. HasOnePathEach t.faults t.paths) }
+        ensures tidy { IfOk result (λ t. All (IsTidyPath t.faults) t.paths) }
+        ensures pass { IfOk result (λ t. (test : ℕ → Bool) → DoPathsPass test self.now.paths → DoPathsPass test other.now.paths → DoPathsPass test t.paths) }
+    {
+        self.greater(&AsIs, other, &Later { delay }, &|number: u64| number)
+    }
+}
