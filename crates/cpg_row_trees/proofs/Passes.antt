@@ -2,12 +2,16 @@
 use Rattle.std.proofs.Common.{ℕ, ◌≤◌, ◌<◌, ◌≡◌, sym, subst, inl, inr}
 use Rattle.std.proofs.lemmas.Bool.{cases_lt}
 use Rattle.cpg_base.specs.Scenario.{Scenario, number_of}
-use Rattle.cpg_tree.specs.TreeNode.{TreeNode, Fork}
+use Rattle.cpg_tree.specs.TreeNode.{TreeNode, Leaf, Fork}
 use Rattle.cpg_tree.specs.declared.space.Space.{Space}
 use Rattle.cpg_tree.specs.Space.{Lies}
 use Rattle.cpg_tree.specs.Decision.{value_at}
 use Rattle.cpg_row_trees.specs.Places.{IsToldAll}
 use Rattle.cpg_tree.proofs.Forks.{value_below, value_above}
+
+-- what passes at a value passes on its leaf
+pub told_leaf : {T : Type 0} (fact : T → Scenario → Type 0) (room : Space) (x : T) (n : TreeNode T) → n ≡ Leaf x → ((s : Scenario) → Lies room s → fact x s) → IsToldAll fact room n
+told_leaf {T} fact room x n is all = subst (λ (m : TreeNode T). IsToldAll fact room m) (sym is) all
 
 module _ {T : Type 0} (fact : T → Scenario → Type 0) (room : Space) (v cut : ℕ) (below above n : TreeNode T) (is : n ≡ Fork v cut below above) where
   from_side : (s : Scenario) (x y : T) → y ≡ x → fact x s → fact y s

@@ -109,7 +109,8 @@ shows_cut {T} (Fork u far below above) items sides v cut m is last =
     let rest : sides ≡ flat below ++ flat above = rest_same sides (flat below ++ flat above) _ _ both in
     let number : m ≡ length (flat below) = cc in
     let short : min m (length sides) ≡ length (flat below) = omega (arith, number, ap length rest, length-append (flat below) (flat above)) in (
-      below, above,
+      below,
+      above,
       ap (take (min m (length sides))) rest ∙ take_front (flat below) (flat above) _ short,
       ap (drop (min m (length sides))) rest ∙ drop_front (flat below) (flat above) _ short,
       is ∙ ap (λ i. flat below ++ flat above ++ (i ∷ [])) (sym same) ∙ ap (λ k. flat below ++ flat above ++ (Cut v cut k ∷ [])) number,

@@ -115,17 +115,19 @@ module _ {T : Type 0} (start middle : ℕ) (old before : List (Item T)) (below a
     pub forks_met : IsMet (drop start (take middle old)) (drop middle old) v cut → new ≡ take start old ++ drop (start + (middle - start)) old → Adds (IsForked v cut below above) before new
     forks_met (far, rest, less, ends) taken =
         let whole : flat above ≡ flat below ++ rest ++ (Cut v far (length (flat below)) ∷ []) =
-            sym above_is ∙ ends ∙ ap (λ (xs : List (Item T)). xs ++ rest ++ (Cut v far (length xs) ∷ [])) below_is in
-        let is = met_is above below rest v far whole in
-        (above, taken ∙ ap (λ (xs : List (Item T)). xs ++ drop (start + (middle - start)) old) before_is ∙ ap (λ n. before ++ drop n old) again ∙ ap (λ (xs : List (Item T)). before ++ xs) above_is,
-        subst (λ (n : TreeNode T). IsForked v cut below n n) (sym is.1) (forked_met v cut below is.0 far less))
+        sym above_is ∙ ends ∙ ap (λ (xs : List (Item T)). xs ++ rest ++ (Cut v far (length xs) ∷ [])) below_is in
+        let is = met_is above below rest v far whole in (
+          above,
+          taken ∙ ap (λ (xs : List (Item T)). xs ++ drop (start + (middle - start)) old) before_is ∙ ap (λ n. before ++ drop n old) again ∙ ap (λ (xs : List (Item T)). before ++ xs) above_is,
+          subst (λ (n : TreeNode T). IsForked v cut below n n) (sym is.1) (forked_met v cut below is.0 far less),
+        )
 
     -- else the fork is added
     pub forks_plain : v < 256 → new ≡ old ++ (Cut v cut (middle - start) ∷ []) → Adds (IsForked v cut below above) before new
     forks_plain small added = (
       Fork v cut below above,
       added ∙ ap (λ (xs : List (Item T)). xs ++ (Cut v cut (middle - start) ∷ [])) (split.is ∙ append_assoc before (flat below) (flat above))
-      ∙ append_assoc before (flat below ++ flat above) (Cut v cut (middle - start) ∷ [])
-      ∙ ap (λ n. before ++ (flat below ++ flat above ++ (Cut v cut n ∷ []))) between,
+          ∙ append_assoc before (flat below ++ flat above) (Cut v cut (middle - start) ∷ [])
+          ∙ ap (λ n. before ++ (flat below ++ flat above ++ (Cut v cut n ∷ []))) between,
       forked_plain v cut below above small,
     )

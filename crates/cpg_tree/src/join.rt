@@ -7,9 +7,9 @@ ghost use Rattle.cpg_tree.specs.Added.{Adds, IsFilled, IsJoined};
 use crate::fork::fork;
 use crate::item::Item;
 use crate::part::part_in;
+use crate::space::Space;
 use crate::top::{Top, top_of};
 use cpg_base::OutOfMemory;
-use crate::space::Space;
 
 /// Adds the tree of the answers to a value and the values, for the scenarios of a space.
 pub(crate) fn fill_items<T: Copy, U: Copy, V: Copy + Eq, F: Fn(T, U) -> V>(

@@ -96,9 +96,9 @@ impl<T: Copy + Eq> Tree<T> {
     {
         let faults = chooser.faults();
         let mut space = Space::whole(faults);
-        let mut made = Vec::new(chooser.alloc());
         let on = yes.items();
         let off = no.items();
+        let mut made = Vec::with_capacity(chooser.alloc(), on.len().max(off.len()))?;
         pick_items(chooser.items(), &mut space, on, off, &mut made)?;
         Ok(Tree::of(chooser.alloc(), faults, made))
     }

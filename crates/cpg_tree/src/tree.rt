@@ -87,7 +87,7 @@ impl<T: Copy> Tree<T> {
         ensures tidy { IfOk result (λ t. All (IsTidyPath t.faults) t.paths) }
         ensures pass { IfOk result (λ t. (test : ℕ → Bool) → DoPathsPass test t.paths) }
     {
-        let mut items = Vec::new(alloc);
+        let mut items = Vec::with_capacity(alloc, 1)?;
         items.push(Item::Value(value))?;
         Ok(Tree::of(alloc, k, items))
     }
@@ -133,8 +133,8 @@ impl<T: Copy> Tree<T> {
     {
         let faults = self.faults();
         let mut space = Space::whole(faults);
-        let mut made = Vec::new(self.alloc);
         let others = other.items();
+        let mut made = Vec::with_capacity(self.alloc, self.items.len().max(others.len()))?;
         join_items(self.items(), others, &mut space, f, &mut made)?;
         Ok(Tree::of(self.alloc, faults, made))
     }
@@ -148,7 +148,7 @@ impl<T: Copy> Tree<T> {
         ensures tidy { IfOk result (λ t. All (IsTidyPath t.faults) t.paths) }
         ensures pass { IfOk result (λ t. (test : ℕ → Bool) → DoPathsPass test self.now.paths → DoPathsPass test t.paths) }
     {
-        let mut made = Vec::new(self.alloc);
+        let mut made = Vec::with_capacity(self.alloc, self.items.len())?;
         map_items(self.items(), f, &mut made)?;
         Ok(Tree::of(self.alloc, self.faults(), made))
     }

@@ -12,12 +12,7 @@ use cpg_base::{FIRST_VALUE, OutOfMemory};
 use std::alloc::Global;
 
 /// Adds the tree of the count of a process, if it is `first` or more.
-fn push_counts(
-    process: u8,
-    first: u8,
-    k: u8,
-    out: &mut Vec<Item<u8>>,
-) -> Result<(), OutOfMemory>
+fn push_counts(process: u8, first: u8, k: u8, out: &mut Vec<Item<u8>>) -> Result<(), OutOfMemory>
     requires process { process < 128 }
     requires first { first ≤ k }
     ensures long { IfOk result (λ _. vec_len out.old ≤ vec_len out.new) }

@@ -1,9 +1,9 @@
 -- A scenario that two trees come to in a space, and the greatest number of the one where the other is true.
-use Rattle.std.proofs.Common.{ℕ, ◌+◌, ◌-◌, ◌<◌, ◌≤◌, ◌≡◌, Bool, true, false, nat_lt, Option, Some, None, unwrap_or, get_or, length, sum_by, arith, refl, sym, ap, ◌∙◌, subst, inl, inr, ◌⊎◌, lt-ltb}
+use Rattle.std.proofs.Common.{ℕ, ◌+◌, ◌-◌, ◌<◌, ◌≤◌, ◌≡◌, Bool, true, false, nat_lt, Option, Some, None, List, unwrap_or, get_or, length, sum_by, arith, refl, sym, ap, ◌∙◌, subst, inl, inr, ◌⊎◌, lt-ltb}
 use Rattle.std.proofs.Common.{le-ltb}
 use Rattle.std.specs.Prelude.{nat_le}
 use Rattle.std.specs.Option.{IfNone, IfSome}
-use Rattle.std.specs.Bool.{OnTrue}
+use Rattle.std.specs.Bool.{OnFalse, OnTrue}
 use Rattle.std.proofs.lemmas.Bool.{cases_lt, cases_eq, cond-true, cond-false, leb-true, ltb-true, or_cases, and_parts}
 use Rattle.std.proofs.lemmas.Option.{none-some}
 use Rattle.std.proofs.lemmas.List.{get_or_past}
@@ -16,6 +16,8 @@ use Rattle.cpg_base.specs.Scenario.{Scenario, IsScenario, number_of, fault_of, n
 use Rattle.cpg_cube.specs.Fit.{scenario_of}
 use Rattle.cpg_cube.proofs.Boxes.{made_number, made_lawful}
 use Rattle.cpg_tree.specs.TreeNode.{TreeNode, Leaf, Fork}
+use Rattle.cpg_tree.specs.declared.item.Item.{Item}
+use Rattle.cpg_tree.specs.Flat.{flat}
 use Rattle.cpg_tree.specs.Decision.{value_at, IsGood}
 use Rattle.cpg_tree_columns.specs.Meeting.{AreForksOf, AreOf, ComesTo, HasWhere, IsFoundIn, IsMetIn, IsMostIn, IsMostWhere, IsNowhere, IsReachedWhere, IsRoomOf, IsUpTo}
 use Rattle.cpg_tree.specs.Paths.{paths_of}
@@ -23,6 +25,7 @@ use Rattle.cpg_tree.specs.declared.space.Space.{Space}
 use Rattle.cpg_tree.specs.Space.{Lies, HasFew, IsWhole, beyond, is_open_below, is_open_above, below_cut, above_cut}
 use Rattle.cpg_tree.specs.Tree.{TreeState}
 use Rattle.cpg_tree.specs.Variables.{is_variable}
+use Rattle.cpg_tree.proofs.Flats.{flat-same}
 use Rattle.cpg_tree.proofs.Forks.{value_below, value_above, passes_parts}
 use Rattle.cpg_tree.proofs.OnePath.{scenario_few, the_path}
 use Rattle.cpg_tree.proofs.Passing.{variable_from, forks_of_paths}
@@ -216,9 +219,14 @@ true_leaf room node b is on g forks of_g =
     (r.0, r.1, r.2, ap (λ (n : TreeNode Bool). value_at n r.0) is ∙ on)
 
 -- as a call answers it
-pub leaf_met : (room : Space) (node : TreeNode Bool) (b : Bool) → node ≡ Leaf b → OnTrue b (IsTrueIn room node)
-leaf_met room node true is = true_leaf room node true is refl
-leaf_met room node false is = tt
+module _ (room : Space) where
+  pub leaf_met : (b : Bool) (items : List (Item Bool)) → items ≡ flat (Leaf b) → OnTrue b ((n : TreeNode Bool) → items ≡ flat n → IsTrueIn room n)
+  leaf_met true items is = λ n are. true_leaf room n true (flat-same n (Leaf true) (sym are ∙ is)) refl
+  leaf_met false items is = tt
+
+  pub leaf_never : (b : Bool) (items : List (Item Bool)) → items ≡ flat (Leaf b) → OnFalse b ((n : TreeNode Bool) → items ≡ flat n → IsNeverIn room n)
+  leaf_never true items is = tt
+  leaf_never false items is = λ n are s lies. ap (λ (m : TreeNode Bool). value_at m s) (flat-same n (Leaf false) (sym are ∙ is))
 
 module _ (v cut : ℕ) (there : v < 256) (low high node : TreeNode Bool) (is : node ≡ Fork v cut low high) (room : Space) where
   low_is : (s : Scenario) → number_of s v ≤ cut → value_at node s ≡ value_at low s
@@ -272,6 +280,14 @@ not_both e = cc
 pub most_never : (room : Space) (node : TreeNode (Option ℕ)) (wanted : TreeNode Bool) (best : Option ℕ) → IsNeverIn room wanted → IsMostIn room node wanted best best
 most_never room node wanted best none = record {
   above = λ s n lies comes. absurd (not_both (sym comes.1 ∙ none s lies));
+  from = λ n h. h;
+  found = inl refl;
+}
+
+-- a leaf whose number is no greater than the best
+pub most_least : (room : Space) (node : TreeNode (Option ℕ)) (wanted : TreeNode Bool) (x best : Option ℕ) → node ≡ Leaf x → ((n : ℕ) → x ≡ Some n → IsUpTo best n) → IsMostIn room node wanted best best
+most_least room node wanted x best is none = record {
+  above = λ s n lies comes. none n (sym (ap (λ (m : TreeNode (Option ℕ)). value_at m s) is) ∙ comes.0);
   from = λ n h. h;
   found = inl refl;
 }

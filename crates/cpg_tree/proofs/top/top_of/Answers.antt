@@ -14,8 +14,9 @@ returns-in-Value-clause-shows g c =
 pub returns-in-Cut-clause-shows : goal.returns-in-Cut-clause-shows
 returns-in-Cut-clause-shows g c =
     let shows = shows_cut c.requires.0 c.args.items.now c.in-Some.sides.now c.in-Cut.variable c.in-Cut.cut c.in-Cut.below c.requires.1
-        (c.in-Some.ensures.cases.0 ∙ ap (λ (i : Item g.row.T.Denot). c.in-Some.sides.now ++ (i ∷ [])) c.in-Cut.is) in (
-      shows.0, shows.1,
+    (c.in-Some.ensures.cases.0 ∙ ap (λ (i : Item g.row.T.Denot). c.in-Some.sides.now ++ (i ∷ [])) c.in-Cut.is) in (
+      shows.0,
+      shows.1,
       c.split_at.ensures.front ∙ ap (λ n. take n c.in-Some.sides.now) c.min.ensures ∙ shows.2,
       c.split_at.ensures.back ∙ ap (λ n. drop n c.in-Some.sides.now) c.min.ensures ∙ shows.3,
       shows.4,

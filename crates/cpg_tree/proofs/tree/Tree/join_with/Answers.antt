@@ -7,7 +7,7 @@ of-requires g c =
     let n = c.items.ensures.flat in
     let m = c.items-others.ensures.flat in
     let r = c.in_ok-join_items.ensures.made n.0 m.0 n.1 m.1 in
-    let are = all_added c.new-made.result.items c.join_items.new.out.items r.0 c.new-made.ensures.items r.1 in
+    let are = all_added c.in_ok-made.made.items c.join_items.new.out.items r.0 c.in_ok-made.ensures.items r.1 in
     good_made c.faults-faults.result c.whole-space.result r.0 c.join_items.new.out.items c.whole-space.ensures.is r.2.fit are
 
 pub returns-clause-is : goal.returns-clause-is
@@ -15,7 +15,7 @@ returns-clause-is g c =
     let n = c.items.ensures.flat in
     let m = c.items-others.ensures.flat in
     let r = c.in_ok-join_items.ensures.made n.0 m.0 n.1 m.1 in
-    let are = all_added c.new-made.result.items c.join_items.new.out.items r.0 c.new-made.ensures.items r.1 in
+    let are = all_added c.in_ok-made.made.items c.join_items.new.out.items r.0 c.in_ok-made.ensures.items r.1 in
     join_shown c.args.self.now c.args.other.now n.0 m.0 (c.items.ensures.good n.0 n.1) (c.items-others.ensures.good m.0 m.1) (c.items.ensures.paths n.0 n.1) (c.items-others.ensures.paths m.0 m.1)
     c.faults-faults.result c.faults-faults.ensures r.0 c.of.result (c.of.ensures.is r.0 are) (λ (x : g.row.T.Denot) (y : g.row.U.Denot) (z : g.row.V.Denot). g.F.Fn.post c.args.f.now (x, (y, tt)) z) c.requires.same
     c.whole-space.result c.whole-space.ensures.is c.whole-space.ensures.lies r.2.fit r.2.made
@@ -25,6 +25,6 @@ returns-clause-pass g c test =
     let n = c.items.ensures.flat in
     let m = c.items-others.ensures.flat in
     let r = c.in_ok-join_items.ensures.made n.0 m.0 n.1 m.1 in
-    let are = all_added c.new-made.result.items c.join_items.new.out.items r.0 c.new-made.ensures.items r.1 in
+    let are = all_added c.in_ok-made.made.items c.join_items.new.out.items r.0 c.in_ok-made.ensures.items r.1 in
     join_passes c.args.self.now c.args.other.now n.0 m.0 (c.items.ensures.good n.0 n.1) (c.items-others.ensures.good m.0 m.1) (c.items.ensures.paths n.0 n.1) (c.items-others.ensures.paths m.0 m.1)
     c.faults-faults.result c.faults-faults.ensures r.0 c.of.result (c.of.ensures.is r.0 are) test (r.2.pass test)
