@@ -91,6 +91,16 @@ module _ {T : Type 0} (number : T → ℕ) where
       let same : bounds ≡ bounds_in number (Fork v cut x y) = is.2 ∙ ap (bounds_in number) (flat-same is.0 (Fork v cut x y) (sym is.1 ∙ are)) in
       omega (arith, ap length same, length-append (bounds_in number x ++ bounds_in number y) (span_in number (Fork v cut x y) ∷ []))
 
+-- the bounds of two trees in one list
+module _ {T U : Type 0} (number : T → ℕ) (other_number : U → ℕ) (n : TreeNode T) (m : TreeNode U) (none first both : List Span) (forks : ℕ) (empty : none ≡ [])
+    (one : first ≡ none ++ bounds_in number n) (two : both ≡ first ++ bounds_in other_number m) (long : forks ≡ length first) where
+  pub first_bounds : take forks both ≡ bounds_in number n
+  first_bounds =
+      ap (λ k. take k both) long ∙ ap (take (length first)) two ∙ take-append_seam first (bounds_in other_number m) ∙ one ∙ ap (λ (xs : List Span). xs ++ bounds_in number n) empty
+
+  pub second_bounds : drop forks both ≡ bounds_in other_number m
+  second_bounds = ap (λ k. drop k both) long ∙ ap (drop (length first)) two ∙ drop-append_seam first (bounds_in other_number m)
+
 -- what the spans tell
 pub at_least_by : {T U : Type 0} (number : T → ℕ) (other_number : U → ℕ) (a : TreeNode T) (b : TreeNode U) (own others : Span) (is : Bool) →
     own ≡ span_in number a → others ≡ span_in other_number b → is ≡ nat_le others.most own.least → is ≡ true → IsAtLeast number other_number a b

@@ -1,5 +1,6 @@
-use Rattle.std.proofs.Common.{ℕ, max, ◌≡◌, sym, subst}
+use Rattle.std.proofs.Common.{ℕ, max, ◌≡◌, ◌∙◌, drop, take, ap, sym, subst}
 use Rattle.cpg_tree.specs.Tree.{TreeState, IsJoinWhere, DoPathsPass}
+use Rattle.cpg_tree.proofs.BoundLaws.{first_bounds, second_bounds}
 use Rattle.cpg_tree.proofs.Flats.{all_added}
 use Rattle.cpg_tree.proofs.Publics.{good_made}
 use Rattle.cpg_tree.proofs.Where.{where_seen, where_pass}
@@ -38,3 +39,19 @@ returns-clause-pass g c test first second third =
     subst (λ (x : TreeState g.row.V.Denot). DoPathsPass test x.paths) (sym (c.of.ensures.is r.0 are))
     (where_pass n.0 a.0 b.0 r.0 c.args.self.now c.args.tree.now c.args.other.now (c.items.ensures.paths n.0 n.1) (c.items-own_items.ensures.paths a.0 a.1) (c.items-other_items.ensures.paths b.0 b.1)
     c.faults-faults.result test (r.2.pass test) first second third)
+
+pub greater_where-requires-clause-own : goal.greater_where-requires-clause-own
+greater_where-requires-clause-own g c =
+    let n = c.items-own_items.ensures.flat in
+    let m = c.items-other_items.ensures.flat in
+    (n.0, n.1, c.split_at.ensures.front ∙ ap (take c.len-forks.result) c.deref.ensures.value ∙ first_bounds (g.R.Reading.number c.args.read.now) (g.S.Reading.number c.args.also.now) n.0 m.0 c.new-bounds.result.items
+    c.push_bounds.new.bounds.items c.push_bounds-2.new.bounds.items c.len-forks.result c.new-bounds.ensures.items (c.in_ok-push_bounds.ensures.bounds n.0 n.1)
+    (c.in_ok-push_bounds-2.ensures.bounds m.0 m.1) (c.len-forks.ensures ∙ c.push_bounds.new.bounds.ok.0))
+
+pub greater_where-requires-clause-others : goal.greater_where-requires-clause-others
+greater_where-requires-clause-others g c =
+    let n = c.items-own_items.ensures.flat in
+    let m = c.items-other_items.ensures.flat in
+    (m.0, m.1, c.split_at.ensures.back ∙ ap (drop c.len-forks.result) c.deref.ensures.value ∙ second_bounds (g.R.Reading.number c.args.read.now) (g.S.Reading.number c.args.also.now) n.0 m.0 c.new-bounds.result.items
+    c.push_bounds.new.bounds.items c.push_bounds-2.new.bounds.items c.len-forks.result c.new-bounds.ensures.items (c.in_ok-push_bounds.ensures.bounds n.0 n.1)
+    (c.in_ok-push_bounds-2.ensures.bounds m.0 m.1) (c.len-forks.ensures ∙ c.push_bounds.new.bounds.ok.0))
