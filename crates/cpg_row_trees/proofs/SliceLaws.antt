@@ -278,7 +278,8 @@ module _ (cubes : List (List Literal)) (k : ℕ) (room under over : Space) (from
           fork.0,
           fork.1,
           leads_apart cubes k room under over from border to v cut lo.0 hi.0 fork.0 fork.2.made lo.2 hi.2 goes_under goes_over
-              (back_from_under k room under v cut narrow n there highs reached open_ more is_under goes_under) (back_from_over k room over v cut narrow n there lows reached open_ more is_over goes_over)
+              (back_from_under k room under v cut narrow n there highs reached open_ more is_under goes_under) (back_from_over k room over v cut narrow n there lows reached open_ more is_over
+              goes_over)
               (under_cut k room under v cut narrow n there highs reached open_ more is_under goes_under) (over_cut k room over v cut narrow n there lows reached open_ more is_over goes_over),
         );
         fewer = omega (arith, low.fewer, high.fewer, as_full);

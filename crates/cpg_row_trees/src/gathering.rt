@@ -10,7 +10,7 @@ ghost use Rattle.cpg_row_trees.specs.Places.{IsAmong};
 
 use crate::walk::Test;
 use cpg_base::OutOfMemory;
-use cpg_tree::{Item, Space, Top, part_in, top_of};
+use cpg_tree::{Space, Top, TreeItem, part_in, top_of};
 
 /// Adds a place, if there is one; whether there is.
 fn add_place(place: Option<u32>, found: &mut Vec<u32>) -> Result<bool, OutOfMemory>
@@ -27,7 +27,7 @@ fn add_place(place: Option<u32>, found: &mut Vec<u32>) -> Result<bool, OutOfMemo
 /// Adds the places that scenarios of a space come to, as long as there is one and a test passes at each; false if it
 /// stopped before the last. The space is changed on the way, and is as before if it didn't stop.
 fn gather_each<J: Test>(
-    items: &[Item<Option<u32>>],
+    items: &[TreeItem<Option<u32>>],
     space: &mut Space,
     test: &J,
     found: &mut Vec<u32>,
@@ -80,7 +80,7 @@ fn gather_each<J: Test>(
 /// As `gather_each`, with a space of its own to change. It is a function of its own, since that space is cleared at
 /// each call.
 fn gather_in_all<J: Test>(
-    items: &[Item<Option<u32>>],
+    items: &[TreeItem<Option<u32>>],
     space: &Space,
     test: &J,
     found: &mut Vec<u32>,
@@ -115,7 +115,7 @@ fn gather_one<J: Test>(
 /// Adds the places that scenarios of a space come to, as long as there is one and a test passes at each; false if it
 /// stopped before the last.
 pub(crate) fn gather<J: Test>(
-    items: &[Item<Option<u32>>],
+    items: &[TreeItem<Option<u32>>],
     space: &Space,
     test: &J,
     found: &mut Vec<u32>,

@@ -15,7 +15,7 @@ use crate::slices::led_out;
 use crate::walk::{PairTest, Test, do_pass, do_pass_with};
 use cpg_base::{FIRST_VALUE, OutOfMemory};
 use cpg_cube::{Cube, Literal};
-use cpg_tree::{Item, Space, Tally, fork_of};
+use cpg_tree::{Space, Tally, TreeItem, fork_of};
 use std::alloc::Global;
 use std::marker::Model;
 
@@ -87,7 +87,7 @@ struct PlaceSides {
 /// A list to which the items of trees are added, and how many more there may be.
 #[derive(Drop)]
 pub(crate) struct TreeGrowth {
-    pub(crate) items: Vec<Item<Option<u32>>>,
+    pub(crate) items: Vec<TreeItem<Option<u32>>>,
     pub(crate) left: u32,
 }
 
@@ -118,7 +118,7 @@ impl TreeGrowth {
         ensures items { IfOk result (λ _. self.new.items.items ≡ self.old.items.items ++ flat (Leaf place)) }
         ensures left { self.new.left ≡ self.old.left }
     {
-        self.items.push(Item::Value(place))?;
+        self.items.push(TreeItem::Value(place))?;
         Ok(())
     }
 }
@@ -704,7 +704,7 @@ fn all_sorted_out(
 /// For each scenario the place of the one cube that it matches, if it matches one: a tree, seen as its items.
 #[derive(Drop)]
 pub struct Places {
-    items: Vec<Item<Option<u32>>>,
+    items: Vec<TreeItem<Option<u32>>>,
 }
 
 impl Model for Places {

@@ -7,7 +7,7 @@ ghost use Rattle.cpg_tree.specs.Decision.{value_at};
 ghost use Rattle.cpg_tree.specs.Flat.{IsFlat, flat};
 ghost use Rattle.cpg_tree.specs.TreeNode.{TreeNode};
 
-use cpg_tree::{Item, Space, Top, part_in, top_of};
+use cpg_tree::{Space, Top, TreeItem, part_in, top_of};
 
 /// A test of the places that scenarios come to: what it tells if it passes.
 pub trait Test {
@@ -48,7 +48,7 @@ impl<'a, J: PairTest> Test for Beside<'a, J> {
 
 /// Whether a test passes at each place that scenarios of a space come to. The space is changed on the way, and is as
 /// before if the test passes at each.
-fn do_pass_each<J: Test>(items: &[Item<Option<u32>>], space: &mut Space, test: &J) -> bool
+fn do_pass_each<J: Test>(items: &[TreeItem<Option<u32>>], space: &mut Space, test: &J) -> bool
     requires { IsFlat items.now }
     ensures passed { OnTrue result ((n : TreeNode (Option ℕ)) → items.now ≡ flat n → (s : Scenario) → Lies space.old s → J.tells test.now (value_at n s) s) }
     ensures same { OnTrue result (space.new ≡ space.old) }
@@ -84,7 +84,7 @@ fn do_pass_each<J: Test>(items: &[Item<Option<u32>>], space: &mut Space, test: &
 
 /// As `do_pass_each`, with a space of its own to change. It is a function of its own, since that space is cleared at
 /// each call.
-fn do_pass_in_all<J: Test>(items: &[Item<Option<u32>>], space: &Space, test: &J) -> bool
+fn do_pass_in_all<J: Test>(items: &[TreeItem<Option<u32>>], space: &Space, test: &J) -> bool
     requires { IsFlat items.now }
     ensures { OnTrue result ((n : TreeNode (Option ℕ)) → items.now ≡ flat n → (s : Scenario) → Lies space.now s → J.tells test.now (value_at n s) s) }
 {
@@ -94,7 +94,7 @@ fn do_pass_in_all<J: Test>(items: &[Item<Option<u32>>], space: &Space, test: &J)
 
 /// Whether a test passes at each place that scenarios of a space come to. The space isn't copied as long as one side of
 /// each fork is closed, as mostly.
-pub(crate) fn do_pass<J: Test>(items: &[Item<Option<u32>>], space: &Space, test: &J) -> bool
+pub(crate) fn do_pass<J: Test>(items: &[TreeItem<Option<u32>>], space: &Space, test: &J) -> bool
     requires { IsFlat items.now }
     ensures { OnTrue result ((n : TreeNode (Option ℕ)) → items.now ≡ flat n → (s : Scenario) → Lies space.now s → J.tells test.now (value_at n s) s) }
 {
@@ -121,7 +121,7 @@ pub(crate) fn do_pass<J: Test>(items: &[Item<Option<u32>>], space: &Space, test:
 /// The space is changed on the way, and is as before if the test passes with each.
 fn do_pass_at<J: PairTest>(
     first: Option<u32>,
-    second: &[Item<Option<u32>>],
+    second: &[TreeItem<Option<u32>>],
     space: &mut Space,
     test: &J,
 ) -> bool
@@ -139,8 +139,8 @@ fn do_pass_at<J: PairTest>(
 /// Whether a test passes at each two places that scenarios of a space come to in two trees. The second is walked down
 /// with the first. The space is changed on the way, and is as before if the test passes at each two.
 fn do_pass_both<J: PairTest>(
-    first: &[Item<Option<u32>>],
-    second: &[Item<Option<u32>>],
+    first: &[TreeItem<Option<u32>>],
+    second: &[TreeItem<Option<u32>>],
     space: &mut Space,
     test: &J,
 ) -> bool
@@ -182,8 +182,8 @@ fn do_pass_both<J: PairTest>(
 
 /// Whether a test passes at each two places that scenarios of a space come to in two trees.
 pub(crate) fn do_pass_with<J: PairTest>(
-    first: &[Item<Option<u32>>],
-    second: &[Item<Option<u32>>],
+    first: &[TreeItem<Option<u32>>],
+    second: &[TreeItem<Option<u32>>],
     space: &Space,
     test: &J,
 ) -> bool

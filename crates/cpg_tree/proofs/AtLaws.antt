@@ -5,15 +5,15 @@ use Rattle.cpg_base.specs.Scenario.{Scenario, number_of}
 use Rattle.cpg_cube.specs.declared.literal.Literal.{Literal}
 use Rattle.cpg_cube.specs.Narrow.{narrowed_by}
 use Rattle.cpg_tree.specs.TreeNode.{TreeNode, Leaf, Fork}
-use Rattle.cpg_tree.specs.declared.item.Item.{Item}
-use Rattle.cpg_tree.specs.declared.item.Item.TheVariants.{Value, Cut}
+use Rattle.cpg_tree.specs.declared.item.TreeItem.{TreeItem}
+use Rattle.cpg_tree.specs.declared.item.TreeItem.TheVariants.{Value, Cut}
 use Rattle.cpg_tree.specs.Decision.{value_at}
 use Rattle.cpg_tree.specs.Flat.{flat}
 use Rattle.cpg_tree.specs.Paths.{paths_from, up_to, above}
 use Rattle.cpg_tree.proofs.Forks.{value_below, value_above}
 use Rattle.cpg_tree.proofs.Flats.{flat-same}
 
-module _ {T : Type 0} (items : List (Item T)) (n : TreeNode T) (are : items ≡ flat n) (s : Scenario) where
+module _ {T : Type 0} (items : List (TreeItem T)) (n : TreeNode T) (are : items ≡ flat n) (s : Scenario) where
   pub at_leaf : (x : T) → items ≡ flat (Leaf x) → x ≡ value_at n s
   at_leaf x is = ap (λ (m : TreeNode T). value_at m s) (flat-same (Leaf x) n (sym is ∙ are))
 
@@ -28,7 +28,7 @@ module _ {T : Type 0} (items : List (Item T)) (n : TreeNode T) (are : items ≡ 
 pub length-flat : {T : Type 0} (n : TreeNode T) (k : ℕ) (cube : List Literal) → length (flat n) + 1 ≡ 2 * length (paths_from k cube n)
 length-flat (Leaf x) k cube = refl
 length-flat {T} (Fork v cut x y) k cube =
-    let last : List (Item T) = Cut v cut (length (flat x)) ∷ [] in
+    let last : List (TreeItem T) = Cut v cut (length (flat x)) ∷ [] in
     omega (
       arith,
       length-append (flat x ++ flat y) last,
@@ -41,5 +41,5 @@ length-flat {T} (Fork v cut x y) k cube =
 half : (a b : ℕ) → a + 1 ≡ 2 * b → a - a / 2 ≡ b
 half a b e = omega arith
 
-pub leaves_are : {T : Type 0} (items : List (Item T)) (n : TreeNode T) (k : ℕ) (cube : List Literal) → items ≡ flat n → length items - length items / 2 ≡ length (paths_from k cube n)
+pub leaves_are : {T : Type 0} (items : List (TreeItem T)) (n : TreeNode T) (k : ℕ) (cube : List Literal) → items ≡ flat n → length items - length items / 2 ≡ length (paths_from k cube n)
 leaves_are items n k cube are = half (length items) (length (paths_from k cube n)) (ap (λ m. m + 1) (ap length are) ∙ length-flat n k cube)

@@ -5,7 +5,7 @@ use Rattle.std.proofs.lemmas.List.Elements.{All-append, All-cons, All-nil}
 use Rattle.cpg_cube.specs.declared.literal.Literal.{Literal}
 use Rattle.cpg_cube.specs.Narrow.{narrowed_by}
 use Rattle.cpg_tree.specs.TreeNode.{TreeNode, Leaf, Fork}
-use Rattle.cpg_tree.specs.declared.item.Item.{Item}
+use Rattle.cpg_tree.specs.declared.item.TreeItem.{TreeItem}
 use Rattle.cpg_tree.specs.Flat.{flat}
 use Rattle.cpg_tree.specs.Later.{IsAtLeast, time_later}
 use Rattle.cpg_tree.specs.Paths.{up_to, above, paths_from}
@@ -25,13 +25,14 @@ module _ (least : ℕ) where
       (at_least_paths k below (narrowed_by (up_to v cut) cube) h.0) (at_least_paths k upper (narrowed_by (above k v cut) cube) h.1)
 
   -- what a list tells of its tree
-  abbrev pub AllFrom : List (Item (Option ℕ)) → Type 0
+  abbrev pub AllFrom : List (TreeItem (Option ℕ)) → Type 0
   AllFrom items = (n : TreeNode (Option ℕ)) → items ≡ flat n → IsAtLeast least n
 
-  pub from_value : (b : Bool) (x : Option ℕ) (items : List (Item (Option ℕ))) → items ≡ flat (Leaf x) → OnTrue b (x ≡ Some (max (time_later 0 x) least)) → OnTrue b (AllFrom items)
+  pub from_value : (b : Bool) (x : Option ℕ) (items : List (TreeItem (Option ℕ))) → items ≡ flat (Leaf x) → OnTrue b (x ≡ Some (max (time_later 0 x) least)) → OnTrue b (AllFrom items)
   from_value b x items leaf h = of_true b h (λ e n are. subst (IsAtLeast least) (flat-same (Leaf x) n (sym leaf ∙ are)) e)
 
-  pub from_sides : (low high : Bool) (v cut : ℕ) (x y : TreeNode (Option ℕ)) (items : List (Item (Option ℕ))) → items ≡ flat (Fork v cut x y) → low ≡ true → (below above : List (Item (Option ℕ))) →
+  pub from_sides : (low high : Bool) (v cut : ℕ) (x y : TreeNode (Option ℕ)) (items : List (TreeItem (Option ℕ))) → items ≡ flat (Fork v cut x y) → low ≡ true → (below above : List (TreeItem
+      (Option ℕ))) →
       below ≡ flat x → above ≡ flat y →
       OnTrue low (AllFrom below) → OnTrue high (AllFrom above) → OnTrue high (AllFrom items)
   from_sides low high v cut x y items fork on below above one two of_low of_high =

@@ -6,8 +6,8 @@ use Rattle.std.proofs.lemmas.Bool.{leb-true}
 use Rattle.std.proofs.lemmas.List.{append-nil, length-append}
 use Rattle.std.proofs.Math.Seq.{take-append_seam, drop-append_seam}
 use Rattle.cpg_tree.specs.declared.bounds.Span.{Span}
-use Rattle.cpg_tree.specs.declared.item.Item.{Item}
-use Rattle.cpg_tree.specs.declared.item.Item.TheVariants.{Cut}
+use Rattle.cpg_tree.specs.declared.item.TreeItem.{TreeItem}
+use Rattle.cpg_tree.specs.declared.item.TreeItem.TheVariants.{Cut}
 use Rattle.cpg_tree.specs.TreeNode.{TreeNode, Leaf, Fork}
 use Rattle.cpg_tree.specs.Bounds.{AreSides, IsBounded, bounds_in, span_in}
 use Rattle.cpg_tree.specs.Flat.{flat}
@@ -16,7 +16,8 @@ use Rattle.cpg_tree.proofs.Flats.{flat-same, last_same, rest_same}
 use Rattle.cpg_tree.proofs.Greatness.{least_under, most_over}
 
 -- a list without its last item is cut behind the first part
-pub sides_are : (bounds sides : List Span) (last : Span) (forks : ℕ) → IsLastAndRest bounds last sides → AreSides bounds forks (take (min forks (length sides)) sides) (drop (min forks (length sides)) sides)
+pub sides_are : (bounds sides : List Span) (last : Span) (forks : ℕ) → IsLastAndRest bounds last sides → AreSides bounds forks (take (min forks (length sides)) sides) (drop (min forks
+    (length sides)) sides)
 sides_are bounds sides last forks cut front back fork are long =
     let same : sides ≡ front ++ back = rest_same sides (front ++ back) last fork (sym cut.0 ∙ are) in
     let at : min forks (length sides) ≡ length front = omega (arith, long, ap length same, length-append front back) in (
@@ -40,11 +41,11 @@ forks_in number (Fork v cut below above) = omega (
 half : (items forks : ℕ) → items ≡ 2 * forks + 1 → items / 2 ≡ forks
 half items forks e = omega (arith, e)
 
-pub forks_are : {T : Type 0} (number : T → ℕ) (n : TreeNode T) (items : List (Item T)) → items ≡ flat n → length items / 2 ≡ length (bounds_in number n)
+pub forks_are : {T : Type 0} (number : T → ℕ) (n : TreeNode T) (items : List (TreeItem T)) → items ≡ flat n → length items / 2 ≡ length (bounds_in number n)
 forks_are number n items are = half (length items) (length (bounds_in number n)) (ap length are ∙ forks_in number n)
 
 -- the span of a fork
-module _ {T : Type 0} (number : T → ℕ) (v cut : ℕ) (x y n : TreeNode T) (items : List (Item T)) (is : items ≡ flat (Fork v cut x y)) (are : items ≡ flat n) (first second both : Span)
+module _ {T : Type 0} (number : T → ℕ) (v cut : ℕ) (x y n : TreeNode T) (items : List (TreeItem T)) (is : items ≡ flat (Fork v cut x y)) (are : items ≡ flat n) (first second both : Span)
     (low : first ≡ span_in number x) (high : second ≡ span_in number y) (made : both ≡ record { least = min first.least second.least; most = max first.most second.most }) where
   fork_is : Fork v cut x y ≡ n
   fork_is = flat-same (Fork v cut x y) n (sym is ∙ are)
@@ -65,7 +66,7 @@ module _ {T : Type 0} (number : T → ℕ) (v cut : ℕ) (x y n : TreeNode T) (i
       ∙ ap (λ (m : TreeNode T). old ++ bounds_in number m) fork_is
 
 -- the span of a value
-module _ {T : Type 0} (number : T → ℕ) (x : T) (n : TreeNode T) (items : List (Item T)) (is : items ≡ flat (Leaf x)) (are : items ≡ flat n) where
+module _ {T : Type 0} (number : T → ℕ) (x : T) (n : TreeNode T) (items : List (TreeItem T)) (is : items ≡ flat (Leaf x)) (are : items ≡ flat n) where
   leaf_is : Leaf x ≡ n
   leaf_is = flat-same (Leaf x) n (sym is ∙ are)
 
@@ -81,12 +82,13 @@ module _ {T : Type 0} (number : T → ℕ) where
   last_span (Leaf x) sides span e = absurd (omega (arith, ap length e, length-append sides (span ∷ [])))
   last_span (Fork v cut below above) sides span e = last_same sides (bounds_in number below ++ bounds_in number above) span (span_in number (Fork v cut below above)) (sym e)
 
-  pub span_last : (items : List (Item T)) (bounds : List Span) → IsBounded number items bounds → (span : Span) (sides : List Span) → bounds ≡ sides ++ (span ∷ []) → (n : TreeNode T) → items ≡ flat n →
+  pub span_last : (items : List (TreeItem T)) (bounds : List Span) → IsBounded number items bounds → (span : Span) (sides : List Span) → bounds ≡ sides ++ (span ∷ []) →
+      (n : TreeNode T) → items ≡ flat n →
       span ≡ span_in number n
   span_last items bounds is span sides last n are = last_span is.0 sides span (sym is.2 ∙ last) ∙ ap (span_in number) (flat-same is.0 n (sym is.1 ∙ are))
 
   -- and a fork has one
-  pub fork_bounded : (items : List (Item T)) (bounds : List Span) → IsBounded number items bounds → (v cut : ℕ) (x y : TreeNode T) → items ≡ flat (Fork v cut x y) → 0 < length bounds
+  pub fork_bounded : (items : List (TreeItem T)) (bounds : List Span) → IsBounded number items bounds → (v cut : ℕ) (x y : TreeNode T) → items ≡ flat (Fork v cut x y) → 0 < length bounds
   fork_bounded items bounds is v cut x y are =
       let same : bounds ≡ bounds_in number (Fork v cut x y) = is.2 ∙ ap (bounds_in number) (flat-same is.0 (Fork v cut x y) (sym is.1 ∙ are)) in
       omega (arith, ap length same, length-append (bounds_in number x ++ bounds_in number y) (span_in number (Fork v cut x y) ∷ []))

@@ -3,22 +3,22 @@ use Rattle.std.proofs.Common.{ℕ, ◌<◌, ◌≡◌, List, [], ◌∷◌, ◌+
 use Rattle.std.proofs.lemmas.List.{length-append}
 use Rattle.std.proofs.Math.Seq.{take-append_seam, drop-append_seam}
 use Rattle.cpg_tree.specs.TreeNode.{TreeNode, Leaf, Fork}
-use Rattle.cpg_tree.specs.declared.item.Item.{Item}
-use Rattle.cpg_tree.specs.declared.item.Item.TheVariants.{Value, Cut}
+use Rattle.cpg_tree.specs.declared.item.TreeItem.{TreeItem}
+use Rattle.cpg_tree.specs.declared.item.TreeItem.TheVariants.{Value, Cut}
 use Rattle.cpg_tree.specs.Flat.{flat}
 use Rattle.cpg_tree.specs.ReadBack.{stacked, read_back, paths_on, paths_in}
 use Rattle.cpg_tree.specs.Paths.{paths_of}
 
 -- ---- a list gives its tree back
 
-read_back-append : {T : Type 0} (xs ys : List (Item T)) (stack : List (TreeNode T)) → read_back (xs ++ ys) stack ≡ read_back ys (read_back xs stack)
+read_back-append : {T : Type 0} (xs ys : List (TreeItem T)) (stack : List (TreeNode T)) → read_back (xs ++ ys) stack ≡ read_back ys (read_back xs stack)
 read_back-append [] ys stack = refl
 read_back-append (x ∷ xs) ys stack = read_back-append xs ys (stacked x stack)
 
 pub read_back-flat : {T : Type 0} (n : TreeNode T) (stack : List (TreeNode T)) → read_back (flat n) stack ≡ n ∷ stack
 read_back-flat (Leaf x) stack = refl
 read_back-flat {T} (Fork v cut below above) stack =
-    let last : List (Item T) = Cut v cut (length (flat below)) ∷ [] in
+    let last : List (TreeItem T) = Cut v cut (length (flat below)) ∷ [] in
     read_back-append (flat below ++ flat above) last stack
     ∙ ap (read_back last) (read_back-append (flat below) (flat above) stack ∙ ap (read_back (flat above)) (read_back-flat below stack) ∙ read_back-flat above (below ∷ stack))
 
@@ -32,7 +32,7 @@ unfolding first_or
 flat-same a b e = ap (first_or a) (sym (read_back-flat a []) ∙ ap (λ xs. read_back xs []) e ∙ read_back-flat b [])
 
 -- the paths that a list gives back are its tree's
-pub paths_in-flat : {T : Type 0} (k : ℕ) (items : List (Item T)) (n : TreeNode T) → items ≡ flat n → paths_in k items ≡ paths_of k n
+pub paths_in-flat : {T : Type 0} (k : ℕ) (items : List (TreeItem T)) (n : TreeNode T) → items ≡ flat n → paths_in k items ≡ paths_of k n
 paths_in-flat k items n are = ap (paths_in k) are ∙ ap (paths_on k) (read_back-flat n [])
 
 -- each tree has items
@@ -41,8 +41,8 @@ flat-long (Leaf x) = omega arith
 flat-long (Fork v cut below above) = omega (arith, length-append (flat below ++ flat above) (Cut v cut (length (flat below)) ∷ []))
 
 -- what is added to no items is all there is
-pub all_added : {T : Type 0} (old new : List (Item T)) (n : TreeNode T) → old ≡ [] → new ≡ old ++ flat n → new ≡ flat n
-all_added {T} old new n none added = added ∙ ap (λ (xs : List (Item T)). xs ++ flat n) none
+pub all_added : {T : Type 0} (old new : List (TreeItem T)) (n : TreeNode T) → old ≡ [] → new ≡ old ++ flat n → new ≡ flat n
+all_added {T} old new n none added = added ∙ ap (λ (xs : List (TreeItem T)). xs ++ flat n) none
 
 -- ---- the last item tells what the tree is
 
@@ -66,11 +66,11 @@ module _ {A : Type 0} where
       sym (take-append_seam xs (x ∷ [])) ∙ ap (take (length xs)) e ∙ ap (λ n. take n (ys ++ (y ∷ []))) long ∙ take-append_seam ys (y ∷ [])
 
 -- what stands before the last item, and which it is
-abbrev pub sides_of : {T : Type 0} → TreeNode T → List (Item T)
+abbrev pub sides_of : {T : Type 0} → TreeNode T → List (TreeItem T)
 sides_of (Leaf x) = []
 sides_of (Fork v cut below above) = flat below ++ flat above
 
-abbrev pub item_of : {T : Type 0} → TreeNode T → Item T
+abbrev pub item_of : {T : Type 0} → TreeNode T → TreeItem T
 item_of (Leaf x) = Value x
 item_of (Fork v cut below above) = Cut v cut (length (flat below))
 
@@ -95,12 +95,12 @@ pub cut_is_no_value : {T : Type 0} {x : T} {v cut n : ℕ} → Cut v cut n ≡ V
 cut_is_no_value e = cc
 
 -- a list whose last item is a value
-pub shows_value : {T : Type 0} (n : TreeNode T) (items sides : List (Item T)) (x : T) → items ≡ flat n → items ≡ sides ++ (Value x ∷ []) → items ≡ flat (Leaf x)
+pub shows_value : {T : Type 0} (n : TreeNode T) (items sides : List (TreeItem T)) (x : T) → items ≡ flat n → items ≡ sides ++ (Value x ∷ []) → items ≡ flat (Leaf x)
 shows_value (Leaf y) items sides x is last = is ∙ ap (λ i. i ∷ []) (sym (last_same sides [] (Value x) (Value y) (sym last ∙ is)))
 shows_value (Fork v cut below above) items sides x is last = absurd (value_is_no_cut (last_same sides (flat below ++ flat above) (Value x) (Cut v cut (length (flat below))) (sym last ∙ is)))
 
 -- and one whose last item is a cut
-pub shows_cut : {T : Type 0} (n : TreeNode T) (items sides : List (Item T)) (v cut m : ℕ) → items ≡ flat n → items ≡ sides ++ (Cut v cut m ∷ []) →
+pub shows_cut : {T : Type 0} (n : TreeNode T) (items sides : List (TreeItem T)) (v cut m : ℕ) → items ≡ flat n → items ≡ sides ++ (Cut v cut m ∷ []) →
     (x : TreeNode T) × (y : TreeNode T) × (take (min m (length sides)) sides ≡ flat x) × (drop (min m (length sides)) sides ≡ flat y) × (items ≡ flat (Fork v cut x y))
 shows_cut {T} (Leaf z) items sides v cut m is last = absurd (cut_is_no_value (last_same sides [] (Cut v cut m) (Value z) (sym last ∙ is)))
 shows_cut {T} (Fork u far below above) items sides v cut m is last =

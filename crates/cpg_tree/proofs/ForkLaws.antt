@@ -3,8 +3,8 @@ use Rattle.std.proofs.Common.{ℕ, ◌+◌, ◌-◌, ◌<◌, ◌≤◌, ◌≡�
 use Rattle.std.proofs.lemmas.List.{length-append}
 use Rattle.cpg_base.specs.Scenario.{Scenario, number_of}
 use Rattle.cpg_tree.specs.TreeNode.{TreeNode, Leaf, Fork}
-use Rattle.cpg_tree.specs.declared.item.Item.{Item}
-use Rattle.cpg_tree.specs.declared.item.Item.TheVariants.{Value, Cut}
+use Rattle.cpg_tree.specs.declared.item.TreeItem.{TreeItem}
+use Rattle.cpg_tree.specs.declared.item.TreeItem.TheVariants.{Value, Cut}
 use Rattle.cpg_tree.specs.Decision.{value_at, low_at, high_at}
 use Rattle.cpg_tree.specs.Results.{IsForkOf}
 use Rattle.cpg_tree.specs.Flat.{flat}
@@ -69,7 +69,7 @@ module _ {T : Type 0} (v cut : ℕ) (below above : TreeNode T) where
     }
 
 -- a tree whose list begins with that of another and ends in a cut behind it
-pub met_is : {T : Type 0} (a b : TreeNode T) (rest : List (Item T)) (v far : ℕ) → flat a ≡ flat b ++ rest ++ (Cut v far (length (flat b)) ∷ []) → (y : TreeNode T) × (a ≡ Fork v far b y)
+pub met_is : {T : Type 0} (a b : TreeNode T) (rest : List (TreeItem T)) (v far : ℕ) → flat a ≡ flat b ++ rest ++ (Cut v far (length (flat b)) ∷ []) → (y : TreeNode T) × (a ≡ Fork v far b y)
 met_is (Leaf x) b rest v far e = absurd (cut_is_no_value (sym (last_same [] (flat b ++ rest) (Value x) _ e)))
 met_is {T} (Fork u cut x y) b rest v far e =
     let same : Cut u cut (length (flat x)) ≡ Cut v far (length (flat b)) = last_same (flat x ++ flat y) (flat b ++ rest) _ _ e in
@@ -82,7 +82,7 @@ met_is {T} (Fork u cut x y) b rest v far e =
 
 -- ---- of lists
 
-module _ {T : Type 0} (start middle : ℕ) (old before : List (Item T)) (below above : TreeNode T) (split : IsSplit start middle old before below above) where
+module _ {T : Type 0} (start middle : ℕ) (old before : List (TreeItem T)) (below above : TreeNode T) (split : IsSplit start middle old before below above) where
   behind : middle ≡ length (before ++ flat below)
   behind = omega (arith, split.second, length-append before (flat below))
 
@@ -104,7 +104,7 @@ module _ {T : Type 0} (start middle : ℕ) (old before : List (Item T)) (below a
   again : start + (middle - start) ≡ middle
   again = omega (arith, split.first, split.second)
 
-  module _ (v cut : ℕ) (new : List (Item T)) where
+  module _ (v cut : ℕ) (new : List (TreeItem T)) where
     -- both sides are equal
     pub forks_same : drop start (take middle old) ≡ drop middle old → new ≡ take middle old → Adds (IsForked v cut below above) before new
     forks_same same cutoff =
@@ -115,10 +115,10 @@ module _ {T : Type 0} (start middle : ℕ) (old before : List (Item T)) (below a
     pub forks_met : IsMet (drop start (take middle old)) (drop middle old) v cut → new ≡ take start old ++ drop (start + (middle - start)) old → Adds (IsForked v cut below above) before new
     forks_met (far, rest, less, ends) taken =
         let whole : flat above ≡ flat below ++ rest ++ (Cut v far (length (flat below)) ∷ []) =
-        sym above_is ∙ ends ∙ ap (λ (xs : List (Item T)). xs ++ rest ++ (Cut v far (length xs) ∷ [])) below_is in
+        sym above_is ∙ ends ∙ ap (λ (xs : List (TreeItem T)). xs ++ rest ++ (Cut v far (length xs) ∷ [])) below_is in
         let is = met_is above below rest v far whole in (
           above,
-          taken ∙ ap (λ (xs : List (Item T)). xs ++ drop (start + (middle - start)) old) before_is ∙ ap (λ n. before ++ drop n old) again ∙ ap (λ (xs : List (Item T)). before ++ xs) above_is,
+          taken ∙ ap (λ (xs : List (TreeItem T)). xs ++ drop (start + (middle - start)) old) before_is ∙ ap (λ n. before ++ drop n old) again ∙ ap (λ (xs : List (TreeItem T)). before ++ xs) above_is,
           subst (λ (n : TreeNode T). IsForked v cut below n n) (sym is.1) (forked_met v cut below is.0 far less),
         )
 
@@ -126,7 +126,7 @@ module _ {T : Type 0} (start middle : ℕ) (old before : List (Item T)) (below a
     pub forks_plain : v < 256 → new ≡ old ++ (Cut v cut (middle - start) ∷ []) → Adds (IsForked v cut below above) before new
     forks_plain small added = (
       Fork v cut below above,
-      added ∙ ap (λ (xs : List (Item T)). xs ++ (Cut v cut (middle - start) ∷ [])) (split.is ∙ append_assoc before (flat below) (flat above))
+      added ∙ ap (λ (xs : List (TreeItem T)). xs ++ (Cut v cut (middle - start) ∷ [])) (split.is ∙ append_assoc before (flat below) (flat above))
           ∙ append_assoc before (flat below ++ flat above) (Cut v cut (middle - start) ∷ [])
           ∙ ap (λ n. before ++ (flat below ++ flat above ++ (Cut v cut n ∷ []))) between,
       forked_plain v cut below above small,

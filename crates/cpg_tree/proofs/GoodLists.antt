@@ -2,7 +2,7 @@
 use Rattle.std.proofs.Common.{ℕ, ◌≡◌, Bool, true, false, List, All, sym, ap, subst}
 use Rattle.std.specs.Bool.{OnTrue}
 use Rattle.cpg_tree.specs.TreeNode.{TreeNode, Leaf}
-use Rattle.cpg_tree.specs.declared.item.Item.{Item}
+use Rattle.cpg_tree.specs.declared.item.TreeItem.{TreeItem}
 use Rattle.cpg_tree.specs.Flat.{flat}
 use Rattle.cpg_tree.specs.Paths.{paths_of}
 use Rattle.cpg_tree.specs.ReadBack.{IsGoodList, paths_in}
@@ -13,10 +13,10 @@ use Rattle.cpg_tree.proofs.Publics.{state}
 use Rattle.cpg_tree.proofs.TidyPaths.{tidy_all}
 
 -- the state of a tree, as its list gives it back
-abbrev pub state_in : {T : Type 0} → ℕ → List (Item T) → TreeState T
+abbrev pub state_in : {T : Type 0} → ℕ → List (TreeItem T) → TreeState T
 state_in k items = record { faults = k; paths = paths_in k items }
 
-module _ {T : Type 0} (k : ℕ) (items : List (Item T)) where
+module _ {T : Type 0} (k : ℕ) (items : List (TreeItem T)) where
   pub state_is : (n : TreeNode T) → items ≡ flat n → state_in k items ≡ state k n
   state_is n are = ap (λ (ps : List (Path T)). record { faults = k; paths = ps }) (paths_in-flat k items n are)
 
@@ -27,6 +27,7 @@ module _ {T : Type 0} (k : ℕ) (items : List (Item T)) where
   all_tidy good = subst (λ (ps : List (Path T)). All (IsTidyPath k) ps) (sym (paths_in-flat k items good.0 good.1)) (tidy_all k good.0 good.2)
 
 -- a list that is the value true is that of a tree that is true everywhere
-pub true_value : (b : Bool) (t : TreeState Bool) (items : List (Item Bool)) → items ≡ flat (Leaf b) → ((n : TreeNode Bool) → items ≡ flat n → t.paths ≡ paths_of t.faults n) → OnTrue b (IsConstant true t.faults t)
+pub true_value : (b : Bool) (t : TreeState Bool) (items : List (TreeItem Bool)) → items ≡ flat (Leaf b) → ((n : TreeNode Bool) → items ≡ flat n → t.paths ≡ paths_of t.faults n) → OnTrue b
+    (IsConstant true t.faults t)
 true_value true t items leaf paths = ap (λ (ps : List (Path Bool)). record { faults = t.faults; paths = ps }) (paths (Leaf true) leaf)
 true_value false t items leaf paths = tt

@@ -5,8 +5,8 @@ use Rattle.cpg_base.specs.Scenario.{Scenario, number_of}
 use Rattle.cpg_tree.specs.declared.space.Space.{Space}
 use Rattle.cpg_tree.specs.Space.{Lies, is_open_below, is_open_above, below_cut, above_cut}
 use Rattle.cpg_tree.specs.TreeNode.{TreeNode, Leaf, Fork}
-use Rattle.cpg_tree.specs.declared.item.Item.{Item}
-use Rattle.cpg_tree.specs.declared.item.Item.TheVariants.{Value, Cut}
+use Rattle.cpg_tree.specs.declared.item.TreeItem.{TreeItem}
+use Rattle.cpg_tree.specs.declared.item.TreeItem.TheVariants.{Value, Cut}
 use Rattle.cpg_tree.specs.Decision.{IsFit, DoForksPass, value_at, low_at, high_at}
 use Rattle.cpg_tree.specs.Flat.{flat}
 use Rattle.cpg_tree.specs.Added.{Adds, ForksEnd, IsSplit, IsPart, PartIs, IsFilled, IsJoined}
@@ -15,20 +15,21 @@ use Rattle.cpg_tree.proofs.Flats.{flat-same}
 
 -- ---- two lists behind another are split there
 
-pub split_of : {T : Type 0} (start middle : ℕ) (old low high : List (Item T)) (lo hi : TreeNode T) → low ≡ old ++ flat lo → high ≡ low ++ flat hi → start ≡ length old → middle ≡ length low → IsSplit start middle high old lo hi
+pub split_of : {T : Type 0} (start middle : ℕ) (old low high : List (TreeItem T)) (lo hi : TreeNode T) → low ≡ old ++ flat lo → high ≡ low ++ flat hi → start ≡ length old → middle ≡ length low →
+    IsSplit start middle high old lo hi
 split_of {T} start middle old low high lo hi one two first second = record {
-  is = two ∙ ap (λ (xs : List (Item T)). xs ++ flat hi) one;
+  is = two ∙ ap (λ (xs : List (TreeItem T)). xs ++ flat hi) one;
   first = first;
   second = second ∙ ap length one ∙ length-append old (flat lo);
 }
 
-module _ {T : Type 0} (room : Space) (v cut : ℕ) (x y n : TreeNode T) (items : List (Item T)) (is : items ≡ flat (Fork v cut x y)) (are : items ≡ flat n) where
+module _ {T : Type 0} (room : Space) (v cut : ℕ) (x y n : TreeNode T) (items : List (TreeItem T)) (is : items ≡ flat (Fork v cut x y)) (are : items ≡ flat n) where
   pub fork_is : n ≡ Fork v cut x y
   fork_is = flat-same n (Fork v cut x y) (sym are ∙ is)
 
   -- ---- parts
 
-  pub part_above : (part : List (Item T)) → ((s : Scenario) → Lies room s → cut < number_of s v) → PartIs room y part → PartIs room n part
+  pub part_above : (part : List (TreeItem T)) → ((s : Scenario) → Lies room s → cut < number_of s v) → PartIs room y part → PartIs room n part
   part_above part only p = (
     p.0,
     p.1,
@@ -38,7 +39,7 @@ module _ {T : Type 0} (room : Space) (v cut : ℕ) (x y n : TreeNode T) (items :
     },
   )
 
-  pub part_below : (part : List (Item T)) → ((s : Scenario) → Lies room s → number_of s v ≤ cut) → PartIs room x part → PartIs room n part
+  pub part_below : (part : List (TreeItem T)) → ((s : Scenario) → Lies room s → number_of s v ≤ cut) → PartIs room x part → PartIs room n part
   part_below part only p = (
     p.0,
     p.1,
@@ -50,7 +51,7 @@ module _ {T : Type 0} (room : Space) (v cut : ℕ) (x y n : TreeNode T) (items :
 
   -- ---- a value and a tree
 
-  module _ {A V : Type 0} (answers : A → T → V → Type 0) (a : A) (old new : List (Item V)) where
+  module _ {A V : Type 0} (answers : A → T → V → Type 0) (a : A) (old new : List (TreeItem V)) where
     pub fills_above : ((s : Scenario) → Lies room s → cut < number_of s v) → Adds (IsFilled answers room a y) old new → Adds (IsFilled answers room a n) old new
     fills_above only p = (
       p.0,
@@ -73,7 +74,7 @@ module _ {T : Type 0} (room : Space) (v cut : ℕ) (x y n : TreeNode T) (items :
       },
     )
 
-    module _ (shut upper : Space) (start middle : ℕ) (low high : List (Item V)) (under : is_open_below room v cut ≡ true) (over : is_open_above room v cut ≡ true)
+    module _ (shut upper : Space) (start middle : ℕ) (low high : List (TreeItem V)) (under : is_open_below room v cut ≡ true) (over : is_open_above room v cut ≡ true)
         (shut_is : shut ≡ below_cut room v cut) (upper_is : upper ≡ above_cut room v cut)
         (lies_shut : (s : Scenario) → Lies room s → number_of s v ≤ cut → Lies shut s) (lies_upper : (s : Scenario) → Lies room s → cut < number_of s v → Lies upper s)
         (first : start ≡ length old) (second : middle ≡ length low)
@@ -92,7 +93,7 @@ module _ {T : Type 0} (room : Space) (v cut : ℕ) (x y n : TreeNode T) (items :
 
   -- ---- two trees
 
-  module _ {U V : Type 0} (answers : T → U → V → Type 0) (m : TreeNode U) (old new : List (Item V)) where
+  module _ {U V : Type 0} (answers : T → U → V → Type 0) (m : TreeNode U) (old new : List (TreeItem V)) where
     pub joins_above : ((s : Scenario) → Lies room s → cut < number_of s v) → Adds (IsJoined answers room y m) old new → Adds (IsJoined answers room n m) old new
     joins_above only p = (
       p.0,
@@ -115,7 +116,7 @@ module _ {T : Type 0} (room : Space) (v cut : ℕ) (x y n : TreeNode T) (items :
       },
     )
 
-    module _ (shut upper : Space) (start middle : ℕ) (low high : List (Item V)) (under : is_open_below room v cut ≡ true) (over : is_open_above room v cut ≡ true)
+    module _ (shut upper : Space) (start middle : ℕ) (low high : List (TreeItem V)) (under : is_open_below room v cut ≡ true) (over : is_open_above room v cut ≡ true)
         (shut_is : shut ≡ below_cut room v cut) (upper_is : upper ≡ above_cut room v cut)
         (lies_shut : (s : Scenario) → Lies room s → number_of s v ≤ cut → Lies shut s) (lies_upper : (s : Scenario) → Lies room s → cut < number_of s v → Lies upper s)
         (first : start ≡ length old) (second : middle ≡ length low)
@@ -126,7 +127,8 @@ module _ {T : Type 0} (room : Space) (v cut : ℕ) (x y n : TreeNode T) (items :
             fork.0,
             fork.1,
             record {
-              made = two_fork_of (λ s x z. answers x (value_at m s) z) (λ s x u. low_at m s u) (λ k s x u. high_at k m s u) (Lies room) v cut x y n fork_is fork.0 (Lies shut) (Lies upper) one.0 two.0 one.2.made two.2.made fork.2.made lies_shut lies_upper;
+              made = two_fork_of (λ s x z. answers x (value_at m s) z) (λ s x u. low_at m s u) (λ k s x u. high_at k m s u) (Lies room) v cut x y n fork_is fork.0 (Lies shut)
+                  (Lies upper) one.0 two.0 one.2.made two.2.made fork.2.made lies_shut lies_upper;
               fit = fork.2.fit room under over (subst (λ r. IsFit r one.0) shut_is one.2.fit) (subst (λ r. IsFit r two.0) upper_is two.2.fit);
               pass = λ test pass other. let parts = passes_parts test v cut x y n fork_is pass in fork.2.pass test parts.0 (one.2.pass test parts.1 other) (two.2.pass test parts.2 other);
             },
@@ -140,13 +142,15 @@ filled_leaf answers room a x z is = record {
   pass = λ test pass. pass;
 }
 
-pub fills_leaf : {A T V : Type 0} (answers : A → T → V → Type 0) (room : Space) (a : A) (x : T) (z : V) (n : TreeNode T) (items : List (Item T)) (old new : List (Item V)) → answers a x z → items ≡ flat (Leaf x) → items ≡ flat n →
+pub fills_leaf : {A T V : Type 0} (answers : A → T → V → Type 0) (room : Space) (a : A) (x : T) (z : V) (n : TreeNode T) (items : List (TreeItem T)) (old new : List
+    (TreeItem V)) → answers a x z → items ≡ flat (Leaf x) → items ≡ flat n →
     new ≡ old ++ (Value z ∷ []) → Adds (IsFilled answers room a n) old new
 fills_leaf answers room a x z n items old new is leaf are added =
     (Leaf z, added, subst (λ m. IsFilled answers room a m (Leaf z)) (flat-same (Leaf x) n (sym leaf ∙ are)) (filled_leaf answers room a x z is))
 
 -- a value joined with a tree
-pub joins_leaf : {T U V : Type 0} (answers : T → U → V → Type 0) (room : Space) (x : T) (n : TreeNode T) (m : TreeNode U) (items : List (Item T)) (old new : List (Item V)) → items ≡ flat (Leaf x) → items ≡ flat n →
+pub joins_leaf : {T U V : Type 0} (answers : T → U → V → Type 0) (room : Space) (x : T) (n : TreeNode T) (m : TreeNode U) (items : List (TreeItem T)) (old new : List (TreeItem V)) → items ≡ flat
+    (Leaf x) → items ≡ flat n →
     Adds (IsFilled answers room x m) old new → Adds (IsJoined answers room n m) old new
 joins_leaf answers room x n m items old new leaf are p = (
   p.0,
@@ -159,7 +163,8 @@ joins_leaf answers room x n m items old new leaf are p = (
 )
 
 -- what is joined with a part is joined with the whole
-pub joins_whole : {T U V : Type 0} (answers : T → U → V → Type 0) (room : Space) (n : TreeNode T) (m part : TreeNode U) (old new : List (Item V)) → IsPart room m part → Adds (IsJoined answers room n part) old new → Adds (IsJoined answers room n m) old new
+pub joins_whole : {T U V : Type 0} (answers : T → U → V → Type 0) (room : Space) (n : TreeNode T) (m part : TreeNode U) (old new : List (TreeItem V)) → IsPart room m part → Adds
+    (IsJoined answers room n part) old new → Adds (IsJoined answers room n m) old new
 joins_whole answers room n m part old new is p = (
   p.0,
   p.1,

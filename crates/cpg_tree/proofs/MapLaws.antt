@@ -4,8 +4,8 @@ use Rattle.std.specs.Prelude.{⊤}
 use Rattle.std.proofs.lemmas.List.{length-append}
 use Rattle.cpg_tree.specs.declared.space.Space.{Space}
 use Rattle.cpg_tree.specs.TreeNode.{TreeNode, Leaf, Fork}
-use Rattle.cpg_tree.specs.declared.item.Item.{Item}
-use Rattle.cpg_tree.specs.declared.item.Item.TheVariants.{Value, Cut}
+use Rattle.cpg_tree.specs.declared.item.TreeItem.{TreeItem}
+use Rattle.cpg_tree.specs.declared.item.TreeItem.TheVariants.{Value, Cut}
 use Rattle.cpg_tree.specs.Decision.{IsFit, DoForksPass}
 use Rattle.cpg_tree.specs.Results.{IsMapOf}
 use Rattle.cpg_tree.specs.Flat.{flat}
@@ -29,17 +29,18 @@ module _ {T U : Type 0} (answers : T → U → Type 0) where
   }
 
   -- a value's answer is added
-  pub maps_leaf : (x : T) (y : U) (n : TreeNode T) (items : List (Item T)) (old new : List (Item U)) → answers x y → items ≡ flat (Leaf x) → items ≡ flat n → new ≡ old ++ (Value y ∷ []) → Adds (IsMapped answers n) old new
+  pub maps_leaf : (x : T) (y : U) (n : TreeNode T) (items : List (TreeItem T)) (old new : List (TreeItem U)) → answers x y → items ≡ flat (Leaf x) → items ≡ flat n → new ≡ old ++
+      (Value y ∷ []) → Adds (IsMapped answers n) old new
   maps_leaf x y n items old new a is are added =
       (Leaf y, added, subst (λ (m : TreeNode T). IsMapped answers m (Leaf y)) (flat-same (Leaf x) n (sym is ∙ are)) (mapped_leaf x y a))
 
   -- the answers of both sides are added, and then a fork is made of them
-  pub maps_fork : (v cut start middle : ℕ) (x y n : TreeNode T) (items : List (Item T)) (old low high new : List (Item U)) → items ≡ flat (Fork v cut x y) → items ≡ flat n →
+  pub maps_fork : (v cut start middle : ℕ) (x y n : TreeNode T) (items : List (TreeItem T)) (old low high new : List (TreeItem U)) → items ≡ flat (Fork v cut x y) → items ≡ flat n →
       Adds (IsMapped answers x) old low → Adds (IsMapped answers y) low high → start ≡ length old → middle ≡ length low →
       ForksEnd start middle v cut high new → Adds (IsMapped answers n) old new
   maps_fork v cut start middle x y n items old low high new is are one two first second forks =
       let fork = forks old one.0 two.0 (record {
-        is = two.1 ∙ ap (λ (xs : List (Item U)). xs ++ flat two.0) one.1;
+        is = two.1 ∙ ap (λ (xs : List (TreeItem U)). xs ++ flat two.0) one.1;
         first = first;
         second = second ∙ ap length one.1 ∙ length-append old (flat one.0);
       }) in

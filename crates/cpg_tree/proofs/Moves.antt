@@ -24,7 +24,8 @@ module _ {A : Type 0} (old : List A) (from count : ℕ) where
         ∙ ap (λ n. get_or old n x) same_place
         ∙ sym (get_or-drop (from + count) old j x)
 
-    turn : x ≡ slice_index_or (paste old from (drop (from + count) old) j) (from + j + count) x → slice_set (paste old from (drop (from + count) old) j) (from + j) x ≡ paste old from (drop (from + count) old) (j + 1)
+    turn : x ≡ slice_index_or (paste old from (drop (from + count) old) j) (from + j + count) x → slice_set (paste old from (drop (from + count) old) j) (from + j) x ≡ paste old from (drop
+        (from + count) old) (j + 1)
     turn value = ap (λ y. slice_set (paste old from (drop (from + count) old) j) (from + j) y) (value ∙ reads) ∙ paste_more old from (drop (from + count) old) j x (omega (arith, there)) rest_long
 
   -- one more item is moved

@@ -3,7 +3,7 @@ use Rattle.std.proofs.Common.{ℕ, ◌<◌, ◌≤◌, ◌≡◌, List, length, 
 use Rattle.cpg_base.specs.Scenario.{Scenario, number_of}
 use Rattle.cpg_tree.specs.Space.{Space, Lies, is_open_below, is_open_above, below_cut, above_cut}
 use Rattle.cpg_tree.specs.TreeNode.{TreeNode, Leaf, Fork}
-use Rattle.cpg_tree.specs.declared.item.Item.{Item}
+use Rattle.cpg_tree.specs.declared.item.TreeItem.{TreeItem}
 use Rattle.cpg_tree.specs.Decision.{IsFit, value_at, low_at, high_at}
 use Rattle.cpg_tree.specs.Results.{picked}
 use Rattle.cpg_tree.specs.Flat.{flat}
@@ -12,8 +12,8 @@ use Rattle.cpg_tree.proofs.Forks.{two_above_of, two_below_of, two_fork_of, two_l
 use Rattle.cpg_tree.proofs.Flats.{flat-same}
 use Rattle.cpg_tree.proofs.JoinLaws.{fork_is, split_of}
 
-module _ {T : Type 0} (room : Space) (on off : TreeNode T) (old new : List (Item T)) where
-  module _ (v cut : ℕ) (x y n : TreeNode Bool) (items : List (Item Bool)) (is : items ≡ flat (Fork v cut x y)) (are : items ≡ flat n) where
+module _ {T : Type 0} (room : Space) (on off : TreeNode T) (old new : List (TreeItem T)) where
+  module _ (v cut : ℕ) (x y n : TreeNode Bool) (items : List (TreeItem Bool)) (is : items ≡ flat (Fork v cut x y)) (are : items ≡ flat n) where
     whole : n ≡ Fork v cut x y
     whole = fork_is room v cut x y n items is are
 
@@ -22,7 +22,8 @@ module _ {T : Type 0} (room : Space) (on off : TreeNode T) (old new : List (Item
       p.0,
       p.1,
       record {
-        made = two_above_of (λ s b z. z ≡ value_at (picked b on off) s) (λ s b u. low_at (picked b on off) s u) (λ k s b u. high_at k (picked b on off) s u) (Lies room) v cut x y n whole p.0 p.2.made only;
+        made = two_above_of (λ s b z. z ≡ value_at (picked b on off) s) (λ s b u. low_at (picked b on off) s u) (λ k s b u. high_at k (picked b on off) s u)
+            (Lies room) v cut x y n whole p.0 p.2.made only;
         fit = p.2.fit;
         pass = λ test pass one two. p.2.pass test (passes_parts test v cut x y n whole pass).2 one two;
       },
@@ -33,13 +34,14 @@ module _ {T : Type 0} (room : Space) (on off : TreeNode T) (old new : List (Item
       p.0,
       p.1,
       record {
-        made = two_below_of (λ s b z. z ≡ value_at (picked b on off) s) (λ s b u. low_at (picked b on off) s u) (λ k s b u. high_at k (picked b on off) s u) (Lies room) v cut x y n whole p.0 p.2.made only;
+        made = two_below_of (λ s b z. z ≡ value_at (picked b on off) s) (λ s b u. low_at (picked b on off) s u) (λ k s b u. high_at k (picked b on off) s u)
+            (Lies room) v cut x y n whole p.0 p.2.made only;
         fit = p.2.fit;
         pass = λ test pass one two. p.2.pass test (passes_parts test v cut x y n whole pass).1 one two;
       },
     )
 
-    module _ (shut upper : Space) (start middle : ℕ) (low high : List (Item T)) (under : is_open_below room v cut ≡ true) (over : is_open_above room v cut ≡ true)
+    module _ (shut upper : Space) (start middle : ℕ) (low high : List (TreeItem T)) (under : is_open_below room v cut ≡ true) (over : is_open_above room v cut ≡ true)
         (shut_is : shut ≡ below_cut room v cut) (upper_is : upper ≡ above_cut room v cut)
         (lies_shut : (s : Scenario) → Lies room s → number_of s v ≤ cut → Lies shut s) (lies_upper : (s : Scenario) → Lies room s → cut < number_of s v → Lies upper s)
         (first : start ≡ length old) (second : middle ≡ length low)
@@ -58,7 +60,7 @@ module _ {T : Type 0} (room : Space) (on off : TreeNode T) (old new : List (Item
           )
 
   -- one value of a chooser
-  module _ (n : TreeNode Bool) (items : List (Item Bool)) (are : items ≡ flat n) where
+  module _ (n : TreeNode Bool) (items : List (TreeItem Bool)) (are : items ≡ flat n) where
     pub picks_on : items ≡ flat (Leaf true) → Adds (IsKept room on) old new → Adds (IsPicked room n on off) old new
     picks_on leaf p = (
       p.0,
@@ -84,7 +86,7 @@ module _ {T : Type 0} (room : Space) (on off : TreeNode T) (old new : List (Item
     )
 
 -- what is picked of parts is picked of the whole trees
-pub picks_whole : {T : Type 0} (room : Space) (n : TreeNode Bool) (on off on_part off_part : TreeNode T) (old new : List (Item T)) → IsPart room on on_part → IsPart room off off_part →
+pub picks_whole : {T : Type 0} (room : Space) (n : TreeNode Bool) (on off on_part off_part : TreeNode T) (old new : List (TreeItem T)) → IsPart room on on_part → IsPart room off off_part →
     Adds (IsPicked room n on_part off_part) old new → Adds (IsPicked room n on off) old new
 picks_whole room n on off on_part off_part old new ons offs p = (
   p.0,

@@ -7,7 +7,7 @@ use Rattle.cpg_tree.specs.TreeNode.{TreeNode}
 use Rattle.cpg_tree.specs.Space.{Space, Lies, HasFew, IsWhole}
 use Rattle.cpg_tree.specs.Decision.{value_at, low_at, high_at, IsGood, IsFit, DoForksPass}
 use Rattle.cpg_tree.specs.Paths.{paths_of}
-use Rattle.cpg_tree.specs.declared.item.Item.{Item}
+use Rattle.cpg_tree.specs.declared.item.TreeItem.{TreeItem}
 use Rattle.cpg_tree.specs.Flat.{IsFlat, flat}
 use Rattle.cpg_tree.specs.ReadBack.{IsGoodList, paths_in}
 use Rattle.cpg_tree.specs.Added.{IsMapped, IsJoined, IsPicked}
@@ -22,7 +22,7 @@ abbrev pub state : {T : Type 0} → ℕ → TreeNode T → TreeState T
 state k node = record { faults = k; paths = paths_of k node }
 
 -- what is known of a tree's list is known of what a reference to it shows, as a caller sees the tree
-module _ {T : Type 0} (k : ℕ) (items shown : List (Item T)) (same : shown ≡ items) (good : IsGoodList k items) (t : TreeState T) (seen : record { faults = k; paths = paths_in k items } ≡ t) where
+module _ {T : Type 0} (k : ℕ) (items shown : List (TreeItem T)) (same : shown ≡ items) (good : IsGoodList k items) (t : TreeState T) (seen : record { faults = k; paths = paths_in k items } ≡ t) where
   pub flat_shown : IsFlat shown
   flat_shown = (good.0, same ∙ good.1)
 
@@ -126,7 +126,7 @@ module _ {T U V : Type 0} (k l : ℕ) (a : TreeNode T) (b : TreeNode U) (r : Tre
 -- ---- what is made of trees that callers see
 
 -- the list of a tree that is made fits the space of all scenarios
-pub good_made : {T : Type 0} (k : ℕ) (room : Space) (r : TreeNode T) (items : List (Item T)) → IsWhole k room → IsFit room r → items ≡ flat r → IsGoodList k items
+pub good_made : {T : Type 0} (k : ℕ) (room : Space) (r : TreeNode T) (items : List (TreeItem T)) → IsWhole k room → IsFit room r → items ≡ flat r → IsGoodList k items
 good_made k room r items whole fit are = (r, are, (room, whole, fit))
 
 module _ {T U : Type 0} (answers : T → U → Type 0) (t : TreeState T) (n : TreeNode T) (good : IsGood t.faults n) (paths : t.paths ≡ paths_of t.faults n) (k : ℕ) (same : k ≡ t.faults) (r : TreeNode U)
@@ -146,7 +146,8 @@ module _ {T U : Type 0} (answers : T → U → Type 0) (t : TreeState T) (n : Tr
 
 -- of two trees
 module _ {T U V : Type 0} (first : TreeState T) (second : TreeState U) (a : TreeNode T) (b : TreeNode U) (good_a : IsGood first.faults a) (good_b : IsGood second.faults b)
-    (paths_a : first.paths ≡ paths_of first.faults a) (paths_b : second.paths ≡ paths_of second.faults b) (k : ℕ) (same : k ≡ first.faults) (r : TreeNode V) (made : TreeState V) (is : made ≡ state k r) where
+    (paths_a : first.paths ≡ paths_of first.faults a) (paths_b : second.paths ≡ paths_of second.faults b) (k : ℕ) (same : k ≡ first.faults) (r : TreeNode V) (made : TreeState V)
+    (is : made ≡ state k r) where
   pub join_shown : (answers : T → U → V → Type 0) → first.faults ≡ second.faults → (room : Space) → IsWhole k room → ((s : Scenario) → HasFew k s → Lies room s) →
       IsFit room r → IsJoinOf answers room a b r →
       IsJoin answers first second made
@@ -160,7 +161,8 @@ module _ {T U V : Type 0} (first : TreeState T) (second : TreeState U) (a : Tree
 
 -- of a chooser and two trees
 module _ {T : Type 0} (chooser : TreeState Bool) (first second : TreeState T) (c : TreeNode Bool) (a b : TreeNode T) (good_c : IsGood chooser.faults c) (good_a : IsGood first.faults a)
-    (good_b : IsGood second.faults b) (paths_c : chooser.paths ≡ paths_of chooser.faults c) (paths_a : first.paths ≡ paths_of first.faults a) (paths_b : second.paths ≡ paths_of second.faults b) (k : ℕ)
+    (good_b : IsGood second.faults b) (paths_c : chooser.paths ≡ paths_of chooser.faults c) (paths_a : first.paths ≡ paths_of first.faults a) (paths_b : second.paths ≡ paths_of second.faults b)
+    (k : ℕ)
     (same : k ≡ chooser.faults) (r : TreeNode T) (made : TreeState T) (is : made ≡ state k r) where
   pub pick_shown : chooser.faults ≡ first.faults → chooser.faults ≡ second.faults → (room : Space) → IsWhole k room → ((s : Scenario) → HasFew k s → Lies room s) → IsFit room r →
       IsPickOf room c a b r →
@@ -173,7 +175,8 @@ module _ {T : Type 0} (chooser : TreeState Bool) (first second : TreeState T) (c
       (subst (λ (x : TreeState Bool). IsPick x first second (state m r)) (state_seen chooser c paths_c)
       (subst (λ (x : TreeState T). IsPick (state m c) x second (state m r)) equal_a
       (subst (λ (x : TreeState T). IsPick (state m c) (state m a) x (state m r)) equal_b
-      (pick_paths m room (λ s few. all s (subst (λ (l : ℕ). HasFew l s) (sym same) few)) c a b r good_c (subst (λ (l : ℕ). IsGood l a) (sym one) good_a) (subst (λ (l : ℕ). IsGood l b) (sym two) good_b)
+      (pick_paths m room (λ s few. all s (subst (λ (l : ℕ). HasFew l s) (sym same) few)) c a b r good_c (subst (λ (l : ℕ). IsGood l a) (sym one) good_a) (subst (λ (l : ℕ). IsGood l b)
+      (sym two) good_b)
       (room, subst (λ (l : ℕ). IsWhole l room) same whole, fit) picked))))
 
   pub pick_passes : (test : ℕ → Bool) → (DoForksPass test c → DoForksPass test a → DoForksPass test b → DoForksPass test r) → DoPathsPass test chooser.paths → DoPathsPass test first.paths →

@@ -13,7 +13,7 @@ use Rattle.cpg_tree.specs.Decision.{value_at, low_at, high_at, IsFit, IsGood, Do
 use Rattle.cpg_tree.specs.Later.{time_later}
 use Rattle.cpg_tree.specs.Paths.{up_to, above, paths_from, paths_of}
 use Rattle.cpg_tree.specs.Read.{read_by, later_path, later_by}
-use Rattle.cpg_tree.specs.declared.item.Item.{Item}
+use Rattle.cpg_tree.specs.declared.item.TreeItem.{TreeItem}
 use Rattle.cpg_tree.specs.Added.{Adds, IsFilled, IsKept, IsPart}
 use Rattle.cpg_tree.specs.Results.{IsFillOf, IsWithin}
 use Rattle.cpg_tree.specs.Space.{Space, below_cut, above_cut}
@@ -82,7 +82,7 @@ module _ {T : Type 0} (number : T → ℕ) where
   pub part_read : (room : Space) (a part : TreeNode T) → IsPart room a part → IsPart room (read_by number a) (read_by number part)
   part_read room a part is = record { same = within_read room a part is.same; pass = λ test on. pass_read test part (is.pass test (passes_read test a on)) }
 
-  pub kept_read : (room : Space) (a : TreeNode T) (old new : List (Item ℕ)) → Adds (IsFilled (λ (x : ℕ) (y : T) (z : ℕ). z ≡ max x (number y)) room 0 a) old new →
+  pub kept_read : (room : Space) (a : TreeNode T) (old new : List (TreeItem ℕ)) → Adds (IsFilled (λ (x : ℕ) (y : T) (z : ℕ). z ≡ max x (number y)) room 0 a) old new →
       Adds (IsKept room (read_by number a)) old new
   kept_read room a old new p = (p.0, p.1, record { made = filled_read room a p.0 p.2.made; fit = p.2.fit; pass = λ test on. p.2.pass test (passes_read test a on) })
 

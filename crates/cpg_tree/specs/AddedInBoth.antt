@@ -9,10 +9,10 @@ use Rattle.cpg_tree.specs.Decision.{DoForksPass, IsFit}
 use Rattle.cpg_tree.specs.Flat.{flat}
 use Rattle.cpg_tree.specs.Results.{IsJoinIn, IsJoinWhereOf}
 use Rattle.cpg_tree.specs.declared.bounds.Span.{Span}
-use Rattle.cpg_tree.specs.declared.item.Item.{Item}
+use Rattle.cpg_tree.specs.declared.item.TreeItem.{TreeItem}
 
 -- the list of the part of a tree that a space comes to, and the spans of its forks if those of the tree's are told
-abbrev pub BoundedPartIs : {T : Type 0} → Space → TreeNode T → List Span → List (Item T) → List Span → Type 0
+abbrev pub BoundedPartIs : {T : Type 0} → Space → TreeNode T → List Span → List (TreeItem T) → List Span → Type 0
 BoundedPartIs {T} room a bounds part spans = (r : TreeNode T) × (part ≡ flat r) × IsPart room a r × ((number : T → ℕ) → bounds ≡ bounds_in number a → spans ≡ bounds_in number r)
 
 -- the answers of a function to the values of two trees

@@ -1,7 +1,7 @@
 -- The least and the greatest number below each fork of a tree whose leaves are read as numbers.
 use Rattle.std.specs.Prelude.{ℕ, ◌≡◌, max, min, List, [], ◌∷◌, ◌++◌, length}
 use Rattle.cpg_tree.specs.declared.bounds.Span.{Span}
-use Rattle.cpg_tree.specs.declared.item.Item.{Item}
+use Rattle.cpg_tree.specs.declared.item.TreeItem.{TreeItem}
 use Rattle.cpg_tree.specs.TreeNode.{TreeNode, Leaf, Fork}
 use Rattle.cpg_tree.specs.Flat.{flat}
 use Rattle.cpg_tree.specs.Greater.{least_in, most_in}
@@ -19,7 +19,7 @@ bounds_in number (Fork v cut below above) = bounds_in number below ++ bounds_in 
 } ∷ [])
 
 -- a tree's items with the spans of its forks
-abbrev pub IsBounded : {T : Type 0} → (T → ℕ) → List (Item T) → List Span → Type 0
+abbrev pub IsBounded : {T : Type 0} → (T → ℕ) → List (TreeItem T) → List Span → Type 0
 IsBounded {T} number items bounds = (n : TreeNode T) × (items ≡ flat n) × (bounds ≡ bounds_in number n)
 
 -- the spans of both sides of a fork, if those of the side below are so many

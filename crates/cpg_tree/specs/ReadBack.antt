@@ -2,21 +2,21 @@
 use Rattle.std.specs.Prelude.{ℕ, ◌≡◌, List, [], ◌∷◌}
 use Rattle.cpg_cube.specs.declared.literal.Literal.{Literal}
 use Rattle.cpg_tree.specs.TreeNode.{TreeNode, Leaf, Fork}
-use Rattle.cpg_tree.specs.declared.item.Item.{Item}
-use Rattle.cpg_tree.specs.declared.item.Item.TheVariants.{Value, Cut}
+use Rattle.cpg_tree.specs.declared.item.TreeItem.{TreeItem}
+use Rattle.cpg_tree.specs.declared.item.TreeItem.TheVariants.{Value, Cut}
 use Rattle.cpg_tree.specs.Decision.{IsGood}
 use Rattle.cpg_tree.specs.Flat.{flat}
 use Rattle.cpg_tree.specs.Paths.{paths_of}
 
 -- what an item makes of the stack
-abbrev pub stacked : {T : Type 0} → Item T → List (TreeNode T) → List (TreeNode T)
+abbrev pub stacked : {T : Type 0} → TreeItem T → List (TreeNode T) → List (TreeNode T)
 stacked (Value x) stack = Leaf x ∷ stack
 stacked (Cut v cut n) [] = []
 stacked (Cut v cut n) (above ∷ []) = above ∷ []
 stacked (Cut v cut n) (above ∷ below ∷ stack) = Fork v cut below above ∷ stack
 
 -- what all items make of it
-abbrev pub read_back : {T : Type 0} → List (Item T) → List (TreeNode T) → List (TreeNode T)
+abbrev pub read_back : {T : Type 0} → List (TreeItem T) → List (TreeNode T) → List (TreeNode T)
 read_back [] stack = stack
 read_back (x ∷ xs) stack = read_back xs (stacked x stack)
 
@@ -26,9 +26,9 @@ paths_on k [] = []
 paths_on k (n ∷ stack) = paths_of k n
 
 -- the paths of the tree that a list is of
-abbrev pub paths_in : {T : Type 0} → ℕ → List (Item T) → List (List Literal × T)
+abbrev pub paths_in : {T : Type 0} → ℕ → List (TreeItem T) → List (List Literal × T)
 paths_in k items = paths_on k (read_back items [])
 
 -- the list of a tree each side of each fork of which is met by some scenario of at most k faults
-abbrev pub IsGoodList : {T : Type 0} → ℕ → List (Item T) → Type 0
+abbrev pub IsGoodList : {T : Type 0} → ℕ → List (TreeItem T) → Type 0
 IsGoodList {T} k items = (n : TreeNode T) × (items ≡ flat n) × IsGood k n

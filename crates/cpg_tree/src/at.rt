@@ -6,12 +6,12 @@ ghost use Rattle.cpg_tree.specs.Decision.{value_at};
 ghost use Rattle.cpg_tree.specs.Flat.{IsFlat, flat};
 ghost use Rattle.cpg_tree.specs.Paths.{paths_from};
 
-use crate::item::Item;
+use crate::item::TreeItem;
 use crate::top::{Top, top_of};
 use cpg_base::Scenario;
 
 /// The value that a scenario comes to.
-pub(crate) fn at_items<T: Copy>(items: &[Item<T>], scenario: &Scenario) -> T
+pub(crate) fn at_items<T: Copy>(items: &[TreeItem<T>], scenario: &Scenario) -> T
     requires { IsFlat items.now }
     ensures { (n : TreeNode T) → items.now ≡ flat n → result ≡ value_at n scenario.now }
 {
@@ -33,7 +33,7 @@ pub(crate) fn at_items<T: Copy>(items: &[Item<T>], scenario: &Scenario) -> T
 }
 
 /// How many leaves there are.
-pub(crate) fn leaf_count<T: Copy>(items: &[Item<T>]) -> usize
+pub(crate) fn leaf_count<T: Copy>(items: &[TreeItem<T>]) -> usize
     requires { IsFlat items.now }
     ensures { (n : TreeNode T) (k : ℕ) (cube : List Literal) → items.now ≡ flat n → result ≡ length (paths_from k cube n) }
 {

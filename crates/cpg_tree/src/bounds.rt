@@ -4,7 +4,7 @@ ghost use Rattle.cpg_tree.specs.Bounds.{AreSides, IsBounded, bounds_in, span_in}
 ghost use Rattle.cpg_tree.specs.Flat.{IsFlat, flat};
 ghost use Rattle.cpg_tree.specs.TreeNode.{TreeNode, Fork};
 
-use crate::item::Item;
+use crate::item::TreeItem;
 use crate::reading::Reading;
 use crate::top::{Top, top_of};
 use cpg_base::OutOfMemory;
@@ -48,7 +48,7 @@ impl Span {
 /// The items of a tree, and the span of each fork in the order of the items.
 #[derive(Clone, Copy)]
 pub(crate) struct BoundedTree<'a, T> {
-    pub(crate) items: &'a [Item<T>],
+    pub(crate) items: &'a [TreeItem<T>],
     pub(crate) bounds: &'a [Span],
 }
 
@@ -65,8 +65,8 @@ fn bounds_of_sides(bounds: &[Span], forks: usize) -> (&[Span], &[Span])
 /// The sides of a fork, by the spans of the whole.
 pub(crate) fn sides<'a, T: Copy>(
     bounds: &'a [Span],
-    below: &'a [Item<T>],
-    above: &'a [Item<T>],
+    below: &'a [TreeItem<T>],
+    above: &'a [TreeItem<T>],
 ) -> (BoundedTree<'a, T>, BoundedTree<'a, T>)
     ensures below { result.0.items.now ≡ below.now }
     ensures above { result.1.items.now ≡ above.now }
@@ -88,7 +88,7 @@ pub(crate) fn sides<'a, T: Copy>(
 
 /// Adds the span of each fork behind those of its sides; the span of the tree.
 pub(crate) fn push_bounds<T: Copy, R: Reading<T>>(
-    items: &[Item<T>],
+    items: &[TreeItem<T>],
     read: &R,
     bounds: &mut Vec<Span>,
 ) -> Result<Span, OutOfMemory>

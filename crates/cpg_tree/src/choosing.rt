@@ -12,7 +12,7 @@ use crate::asked::Rooms;
 use crate::bounds::{BoundedTree, push_bounds};
 use crate::fork::fork;
 use crate::greater::{Greater, greater_by};
-use crate::item::Item;
+use crate::item::TreeItem;
 use crate::reading::Reading;
 use crate::space::Space;
 use crate::top::{Top, top_of};
@@ -29,12 +29,12 @@ pub(crate) struct TreePair<'a, T, U> {
 /// spaces. Only what is asked for is narrowed on the way, so that the answer has the forks of the two trees' answer in the
 /// whole space.
 fn greater_where<T: Copy, U: Copy, V: Copy + Eq, R: Reading<T>, S: Reading<U>, F: Fn(u64) -> V>(
-    chooser: &[Item<bool>],
+    chooser: &[TreeItem<bool>],
     pair: &TreePair<'_, T, U>,
     rooms: &mut Rooms,
     how: &Greater<'_, R, S, F>,
     none: V,
-    out: &mut Vec<Item<V>>,
+    out: &mut Vec<TreeItem<V>>,
 ) -> Result<(), OutOfMemory>
     requires callable { F.IsAlwaysCallable how.now.made.now }
     requires equal { (x y : V) → V.eq x y ≡ true → x ≡ y }
@@ -46,14 +46,14 @@ fn greater_where<T: Copy, U: Copy, V: Copy + Eq, R: Reading<T>, S: Reading<U>, F
     ensures made { IfOk result (λ _. (c : TreeNode Bool) (n : TreeNode T) (m : TreeNode U) → chooser.now ≡ flat c → pair.now.own.items.now ≡ flat n →
         pair.now.other.items.now ≡ flat m →
         Adds (IsJoinedWhere (λ x y z. F.post how.now.made.now (max (R.number how.now.read.now x) (S.number how.now.other_reading.now y)) z) none rooms.old c n m)
-            out.old.items out.new.items) }
+        out.old.items out.new.items) }
 {
     match top_of(chooser) {
         Top::Value(is_on) => {
             if is_on {
                 return greater_by(pair.own, pair.other, rooms, how, out);
             }
-            out.push(Item::Value(none))?;
+            out.push(TreeItem::Value(none))?;
             Ok(())
         }
         Top::Cut {

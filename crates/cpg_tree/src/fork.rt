@@ -1,33 +1,33 @@
 //! A fork of the two trees that a list ends in.
 ghost use Rattle.std.specs.Prelude.{◌≡◌, ◌≤◌, ◌<◌, ◌+◌, ◌-◌, ◌++◌, ◌∷◌, [], true, take, drop, length, IfOk, List};
 ghost use Rattle.std.specs.Bool.{OnTrue};
-ghost use Rattle.cpg_tree.specs.declared.item.Item.{Item};
-ghost use Rattle.cpg_tree.specs.declared.item.Item.TheVariants.{Cut};
+ghost use Rattle.cpg_tree.specs.declared.item.TreeItem.{TreeItem};
+ghost use Rattle.cpg_tree.specs.declared.item.TreeItem.TheVariants.{Cut};
 ghost use Rattle.cpg_tree.specs.Added.{ForksEnd, IsMet};
 
-use crate::item::{Item, are_same};
+use crate::item::{TreeItem, are_same_items};
 use cpg_base::OutOfMemory;
 
 /// Whether the two lists are equal.
-fn sides_are_same<T: Copy + Eq>(items: &[Item<T>], start: usize, middle: usize) -> bool
+fn sides_are_same<T: Copy + Eq>(items: &[TreeItem<T>], start: usize, middle: usize) -> bool
     requires equal { (x y : T) → T.eq x y ≡ true → x ≡ y }
     requires order { start ≤ middle }
     requires long { middle ≤ length items.now }
     ensures { OnTrue result (drop start (take middle items.now) ≡ drop middle items.now) }
 {
     let (front, above) = items.split_at(middle);
-    are_same(front.split_at(start).1, above)
+    are_same_items(front.split_at(start).1, above)
 }
 
 /// Whether the side above is a fork on the variable farther up whose side below is equal to the side below.
-fn is_met<T: Copy + Eq>(below: &[Item<T>], above: &[Item<T>], variable: u8, cut: u8) -> bool
+fn is_met<T: Copy + Eq>(below: &[TreeItem<T>], above: &[TreeItem<T>], variable: u8, cut: u8) -> bool
     requires { (x y : T) → T.eq x y ≡ true → x ≡ y }
     ensures { OnTrue result (IsMet below.now above.now variable cut) }
 {
     let Some((last, sides)) = above.split_last() else {
         return false;
     };
-    let Item::Cut {
+    let TreeItem::Cut {
         variable: next,
         cut: far,
         below: count,
@@ -47,12 +47,12 @@ fn is_met<T: Copy + Eq>(below: &[Item<T>], above: &[Item<T>], variable: u8, cut:
     if sides.len() < below.len() {
         return false;
     }
-    are_same(below, sides.split_at(below.len()).0)
+    are_same_items(below, sides.split_at(below.len()).0)
 }
 
 /// As `is_met`, of the two lists that a list ends in.
 fn sides_meet<T: Copy + Eq>(
-    items: &[Item<T>],
+    items: &[TreeItem<T>],
     start: usize,
     middle: usize,
     variable: u8,
@@ -68,7 +68,7 @@ fn sides_meet<T: Copy + Eq>(
 }
 
 /// Takes items out.
-fn take_out<T: Copy>(out: &mut Vec<Item<T>>, from: usize, count: usize)
+fn take_out<T: Copy>(out: &mut Vec<TreeItem<T>>, from: usize, count: usize)
     requires { from + count ≤ length out.old.items }
     ensures { out.new.items ≡ take from out.old.items ++ drop (from + count) out.old.items }
 {
@@ -81,7 +81,7 @@ fn take_out<T: Copy>(out: &mut Vec<Item<T>>, from: usize, count: usize)
 
 /// Adds a fork behind as many items of its side below, and those of its side above.
 pub fn push_cut<T: Copy>(
-    out: &mut Vec<Item<T>>,
+    out: &mut Vec<TreeItem<T>>,
     variable: u8,
     cut: u8,
     count: usize,
@@ -91,7 +91,7 @@ pub fn push_cut<T: Copy>(
     let Ok(below) = u32::try_from(count) else {
         return Err(OutOfMemory);
     };
-    out.push(Item::Cut {
+    out.push(TreeItem::Cut {
         variable,
         cut,
         below,
@@ -101,7 +101,7 @@ pub fn push_cut<T: Copy>(
 
 /// A fork of the two trees that a list ends in, from a start and a middle on.
 pub fn fork_of<T: Copy>(
-    out: &mut Vec<Item<T>>,
+    out: &mut Vec<TreeItem<T>>,
     start: usize,
     middle: usize,
     variable: u8,
@@ -117,19 +117,19 @@ pub fn fork_of<T: Copy>(
 
 /// Whether a look at the last items of two lists tells that the first is equal neither to the second nor to what that has
 /// below a fork on a variable. No clause speaks of it: it only saves time.
-fn are_apart<T: Copy + Eq>(below: Item<T>, above: Item<T>, variable: u8) -> bool {
+fn are_apart<T: Copy + Eq>(below: TreeItem<T>, above: TreeItem<T>, variable: u8) -> bool {
     match above {
-        Item::Value(high) => match below {
-            Item::Value(low) => low != high,
-            Item::Cut { .. } => true,
+        TreeItem::Value(high) => match below {
+            TreeItem::Value(low) => low != high,
+            TreeItem::Cut { .. } => true,
         },
-        Item::Cut {
+        TreeItem::Cut {
             variable: next,
             cut,
             ..
         } => match below {
-            Item::Value(_) => next != variable,
-            Item::Cut {
+            TreeItem::Value(_) => next != variable,
+            TreeItem::Cut {
                 variable: own,
                 cut: own_cut,
                 ..
@@ -140,7 +140,7 @@ fn are_apart<T: Copy + Eq>(below: Item<T>, above: Item<T>, variable: u8) -> bool
 
 /// As `are_apart`, of the two lists that a list ends in.
 #[inline]
-fn sides_are_apart<T: Copy + Eq>(items: &[Item<T>], middle: usize, variable: u8) -> bool {
+fn sides_are_apart<T: Copy + Eq>(items: &[TreeItem<T>], middle: usize, variable: u8) -> bool {
     if middle == 0 || middle >= items.len() {
         return false;
     }
@@ -150,7 +150,7 @@ fn sides_are_apart<T: Copy + Eq>(items: &[Item<T>], middle: usize, variable: u8)
 /// A fork of the two trees that a list ends in, from a start and a middle on, or one tree if both are equal. If the side
 /// above is a fork on the same variable with an equal side below, the first cut is left out.
 pub(crate) fn fork<T: Copy + Eq>(
-    out: &mut Vec<Item<T>>,
+    out: &mut Vec<TreeItem<T>>,
     start: usize,
     middle: usize,
     variable: u8,
@@ -171,7 +171,7 @@ pub(crate) fn fork<T: Copy + Eq>(
 /// As `fork`, by a look at the whole of both lists.
 #[inline(never)]
 fn fork_by_sides<T: Copy + Eq>(
-    out: &mut Vec<Item<T>>,
+    out: &mut Vec<TreeItem<T>>,
     start: usize,
     middle: usize,
     variable: u8,

@@ -12,7 +12,7 @@ use crate::Tree;
 use crate::asked::{Rooms, Way};
 use crate::bounds::{BoundedTree, push_bounds, sides, span_of};
 use crate::fork::fork;
-use crate::item::Item;
+use crate::item::TreeItem;
 use crate::join::fill_items;
 use crate::reading::{AsIs, Later, Reading};
 use crate::space::Space;
@@ -54,12 +54,12 @@ fn bounded_part<'a, T: Copy>(tree: BoundedTree<'a, T>, space: &Space) -> Bounded
 
 /// Adds what is made of a value or the tree's number, whichever is greater, for the scenarios of a space.
 pub(crate) fn at_least<T: Copy, V: Copy + Eq, R: Reading<T>, F: Fn(u64) -> V>(
-    items: &[Item<T>],
+    items: &[TreeItem<T>],
     space: &mut Space,
     value: u64,
     read: &R,
     made: &F,
-    out: &mut Vec<Item<V>>,
+    out: &mut Vec<TreeItem<V>>,
 ) -> Result<(), OutOfMemory>
     requires callable { F.IsAlwaysCallable made.now }
     requires equal { (x y : V) → V.eq x y ≡ true → x ≡ y }
@@ -93,7 +93,7 @@ pub(crate) fn greater_by<
     other: BoundedTree<'_, U>,
     rooms: &mut Rooms,
     how: &Greater<'_, R, S, F>,
-    out: &mut Vec<Item<V>>,
+    out: &mut Vec<TreeItem<V>>,
 ) -> Result<(), OutOfMemory>
     requires callable { F.IsAlwaysCallable how.now.made.now }
     requires equal { (x y : V) → V.eq x y ≡ true → x ≡ y }
@@ -103,7 +103,7 @@ pub(crate) fn greater_by<
     ensures back { IfOk result (λ _. rooms.new ≡ rooms.old) }
     ensures made { IfOk result (λ _. (n : TreeNode T) (m : TreeNode U) → own.entry.items.now ≡ flat n → other.entry.items.now ≡ flat m →
         Adds (IsJoinedIn (λ x y z. F.post how.now.made.now (max (R.number how.now.read.now x) (S.number how.now.other_reading.now y)) z) rooms.old n m)
-            out.old.items out.new.items) }
+        out.old.items out.new.items) }
 {
     let other = bounded_part(other, &rooms.walked);
     let own_span = span_of(own, how.read);
@@ -176,11 +176,11 @@ pub(crate) fn greater_items<
     S: Reading<U>,
     F: Fn(u64) -> V,
 >(
-    own: &[Item<T>],
-    other: &[Item<U>],
+    own: &[TreeItem<T>],
+    other: &[TreeItem<U>],
     space: &mut Space,
     how: &Greater<'_, R, S, F>,
-    out: &mut Vec<Item<V>>,
+    out: &mut Vec<TreeItem<V>>,
 ) -> Result<(), OutOfMemory>
     requires callable { F.IsAlwaysCallable how.now.made.now }
     requires equal { (x y : V) → V.eq x y ≡ true → x ≡ y }
@@ -189,7 +189,7 @@ pub(crate) fn greater_items<
     ensures long { IfOk result (λ _. vec_len out.old ≤ vec_len out.new) }
     ensures made { IfOk result (λ _. (n : TreeNode T) (m : TreeNode U) → own.now ≡ flat n → other.now ≡ flat m →
         Adds (IsJoined (λ x y z. F.post how.now.made.now (max (R.number how.now.read.now x) (S.number how.now.other_reading.now y)) z) space.old n m)
-            out.old.items out.new.items) }
+        out.old.items out.new.items) }
 {
     if let Top::Value(value) = top_of(own) {
         let number = how.read.number(value);

@@ -5,30 +5,30 @@ ghost use Rattle.std.specs.Bool.{OnTrue};
 /// A value, or a fork by the number of a variable, behind the items of its sides: those of the side below, then those
 /// of the side above.
 #[derive(Clone, Copy)]
-pub enum Item<T> {
+pub enum TreeItem<T> {
     Value(T),
     Cut { variable: u8, cut: u8, below: u32 },
 }
 
-impl<T: Copy + Eq> Item<T> {
+impl<T: Copy + Eq> TreeItem<T> {
     /// Whether two items are equal.
     #[inline]
-    pub(crate) fn is_same(self, other: Item<T>) -> bool
+    pub(crate) fn is_same(self, other: TreeItem<T>) -> bool
         requires { (x y : T) → T.eq x y ≡ true → x ≡ y }
         ensures { OnTrue result (self ≡ other) }
     {
         match self {
-            Item::Value(value) => match other {
-                Item::Value(other) => value == other,
-                Item::Cut { .. } => false,
+            TreeItem::Value(value) => match other {
+                TreeItem::Value(other) => value == other,
+                TreeItem::Cut { .. } => false,
             },
-            Item::Cut {
+            TreeItem::Cut {
                 variable,
                 cut,
                 below,
             } => match other {
-                Item::Value(_) => false,
-                Item::Cut {
+                TreeItem::Value(_) => false,
+                TreeItem::Cut {
                     variable: other_variable,
                     cut: other_cut,
                     below: other_below,
@@ -39,7 +39,7 @@ impl<T: Copy + Eq> Item<T> {
 }
 
 /// Whether two lists are equal.
-pub(crate) fn are_same<T: Copy + Eq>(one: &[Item<T>], other: &[Item<T>]) -> bool
+pub(crate) fn are_same_items<T: Copy + Eq>(one: &[TreeItem<T>], other: &[TreeItem<T>]) -> bool
     requires { (x y : T) → T.eq x y ≡ true → x ≡ y }
     ensures { OnTrue result (one.now ≡ other.now) }
 {

@@ -5,7 +5,7 @@ ghost use Rattle.cpg_tree.specs.Flat.{IsFlat, flat};
 ghost use Rattle.cpg_tree.specs.Added.{Adds, IsFilled, IsJoined};
 
 use crate::fork::fork;
-use crate::item::Item;
+use crate::item::TreeItem;
 use crate::part::part_in;
 use crate::space::Space;
 use crate::top::{Top, top_of};
@@ -13,11 +13,11 @@ use cpg_base::OutOfMemory;
 
 /// Adds the tree of the answers to a value and the values, for the scenarios of a space.
 pub(crate) fn fill_items<T: Copy, U: Copy, V: Copy + Eq, F: Fn(T, U) -> V>(
-    items: &[Item<U>],
+    items: &[TreeItem<U>],
     space: &mut Space,
     value: T,
     f: &F,
-    out: &mut Vec<Item<V>>,
+    out: &mut Vec<TreeItem<V>>,
 ) -> Result<(), OutOfMemory>
     requires callable { F.IsAlwaysCallable f.now }
     requires equal { (x y : V) → V.eq x y ≡ true → x ≡ y }
@@ -28,7 +28,7 @@ pub(crate) fn fill_items<T: Copy, U: Copy, V: Copy + Eq, F: Fn(T, U) -> V>(
 {
     match top_of(items) {
         Top::Value(other) => {
-            out.push(Item::Value(f(value, other)))?;
+            out.push(TreeItem::Value(f(value, other)))?;
             Ok(())
         }
         Top::Cut {
@@ -58,11 +58,11 @@ pub(crate) fn fill_items<T: Copy, U: Copy, V: Copy + Eq, F: Fn(T, U) -> V>(
 
 /// Adds the tree of the answers to the values of two trees, for the scenarios of a space.
 pub(crate) fn join_items<T: Copy, U: Copy, V: Copy + Eq, F: Fn(T, U) -> V>(
-    items: &[Item<T>],
-    other: &[Item<U>],
+    items: &[TreeItem<T>],
+    other: &[TreeItem<U>],
     space: &mut Space,
     f: &F,
-    out: &mut Vec<Item<V>>,
+    out: &mut Vec<TreeItem<V>>,
 ) -> Result<(), OutOfMemory>
     requires callable { F.IsAlwaysCallable f.now }
     requires equal { (x y : V) → V.eq x y ≡ true → x ≡ y }

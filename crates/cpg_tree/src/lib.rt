@@ -21,7 +21,7 @@ mod tree;
 mod variables;
 
 pub use fork::{fork_of, push_cut};
-pub use item::Item;
+pub use item::TreeItem;
 pub use part::part_in;
 pub use reading::{AsIs, Later, Reading, time_later};
 pub use space::Space;

@@ -5,15 +5,15 @@ ghost use Rattle.cpg_tree.specs.Flat.{IsFlat, flat};
 ghost use Rattle.cpg_tree.specs.Added.{Adds, IsMapped};
 
 use crate::fork::fork;
-use crate::item::Item;
+use crate::item::TreeItem;
 use crate::top::{Top, top_of};
 use cpg_base::OutOfMemory;
 
 /// Adds the tree of the answers.
 pub(crate) fn map_items<T: Copy, U: Copy + Eq, F: Fn(T) -> U>(
-    items: &[Item<T>],
+    items: &[TreeItem<T>],
     f: &F,
-    out: &mut Vec<Item<U>>,
+    out: &mut Vec<TreeItem<U>>,
 ) -> Result<(), OutOfMemory>
     requires callable { F.IsAlwaysCallable f.now }
     requires equal { (x y : U) → U.eq x y ≡ true → x ≡ y }
@@ -23,7 +23,7 @@ pub(crate) fn map_items<T: Copy, U: Copy + Eq, F: Fn(T) -> U>(
 {
     match top_of(items) {
         Top::Value(value) => {
-            out.push(Item::Value(f(value)))?;
+            out.push(TreeItem::Value(f(value)))?;
             Ok(())
         }
         Top::Cut {

@@ -4,12 +4,12 @@ ghost use Rattle.cpg_tree.specs.TreeNode.{TreeNode};
 ghost use Rattle.cpg_tree.specs.Added.{PartIs};
 ghost use Rattle.cpg_tree.specs.Flat.{IsFlat, flat};
 
-use crate::item::Item;
+use crate::item::TreeItem;
 use crate::space::Space;
 use crate::top::{Top, top_of};
 
 /// The part of a tree that a space comes to: without the forks at the top of which it closes a side.
-pub fn part_in<'a, T: Copy>(items: &'a [Item<T>], space: &Space) -> &'a [Item<T>]
+pub fn part_in<'a, T: Copy>(items: &'a [TreeItem<T>], space: &Space) -> &'a [TreeItem<T>]
     requires { IsFlat items.now }
     ensures part { (n : TreeNode T) → items.now ≡ flat n → PartIs space.now n result.now }
     ensures flat { IsFlat result.now }

@@ -7,7 +7,7 @@ ghost use Rattle.cpg_tree.specs.Tree.{DoPathsPass, HasOnePathEach, IsPick, IsTid
 
 use crate::Tree;
 use crate::fork::fork;
-use crate::item::Item;
+use crate::item::TreeItem;
 use crate::join::fill_items;
 use crate::part::part_in;
 use crate::space::Space;
@@ -16,9 +16,9 @@ use cpg_base::OutOfMemory;
 
 /// Adds a tree for the scenarios of a space.
 pub(crate) fn within_items<T: Copy + Eq>(
-    items: &[Item<T>],
+    items: &[TreeItem<T>],
     space: &mut Space,
-    out: &mut Vec<Item<T>>,
+    out: &mut Vec<TreeItem<T>>,
 ) -> Result<(), OutOfMemory>
     requires equal { (x y : T) → T.eq x y ≡ true → x ≡ y }
     requires flat { IsFlat items.now }
@@ -31,11 +31,11 @@ pub(crate) fn within_items<T: Copy + Eq>(
 
 /// Adds the tree of the values that a chooser picks, for the scenarios of a space.
 fn pick_items<T: Copy + Eq>(
-    items: &[Item<bool>],
+    items: &[TreeItem<bool>],
     space: &mut Space,
-    on: &[Item<T>],
-    off: &[Item<T>],
-    out: &mut Vec<Item<T>>,
+    on: &[TreeItem<T>],
+    off: &[TreeItem<T>],
+    out: &mut Vec<TreeItem<T>>,
 ) -> Result<(), OutOfMemory>
     requires equal { (x y : T) → T.eq x y ≡ true → x ≡ y }
     requires flat { IsFlat items.now }

@@ -9,7 +9,7 @@ ghost use Rattle.cpg_tree.specs.TreeNode.{TreeNode};
 use crate::Tree;
 use crate::fork::fork;
 use crate::greater::at_least;
-use crate::item::Item;
+use crate::item::TreeItem;
 use crate::part::part_in;
 use crate::pick::within_items;
 use crate::reading::{Later, Reading};
@@ -19,12 +19,12 @@ use cpg_base::OutOfMemory;
 
 /// Adds the numbers of one of two trees in the scenarios of a space: those of the first, as it is read, where a chooser is true.
 fn pick_read<T: Copy, R: Reading<T>>(
-    items: &[Item<bool>],
+    items: &[TreeItem<bool>],
     space: &mut Space,
-    on: &[Item<T>],
-    off: &[Item<u64>],
+    on: &[TreeItem<T>],
+    off: &[TreeItem<u64>],
     read: &R,
-    out: &mut Vec<Item<u64>>,
+    out: &mut Vec<TreeItem<u64>>,
 ) -> Result<(), OutOfMemory>
     requires flat { IsFlat items.now }
     requires on_flat { IsFlat on.now }

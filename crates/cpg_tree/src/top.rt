@@ -1,7 +1,7 @@
 //! The top of a tree in a list.
 ghost use Rattle.cpg_tree.specs.Flat.{HasVariable, IsFlat, IsLess, ShowsTop};
 
-use crate::item::Item;
+use crate::item::TreeItem;
 
 /// A value, or a fork with the lists of its sides.
 #[derive(Clone, Copy)]
@@ -10,14 +10,14 @@ pub enum Top<'a, T> {
     Cut {
         variable: u8,
         cut: u8,
-        below: &'a [Item<T>],
-        above: &'a [Item<T>],
+        below: &'a [TreeItem<T>],
+        above: &'a [TreeItem<T>],
     },
 }
 
 /// The top of the tree that a list is of.
 #[inline]
-pub fn top_of<T: Copy>(items: &[Item<T>]) -> Top<'_, T>
+pub fn top_of<T: Copy>(items: &[TreeItem<T>]) -> Top<'_, T>
     requires { IsFlat items.now }
     ensures shows { ShowsTop items.now result }
     ensures less { IsLess items.now result }
@@ -28,8 +28,8 @@ pub fn top_of<T: Copy>(items: &[Item<T>]) -> Top<'_, T>
     };
     let item = *last;
     match item {
-        Item::Value(value) => Top::Value(value),
-        Item::Cut {
+        TreeItem::Value(value) => Top::Value(value),
+        TreeItem::Cut {
             variable,
             cut,
             below,

@@ -10,7 +10,7 @@ ghost use Rattle.cpg_tree.specs.ReadBack.{IsGoodList};
 ghost use Rattle.cpg_tree.specs.Tree.{HasOnePathEach, IsTidyPath, DoPathsPass, IsConstant, IsMap, IsJoin, IsValueAt};
 
 use crate::at::{at_items, leaf_count};
-use crate::item::Item;
+use crate::item::TreeItem;
 use crate::join::join_items;
 use crate::map::map_items;
 use crate::reading::time_later;
@@ -26,7 +26,7 @@ use std::marker::Model;
 pub struct Tree<T> {
     alloc: Global,
     faults: u8,
-    items: Vec<Item<T>>,
+    items: Vec<TreeItem<T>>,
 }
 
 impl<T> Model for Tree<T> {
@@ -55,7 +55,7 @@ impl<T> Tree<T> {
     }
 
     /// The list of the decision tree whose paths they are.
-    pub fn items(&self) -> &[Item<T>]
+    pub fn items(&self) -> &[TreeItem<T>]
         ensures flat { IsFlat result.now }
         ensures good { (n : TreeNode T) → result.now ≡ flat n → IsGood self.now.faults n }
         ensures paths { (n : TreeNode T) → result.now ≡ flat n → self.now.paths ≡ paths_of self.now.faults n }
@@ -66,7 +66,7 @@ impl<T> Tree<T> {
 
 impl<T: Copy> Tree<T> {
     /// The tree of a list.
-    pub(crate) fn of(alloc: Global, faults: u8, items: Vec<Item<T>>) -> Tree<T>
+    pub(crate) fn of(alloc: Global, faults: u8, items: Vec<TreeItem<T>>) -> Tree<T>
         requires { IsGoodList faults items.items }
         ensures is { (n : TreeNode T) → items.items ≡ flat n → result ≡ record { faults = faults; paths = paths_of faults n } }
         ensures each { HasOnePathEach result.faults result.paths }
@@ -88,7 +88,7 @@ impl<T: Copy> Tree<T> {
         ensures pass { IfOk result (λ t. (test : ℕ → Bool) → DoPathsPass test t.paths) }
     {
         let mut items = Vec::with_capacity(alloc, 1)?;
-        items.push(Item::Value(value))?;
+        items.push(TreeItem::Value(value))?;
         Ok(Tree::of(alloc, k, items))
     }
 
@@ -177,7 +177,7 @@ fn is_time_from(time: Option<u64>, least: u64) -> bool
 }
 
 /// Whether each value of a tree is a time of at least this.
-fn are_at_least(items: &[Item<Option<u64>>], least: u64) -> bool
+fn are_at_least(items: &[TreeItem<Option<u64>>], least: u64) -> bool
     requires { IsFlat items.now }
     ensures { OnTrue result ((n : TreeNode (Option ℕ)) → items.now ≡ flat n → IsAtLeast least n) }
 {

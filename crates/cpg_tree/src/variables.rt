@@ -7,37 +7,42 @@ ghost use Rattle.cpg_tree.specs.Variables.{IsCounted, IsValued};
 
 use crate::Tree;
 use crate::fork::fork_of;
-use crate::item::Item;
+use crate::item::TreeItem;
 use cpg_base::{FIRST_VALUE, OutOfMemory};
 use std::alloc::Global;
 
 /// Adds the tree of the count of a process, if it is `first` or more.
-fn push_counts(process: u8, first: u8, k: u8, out: &mut Vec<Item<u8>>) -> Result<(), OutOfMemory>
+fn push_counts(
+    process: u8,
+    first: u8,
+    k: u8,
+    out: &mut Vec<TreeItem<u8>>,
+) -> Result<(), OutOfMemory>
     requires process { process < 128 }
     requires first { first ≤ k }
     ensures long { IfOk result (λ _. vec_len out.old ≤ vec_len out.new) }
     ensures made { IfOk result (λ _. Adds (IsCounted process first k) out.old.items out.new.items) }
 {
     if first == k {
-        out.push(Item::Value(k))?;
+        out.push(TreeItem::Value(k))?;
         return Ok(());
     }
     let start = out.len();
-    out.push(Item::Value(first))?;
+    out.push(TreeItem::Value(first))?;
     let middle = out.len();
     push_counts(process, first + 1, k, out)?;
     fork_of(out, start, middle, process, first)
 }
 
 /// Adds the tree of the value of a condition.
-fn push_value(condition: u8, out: &mut Vec<Item<bool>>) -> Result<(), OutOfMemory>
+fn push_value(condition: u8, out: &mut Vec<TreeItem<bool>>) -> Result<(), OutOfMemory>
     requires { condition < 32 }
     ensures { IfOk result (λ _. Adds (IsValued (128 + condition)) out.old.items out.new.items) }
 {
     let start = out.len();
-    out.push(Item::Value(false))?;
+    out.push(TreeItem::Value(false))?;
     let middle = out.len();
-    out.push(Item::Value(true))?;
+    out.push(TreeItem::Value(true))?;
     fork_of(out, start, middle, FIRST_VALUE + condition, 0)
 }
 

@@ -12,7 +12,7 @@ use Rattle.cpg_cube.specs.Narrow.{narrowed_by, meet_literal, range_left, with_li
 use Rattle.cpg_tree.specs.TreeNode.{TreeNode, Leaf, Fork}
 use Rattle.cpg_tree.specs.declared.space.Space.{Space}
 use Rattle.cpg_tree.specs.Space.{is_open_below, is_open_above, below_cut, above_cut}
-use Rattle.cpg_tree.specs.declared.item.Item.{Item}
+use Rattle.cpg_tree.specs.declared.item.TreeItem.{TreeItem}
 use Rattle.cpg_tree.specs.Flat.{flat}
 use Rattle.cpg_tree.proofs.Flats.{flat-same}
 use Rattle.cpg_cube.specs.Column.{Column}
@@ -100,7 +100,7 @@ columns_seen k node good paths seen faults same whole none = ap₂ (λ (m : ℕ)
 -- ---- on the way down a list
 
 -- a side of a fork whose cuts leave numbers above them
-pub side_cuts : (k : ℕ) (items : List (Item (Option ℕ))) (x n : TreeNode (Option ℕ)) → items ≡ flat x → HasCuts k x → items ≡ flat n → HasCuts k n
+pub side_cuts : (k : ℕ) (items : List (TreeItem (Option ℕ))) (x n : TreeNode (Option ℕ)) → items ≡ flat x → HasCuts k x → items ≡ flat n → HasCuts k n
 side_cuts k items x n is cuts are = subst (HasCuts k) (flat-same x n (sym is ∙ are)) cuts
 
 pub cut_fits : (k v cut : ℕ) → k < 256 → cut < top k v → cut + 1 < 256
@@ -110,11 +110,11 @@ cut_fits k v cut small less = elim (cases_lt v 128) [
 ]
 
 -- the column of a leaf
-pub leaf_columns : (k : ℕ) (cube : List Literal) (items : List (Item (Option ℕ))) (n : TreeNode (Option ℕ)) (x : Option ℕ) (old new : List Column) → items ≡ flat (Leaf x) → items ≡ flat n →
+pub leaf_columns : (k : ℕ) (cube : List Literal) (items : List (TreeItem (Option ℕ))) (n : TreeNode (Option ℕ)) (x : Option ℕ) (old new : List Column) → items ≡ flat (Leaf x) → items ≡ flat n →
     new ≡ old ++ column_of cube x → new ≡ old ++ columns_from k cube n
 leaf_columns k cube items n x old new is are added = added ∙ ap (λ (m : TreeNode (Option ℕ)). old ++ columns_from k cube m) (flat-same (Leaf x) n (sym is ∙ are))
 
-module _ (k : ℕ) (cube : List Literal) (v cut : ℕ) (x y n : TreeNode (Option ℕ)) (items : List (Item (Option ℕ))) (is : items ≡ flat (Fork v cut x y)) (are : items ≡ flat n) where
+module _ (k : ℕ) (cube : List Literal) (v cut : ℕ) (x y n : TreeNode (Option ℕ)) (items : List (TreeItem (Option ℕ))) (is : items ≡ flat (Fork v cut x y)) (are : items ≡ flat n) where
   -- those of the side below, and then those of the side above
   pub fork_columns : (low high : Option (List Literal)) → with_literal (up_to v cut) cube ≡ low → with_literal (above k v cut) cube ≡ high → (old mid new : List Column) →
       mid ≡ old ++ option_map_or (λ c. columns_from k c x) low [] → new ≡ mid ++ option_map_or (λ c. columns_from k c y) high [] → new ≡ old ++ columns_from k cube n

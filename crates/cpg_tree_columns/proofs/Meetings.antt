@@ -16,7 +16,7 @@ use Rattle.cpg_base.specs.Scenario.{Scenario, IsScenario, number_of, fault_of, n
 use Rattle.cpg_cube.specs.Fit.{scenario_of}
 use Rattle.cpg_cube.proofs.Boxes.{made_number, made_lawful}
 use Rattle.cpg_tree.specs.TreeNode.{TreeNode, Leaf, Fork}
-use Rattle.cpg_tree.specs.declared.item.Item.{Item}
+use Rattle.cpg_tree.specs.declared.item.TreeItem.{TreeItem}
 use Rattle.cpg_tree.specs.Flat.{flat}
 use Rattle.cpg_tree.specs.Decision.{value_at, IsGood}
 use Rattle.cpg_tree_columns.specs.Meeting.{AreForksOf, AreOf, ComesTo, HasWhere, IsFoundIn, IsMetIn, IsMostIn, IsMostWhere, IsNowhere, IsReachedWhere, IsRoomOf, IsUpTo}
@@ -220,11 +220,11 @@ true_leaf room node b is on g forks of_g =
 
 -- as a call answers it
 module _ (room : Space) where
-  pub leaf_met : (b : Bool) (items : List (Item Bool)) → items ≡ flat (Leaf b) → OnTrue b ((n : TreeNode Bool) → items ≡ flat n → IsTrueIn room n)
+  pub leaf_met : (b : Bool) (items : List (TreeItem Bool)) → items ≡ flat (Leaf b) → OnTrue b ((n : TreeNode Bool) → items ≡ flat n → IsTrueIn room n)
   leaf_met true items is = λ n are. true_leaf room n true (flat-same n (Leaf true) (sym are ∙ is)) refl
   leaf_met false items is = tt
 
-  pub leaf_never : (b : Bool) (items : List (Item Bool)) → items ≡ flat (Leaf b) → OnFalse b ((n : TreeNode Bool) → items ≡ flat n → IsNeverIn room n)
+  pub leaf_never : (b : Bool) (items : List (TreeItem Bool)) → items ≡ flat (Leaf b) → OnFalse b ((n : TreeNode Bool) → items ≡ flat n → IsNeverIn room n)
   leaf_never true items is = tt
   leaf_never false items is = λ n are s lies. ap (λ (m : TreeNode Bool). value_at m s) (flat-same n (Leaf false) (sym are ∙ is))
 

@@ -11,14 +11,18 @@ ghost use Rattle.cpg_tree_columns.specs.Columns.{columns_of_paths};
 
 use cpg_base::{Order, OutOfMemory, Problem};
 use cpg_cube::{VARIABLES, places_along};
-use cpg_tree::{Item, Top, Tree, top_of};
+use cpg_tree::{Top, Tree, TreeItem, top_of};
 
 /// How many places are left at the first variable along an order.
 const FIRST: u16 = 256;
 
 /// How many leaves a tree has, if the variables of the forks on each way down it stand along an order, by how many places are
 /// left at each: none at more than `left`, and none at 0. Both in one walk, since a large tree isn't near when it is looked at.
-fn leaves_along<T: Copy>(items: &[Item<T>], places: &[u16; VARIABLES], left: u16) -> Option<usize>
+fn leaves_along<T: Copy>(
+    items: &[TreeItem<T>],
+    places: &[u16; VARIABLES],
+    left: u16,
+) -> Option<usize>
     requires { IsFlat items.now }
     ensures { IfSome result (λ _. (n : TreeNode T) → items.now ≡ flat n → IsAlong places.now left n) }
 {

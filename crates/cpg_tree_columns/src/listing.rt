@@ -13,11 +13,11 @@ ghost use Rattle.cpg_tree.specs.TreeNode.{TreeNode};
 use crate::along::count_along;
 use cpg_base::{Order, OutOfMemory, Problem, top};
 use cpg_cube::{Cube, Entry, Listing, Literal};
-use cpg_tree::{Item, Top, Tree, top_of};
+use cpg_tree::{Top, Tree, TreeItem, top_of};
 
 /// Adds the columns on from a cube, which is narrowed on the way down and restored on the way up.
 fn push_columns(
-    items: &[Item<Option<u64>>],
+    items: &[TreeItem<Option<u64>>],
     k: u8,
     cube: &mut Cube,
     columns: &mut Vec<Entry>,

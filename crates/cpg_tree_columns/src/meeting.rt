@@ -8,10 +8,10 @@ ghost use Rattle.cpg_tree.specs.Flat.{IsFlat, flat};
 ghost use Rattle.cpg_tree.specs.TreeNode.{TreeNode};
 ghost use Rattle.cpg_tree_columns.specs.Meeting.{IsMetIn, IsMostIn, IsUpTo, IsMostWhere, IsNowhere};
 
-use cpg_tree::{Item, Space, Top, Tree, top_of};
+use cpg_tree::{Space, Top, Tree, TreeItem, top_of};
 
 /// Whether a tree is true in some scenario of a space.
-fn holds_in(items: &[Item<bool>], space: &mut Space) -> bool
+fn holds_in(items: &[TreeItem<bool>], space: &mut Space) -> bool
     requires { IsFlat items.now }
     ensures back { space.new ≡ space.old }
     ensures met { OnTrue result ((n : TreeNode Bool) → items.now ≡ flat n → IsMetIn space.old n n (λ s. value_at n s ≡ true)) }
@@ -61,9 +61,9 @@ fn is_greater(number: Option<u64>, best: Option<u64>) -> bool
 
 /// The greatest of a number and of those in a space where another tree is true.
 fn most_in(
-    items: &[Item<Option<u64>>],
+    items: &[TreeItem<Option<u64>>],
     space: &mut Space,
-    wanted: &[Item<bool>],
+    wanted: &[TreeItem<bool>],
     best: Option<u64>,
 ) -> Option<u64>
     requires flat { IsFlat items.now }

@@ -17,7 +17,7 @@ use crate::along::stand_along;
 use crate::listing::{listed, room_for};
 use cpg_base::{Order, OutOfMemory, Problem, Scenario, top};
 use cpg_cube::{Cube, Literal, first_by_least_scenario};
-use cpg_tree::{Item, Top, Tree, top_of};
+use cpg_tree::{Top, Tree, TreeItem, top_of};
 
 /// The greater of two numbers, if there are two.
 fn greater(first: Option<u64>, second: Option<u64>) -> Option<u64>
@@ -41,7 +41,7 @@ fn kept(wanted: u64, time: Option<u64>) -> Option<u64>
 }
 
 /// The greatest number of a leaf.
-fn most_of(items: &[Item<Option<u64>>]) -> Option<u64>
+fn most_of(items: &[TreeItem<Option<u64>>]) -> Option<u64>
     requires { IsFlat items.now }
     ensures { (n : TreeNode (Option ℕ)) → items.now ≡ flat n → result ≡ most_of n }
 {
@@ -110,7 +110,7 @@ fn least_listed(
 /// Narrows a cube by the way to the first leaf from the left with a number. False exactly if no leaf has it: then the cube is
 /// what it was.
 fn narrow_to_first(
-    items: &[Item<Option<u64>>],
+    items: &[TreeItem<Option<u64>>],
     k: u8,
     cube: &mut Cube,
     wanted: u64,

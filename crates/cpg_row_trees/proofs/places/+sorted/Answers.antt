@@ -4,7 +4,7 @@ use Rattle.cpg_base.specs.Scenario.{number_of}
 use Rattle.cpg_cube.specs.declared.literal.Literal.{Literal}
 use Rattle.cpg_tree.specs.TreeNode.{TreeNode, Leaf}
 use Rattle.cpg_tree.specs.Flat.{flat}
-use Rattle.cpg_tree.specs.declared.item.Item.{Item}
+use Rattle.cpg_tree.specs.declared.item.TreeItem.{TreeItem}
 use Rattle.cpg_tree.specs.declared.space.Space.{Space}
 use Rattle.cpg_tree.specs.Space.{Lies}
 use Rattle.cpg_row_trees.specs.declared.places.PlaceCut.{PlaceCut}
@@ -62,5 +62,5 @@ sorted_out-returns-in_ok-add_leaf-in-Leaf-clause-sorted t c =
     let cubes : List (List Literal) = map (λ (b : Bor (List Literal)). b.now) c.args.cubes.now in
     let leaf : TreeNode (Option ℕ) = Leaf c.in-Leaf.place in
     sorted_leaf cubes c.args.space.now (places_of c.args.spots.items) c.in-Leaf.place c.args.growth.now c.add_leaf.new.self (rw c.as_slice.ensures.value at c.in-Leaf.ensures)
-    (c.in_ok-add_leaf-in-Leaf.ensures.items ∙ ap (λ (xs : List (Item (Option ℕ))). xs ++ flat leaf) c.may_grow.ensures.items)
+    (c.in_ok-add_leaf-in-Leaf.ensures.items ∙ ap (λ (xs : List (TreeItem (Option ℕ))). xs ++ flat leaf) c.may_grow.ensures.items)
     (omega (arith, c.in_ok-add_leaf-in-Leaf.ensures.left, OnTrue_at c.if-not-may_grow.false c.may_grow.ensures.left))

@@ -3,7 +3,7 @@ use Rattle.std.proofs.lemmas.Bool.{OnTrue_at}
 use Rattle.cpg_cube.specs.declared.literal.Literal.{Literal}
 use Rattle.cpg_tree.specs.TreeNode.{TreeNode, Leaf}
 use Rattle.cpg_tree.specs.Flat.{flat}
-use Rattle.cpg_tree.specs.declared.item.Item.{Item}
+use Rattle.cpg_tree.specs.declared.item.TreeItem.{TreeItem}
 use Rattle.cpg_tree.specs.declared.space.Space.{Space}
 use Rattle.cpg_cube.specs.Cube.{holds, matches}
 use Rattle.cpg_row_trees.specs.declared.places.TreeGrowth.{TreeGrowth}
@@ -92,5 +92,5 @@ led-returns-in_ok-add_leaf-in-Leaf-clause-led t c =
     let cubes : List (List Literal) = map (λ (b : Bor (List Literal)). b.now) c.args.cubes.now in
     let leaf : TreeNode (Option ℕ) = Leaf c.in-Leaf.place in
     led_leaf cubes c.args.k c.args.space.now c.args.slice.from c.args.slice.to c.in-Leaf.place c.args.growth.now c.add_leaf.new.self c.in-Leaf.ensures
-    (c.in_ok-add_leaf-in-Leaf.ensures.items ∙ ap (λ (xs : List (Item (Option ℕ))). xs ++ flat leaf) c.may_grow.ensures.items)
+    (c.in_ok-add_leaf-in-Leaf.ensures.items ∙ ap (λ (xs : List (TreeItem (Option ℕ))). xs ++ flat leaf) c.may_grow.ensures.items)
     (omega (arith, c.in_ok-add_leaf-in-Leaf.ensures.left, OnTrue_at c.if-not-may_grow.false c.may_grow.ensures.left))

@@ -5,8 +5,11 @@ use Rattle.cpg_tree.proofs.bounds.span_of.Goals as goal
 pub unreachable-requires : goal.unreachable-requires
 unreachable-requires g c =
     let shows = c.in-Cut.ensures.shows in
-    absurd (omega (arith, c.in-None.ensures.cases,
-    fork_bounded (g.R.Reading.number c.args.read.now) c.args.tree.items.now c.args.tree.bounds.now c.requires c.in-Cut.variable c.in-Cut.cut shows.0 shows.1 shows.4))
+    absurd (omega (
+      arith,
+      c.in-None.ensures.cases,
+      fork_bounded (g.R.Reading.number c.args.read.now) c.args.tree.items.now c.args.tree.bounds.now c.requires c.in-Cut.variable c.in-Cut.cut shows.0 shows.1 shows.4,
+    ))
 
 pub returns-in-Some : goal.returns-in-Some
 returns-in-Some g c n are =

@@ -115,7 +115,31 @@ greater_by-requires g t c κs within =
     (λ e. (c.sides.ensures.bounds number c.in-Cut.variable c.in-Cut.cut shows.0 shows.1 shows.2 e).1) in
     let others : IsBounded other_number c.bounded_part-other.result.items.now c.bounded_part-other.result.bounds.now =
     part_bounded other_number c.args.rooms.now.walked c.args.other.items.now c.bounded_part-other.result.items.now c.args.other.bounds.now c.bounded_part-other.result.bounds.now
-    c.requires.others c.bounded_part-other.ensures.part in (small, (within.0, (within.1.0, (within.1.1.0, (within.1.1.1.0, (within.1.1.1.1.0, (within.1.1.1.1.1, (c.requires.callable, (c.requires.equal, (own, others))))))))))
+    c.requires.others c.bounded_part-other.ensures.part in (
+      small,
+      (
+        within.0,
+        (
+          within.1.0,
+          (
+            within.1.1.0,
+            (
+              within.1.1.1.0,
+              (
+                within.1.1.1.1.0,
+                (
+                  within.1.1.1.1.1,
+                  (
+                    c.requires.callable,
+                    (c.requires.equal, (own, others)),
+                  ),
+                ),
+              ),
+            ),
+          ),
+        ),
+      ),
+    )
 
 pub greater_by-requires-in-Below : goal.greater_by-requires-in-Below
 greater_by-requires-in-Below g t c κs within =
@@ -129,7 +153,31 @@ greater_by-requires-in-Below g t c κs within =
     (λ e. (c.sides.ensures.bounds number c.in-Cut.variable c.in-Cut.cut shows.0 shows.1 shows.2 e).0) in
     let others : IsBounded other_number c.bounded_part-other.result.items.now c.bounded_part-other.result.bounds.now =
     part_bounded other_number c.args.rooms.now.walked c.args.other.items.now c.bounded_part-other.result.items.now c.args.other.bounds.now c.bounded_part-other.result.bounds.now
-    c.requires.others c.bounded_part-other.ensures.part in (small, (within.0, (within.1.0, (within.1.1.0, (within.1.1.1.0, (within.1.1.1.1.0, (within.1.1.1.1.1, (c.requires.callable, (c.requires.equal, (own, others))))))))))
+    c.requires.others c.bounded_part-other.ensures.part in (
+      small,
+      (
+        within.0,
+        (
+          within.1.0,
+          (
+            within.1.1.0,
+            (
+              within.1.1.1.0,
+              (
+                within.1.1.1.1.0,
+                (
+                  within.1.1.1.1.1,
+                  (
+                    c.requires.callable,
+                    (c.requires.equal, (own, others)),
+                  ),
+                ),
+              ),
+            ),
+          ),
+        ),
+      ),
+    )
 
 pub greater_by-requires-in-Both : goal.greater_by-requires-in-Both
 greater_by-requires-in-Both g t c κs within =
@@ -143,7 +191,31 @@ greater_by-requires-in-Both g t c κs within =
     (λ e. (c.sides.ensures.bounds number c.in-Cut.variable c.in-Cut.cut shows.0 shows.1 shows.2 e).0) in
     let others : IsBounded other_number c.bounded_part-other.result.items.now c.bounded_part-other.result.bounds.now =
     part_bounded other_number c.args.rooms.now.walked c.args.other.items.now c.bounded_part-other.result.items.now c.args.other.bounds.now c.bounded_part-other.result.bounds.now
-    c.requires.others c.bounded_part-other.ensures.part in (small, (within.0, (within.1.0, (within.1.1.0, (within.1.1.1.0, (within.1.1.1.1.0, (within.1.1.1.1.1, (c.requires.callable, (c.requires.equal, (own, others))))))))))
+    c.requires.others c.bounded_part-other.ensures.part in (
+      small,
+      (
+        within.0,
+        (
+          within.1.0,
+          (
+            within.1.1.0,
+            (
+              within.1.1.1.0,
+              (
+                within.1.1.1.1.0,
+                (
+                  within.1.1.1.1.1,
+                  (
+                    c.requires.callable,
+                    (c.requires.equal, (own, others)),
+                  ),
+                ),
+              ),
+            ),
+          ),
+        ),
+      ),
+    )
 
 pub greater_by-requires-in-Both-2 : goal.greater_by-requires-in-Both-2
 greater_by-requires-in-Both-2 g t c κs within =
@@ -157,7 +229,31 @@ greater_by-requires-in-Both-2 g t c κs within =
     (λ e. (c.sides.ensures.bounds number c.in-Cut.variable c.in-Cut.cut shows.0 shows.1 shows.2 e).1) in
     let others : IsBounded other_number c.bounded_part-other.result.items.now c.bounded_part-other.result.bounds.now =
     part_bounded other_number c.args.rooms.now.walked c.args.other.items.now c.bounded_part-other.result.items.now c.args.other.bounds.now c.bounded_part-other.result.bounds.now
-    c.requires.others c.bounded_part-other.ensures.part in (small, (within.0, (within.1.0, (within.1.1.0, (within.1.1.1.0, (within.1.1.1.1.0, (within.1.1.1.1.1, (c.requires.callable, (c.requires.equal, (own, others))))))))))
+    c.requires.others c.bounded_part-other.ensures.part in (
+      small,
+      (
+        within.0,
+        (
+          within.1.0,
+          (
+            within.1.1.0,
+            (
+              within.1.1.1.0,
+              (
+                within.1.1.1.1.0,
+                (
+                  within.1.1.1.1.1,
+                  (
+                    c.requires.callable,
+                    (c.requires.equal, (own, others)),
+                  ),
+                ),
+              ),
+            ),
+          ),
+        ),
+      ),
+    )
 
 pub returns-in_ok-greater_by-in-Both-2-clause-long : goal.returns-in_ok-greater_by-in-Both-2-clause-long
 returns-in_ok-greater_by-in-Both-2-clause-long g t c =

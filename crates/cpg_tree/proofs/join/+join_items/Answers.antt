@@ -13,7 +13,8 @@ returns-then-not-is_open_below-clause-made g t c =
     of_answer c.join_items.result _ _ c.join_items.ensures.made
     (λ u made n m are others.
     let part = c.part_in-other.ensures.part m others in
-    joins_whole (λ (x : g.row.T.Denot) (y : g.row.U.Denot) (z : g.row.V.Denot). g.F.Fn.post c.args.f.now (x, (y, tt)) z) c.args.space.now n m part.0 c.args.out.now.items c.join_items.new.out.items part.2
+    joins_whole (λ (x : g.row.T.Denot) (y : g.row.U.Denot) (z : g.row.V.Denot). g.F.Fn.post c.args.f.now (x, (y, tt)) z) c.args.space.now n m part.0 c.args.out.now.items c.join_items.new.out.items
+    part.2
     (joins_above c.args.space.now c.in-Cut.variable c.in-Cut.cut shows.0 shows.1 n c.args.items.now shows.4 are
     (λ (x : g.row.T.Denot) (y : g.row.U.Denot) (z : g.row.V.Denot). g.F.Fn.post c.args.f.now (x, (y, tt)) z) part.0 c.args.out.now.items c.join_items.new.out.items
     (from_false c.is_open_below.result c.if-not-is_open_below.true c.is_open_below.ensures.none) (made shows.1 part.0 shows.3 part.1)))
@@ -24,7 +25,8 @@ returns-then-not-is_open_above-clause-made g t c =
     of_answer c.join_items-then-not-is_open_above.result _ _ c.join_items-then-not-is_open_above.ensures.made
     (λ u made n m are others.
     let part = c.part_in-other.ensures.part m others in
-    joins_whole (λ (x : g.row.T.Denot) (y : g.row.U.Denot) (z : g.row.V.Denot). g.F.Fn.post c.args.f.now (x, (y, tt)) z) c.args.space.now n m part.0 c.args.out.now.items c.join_items-then-not-is_open_above.new.out.items part.2
+    joins_whole (λ (x : g.row.T.Denot) (y : g.row.U.Denot) (z : g.row.V.Denot). g.F.Fn.post c.args.f.now (x, (y, tt)) z) c.args.space.now n m part.0 c.args.out.now.items
+    c.join_items-then-not-is_open_above.new.out.items part.2
     (joins_below c.args.space.now c.in-Cut.variable c.in-Cut.cut shows.0 shows.1 n c.args.items.now shows.4 are
     (λ (x : g.row.T.Denot) (y : g.row.U.Denot) (z : g.row.V.Denot). g.F.Fn.post c.args.f.now (x, (y, tt)) z) part.0 c.args.out.now.items c.join_items-then-not-is_open_above.new.out.items
     (from_false c.is_open_above.result c.if-not-is_open_above.true c.is_open_above.ensures.none) (made shows.0 part.0 shows.2 part.1)))
@@ -34,8 +36,10 @@ returns-in-Value-clause-made g t c =
     of_answer c.fill_items.result _ _ c.fill_items.ensures.made
     (λ u made n m are others.
     let part = c.part_in-other.ensures.part m others in
-    joins_whole (λ (x : g.row.T.Denot) (y : g.row.U.Denot) (z : g.row.V.Denot). g.F.Fn.post c.args.f.now (x, (y, tt)) z) c.args.space.now n m part.0 c.args.out.now.items c.fill_items.new.out.items part.2
-    (joins_leaf (λ (x : g.row.T.Denot) (y : g.row.U.Denot) (z : g.row.V.Denot). g.F.Fn.post c.args.f.now (x, (y, tt)) z) c.args.space.now c.in-Value.value n part.0 c.args.items.now c.args.out.now.items c.fill_items.new.out.items
+    joins_whole (λ (x : g.row.T.Denot) (y : g.row.U.Denot) (z : g.row.V.Denot). g.F.Fn.post c.args.f.now (x, (y, tt)) z) c.args.space.now n m part.0 c.args.out.now.items c.fill_items.new.out.items
+    part.2
+    (joins_leaf (λ (x : g.row.T.Denot) (y : g.row.U.Denot) (z : g.row.V.Denot). g.F.Fn.post c.args.f.now (x, (y, tt)) z) c.args.space.now c.in-Value.value n part.0 c.args.items.now
+    c.args.out.now.items c.fill_items.new.out.items
     c.in-Value.ensures.shows are (made part.0 part.1)))
 
 pub returns-in_ok-join_items-in-Cut-2-clause-long : goal.returns-in_ok-join_items-in-Cut-2-clause-long
@@ -62,10 +66,12 @@ returns-in_ok-join_items-in-Cut-2-clause-made g t c =
     (λ (x : g.row.T.Denot) (y : g.row.U.Denot) (z : g.row.V.Denot). g.F.Fn.post c.args.f.now (x, (y, tt)) z) part.0 c.args.out.now.items c.fork.new.out.items
     c.close_above-most.new.self c.close_below-least.new.self c.len-start.result c.len-middle.result c.join_items-in-Cut.new.out.items c.join_items-in-Cut-2.new.out.items
     (sym c.is_open_below.ensures.is ∙ c.if-not-is_open_below.false) (sym c.is_open_above.ensures.is ∙ c.if-not-is_open_above.false) c.close_above-most.ensures.is
-    (above_reopened c.args.space.now c.close_above-most.new.self c.join_items-in-Cut.new.space c.reopen_above.new.self c.close_below-least.new.self c.in-Cut.variable c.close_above-most.result c.in-Cut.cut
+    (above_reopened c.args.space.now c.close_above-most.new.self c.join_items-in-Cut.new.space c.reopen_above.new.self c.close_below-least.new.self c.in-Cut.variable c.close_above-most.result
+    c.in-Cut.cut
     c.close_above-most.ensures.back c.in_ok-join_items-in-Cut.ensures.back c.reopen_above.ensures c.close_below-least.ensures.is)
     c.close_above-most.ensures.lies
-    (lies_reopened c.args.space.now c.close_above-most.new.self c.join_items-in-Cut.new.space c.reopen_above.new.self c.close_below-least.new.self c.in-Cut.variable c.close_above-most.result c.in-Cut.cut
+    (lies_reopened c.args.space.now c.close_above-most.new.self c.join_items-in-Cut.new.space c.reopen_above.new.self c.close_below-least.new.self c.in-Cut.variable c.close_above-most.result
+    c.in-Cut.cut
     c.close_above-most.ensures.back c.in_ok-join_items-in-Cut.ensures.back c.reopen_above.ensures c.close_below-least.ensures.lies)
     (c.len-start.ensures ∙ c.args.out.now.ok.0) (c.len-middle.ensures ∙ c.join_items-in-Cut.new.out.ok.0) forks
     (c.in_ok-join_items-in-Cut.ensures.made shows.0 part.0 shows.2 part.1) (c.in_ok-join_items-in-Cut-2.ensures.made shows.1 part.0 shows.3 part.1)))

@@ -73,10 +73,12 @@ returns-in_ok-pick_items-in-Cut-2-clause-made g t c =
     (picks_fork c.args.space.now on.0 off.0 c.args.out.now.items c.fork.new.out.items c.in-Cut.variable c.in-Cut.cut shows.0 shows.1 n c.args.items.now shows.4 are
     c.close_above-most.new.self c.close_below-least.new.self c.len-start.result c.len-middle.result c.pick_items-in-Cut.new.out.items c.pick_items-in-Cut-2.new.out.items
     (sym c.is_open_below.ensures.is ∙ c.if-not-is_open_below.false) (sym c.is_open_above.ensures.is ∙ c.if-not-is_open_above.false) c.close_above-most.ensures.is
-    (above_reopened c.args.space.now c.close_above-most.new.self c.pick_items-in-Cut.new.space c.reopen_above.new.self c.close_below-least.new.self c.in-Cut.variable c.close_above-most.result c.in-Cut.cut
+    (above_reopened c.args.space.now c.close_above-most.new.self c.pick_items-in-Cut.new.space c.reopen_above.new.self c.close_below-least.new.self c.in-Cut.variable c.close_above-most.result
+    c.in-Cut.cut
     c.close_above-most.ensures.back c.in_ok-pick_items-in-Cut.ensures.back c.reopen_above.ensures c.close_below-least.ensures.is)
     c.close_above-most.ensures.lies
-    (lies_reopened c.args.space.now c.close_above-most.new.self c.pick_items-in-Cut.new.space c.reopen_above.new.self c.close_below-least.new.self c.in-Cut.variable c.close_above-most.result c.in-Cut.cut
+    (lies_reopened c.args.space.now c.close_above-most.new.self c.pick_items-in-Cut.new.space c.reopen_above.new.self c.close_below-least.new.self c.in-Cut.variable c.close_above-most.result
+    c.in-Cut.cut
     c.close_above-most.ensures.back c.in_ok-pick_items-in-Cut.ensures.back c.reopen_above.ensures c.close_below-least.ensures.lies)
     (c.len-start.ensures ∙ c.args.out.now.ok.0) (c.len-middle.ensures ∙ c.pick_items-in-Cut.new.out.ok.0) forks
     (c.in_ok-pick_items-in-Cut.ensures.made shows.0 on.0 off.0 shows.2 on.1 off.1) (c.in_ok-pick_items-in-Cut-2.ensures.made shows.1 on.0 off.0 shows.3 on.1 off.1)))

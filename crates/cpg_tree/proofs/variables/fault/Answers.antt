@@ -8,8 +8,16 @@ use Rattle.cpg_tree.proofs.variables.fault.Goals as goal
 pub of-requires : goal.of-requires
 of-requires c =
     let w = some_whole c.args.k in
-    let r = c.in_ok-push_counts.ensures.made in
-    (r.0, all_added c.in_ok-items.items.items c.push_counts.new.out.items r.0 c.in_ok-items.ensures.items r.1, (w.0, w.1, r.2.fit w.0 (whole_counts c.args.k w.0 c.args.process c.requires.process w.1)))
+    let r = c.in_ok-push_counts.ensures.made in (
+      r.0,
+      all_added c.in_ok-items.items.items c.push_counts.new.out.items r.0 c.in_ok-items.ensures.items r.1,
+      (
+        w.0,
+        w.1,
+        r.2.fit w.0
+            (whole_counts c.args.k w.0 c.args.process c.requires.process w.1),
+      ),
+    )
 
 pub returns-clause-is : goal.returns-clause-is
 returns-clause-is c =

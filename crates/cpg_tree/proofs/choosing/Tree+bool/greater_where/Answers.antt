@@ -43,15 +43,23 @@ returns-clause-pass g c test first second third =
 pub greater_where-requires-clause-own : goal.greater_where-requires-clause-own
 greater_where-requires-clause-own g c =
     let n = c.items-own_items.ensures.flat in
-    let m = c.items-other_items.ensures.flat in
-    (n.0, n.1, c.split_at.ensures.front ∙ ap (take c.len-forks.result) c.deref.ensures.value ∙ first_bounds (g.R.Reading.number c.args.read.now) (g.S.Reading.number c.args.also.now) n.0 m.0 c.new-bounds.result.items
-    c.push_bounds.new.bounds.items c.push_bounds-2.new.bounds.items c.len-forks.result c.new-bounds.ensures.items (c.in_ok-push_bounds.ensures.bounds n.0 n.1)
-    (c.in_ok-push_bounds-2.ensures.bounds m.0 m.1) (c.len-forks.ensures ∙ c.push_bounds.new.bounds.ok.0))
+    let m = c.items-other_items.ensures.flat in (
+      n.0,
+      n.1,
+      c.split_at.ensures.front ∙ ap (take c.len-forks.result) c.deref.ensures.value ∙ first_bounds (g.R.Reading.number c.args.read.now)
+          (g.S.Reading.number c.args.also.now) n.0 m.0 c.new-bounds.result.items
+          c.push_bounds.new.bounds.items c.push_bounds-2.new.bounds.items c.len-forks.result c.new-bounds.ensures.items (c.in_ok-push_bounds.ensures.bounds n.0 n.1)
+          (c.in_ok-push_bounds-2.ensures.bounds m.0 m.1) (c.len-forks.ensures ∙ c.push_bounds.new.bounds.ok.0),
+    )
 
 pub greater_where-requires-clause-others : goal.greater_where-requires-clause-others
 greater_where-requires-clause-others g c =
     let n = c.items-own_items.ensures.flat in
-    let m = c.items-other_items.ensures.flat in
-    (m.0, m.1, c.split_at.ensures.back ∙ ap (drop c.len-forks.result) c.deref.ensures.value ∙ second_bounds (g.R.Reading.number c.args.read.now) (g.S.Reading.number c.args.also.now) n.0 m.0 c.new-bounds.result.items
-    c.push_bounds.new.bounds.items c.push_bounds-2.new.bounds.items c.len-forks.result c.new-bounds.ensures.items (c.in_ok-push_bounds.ensures.bounds n.0 n.1)
-    (c.in_ok-push_bounds-2.ensures.bounds m.0 m.1) (c.len-forks.ensures ∙ c.push_bounds.new.bounds.ok.0))
+    let m = c.items-other_items.ensures.flat in (
+      m.0,
+      m.1,
+      c.split_at.ensures.back ∙ ap (drop c.len-forks.result) c.deref.ensures.value ∙ second_bounds (g.R.Reading.number c.args.read.now)
+          (g.S.Reading.number c.args.also.now) n.0 m.0 c.new-bounds.result.items
+          c.push_bounds.new.bounds.items c.push_bounds-2.new.bounds.items c.len-forks.result c.new-bounds.ensures.items (c.in_ok-push_bounds.ensures.bounds n.0 n.1)
+          (c.in_ok-push_bounds-2.ensures.bounds m.0 m.1) (c.len-forks.ensures ∙ c.push_bounds.new.bounds.ok.0),
+    )

@@ -30,4 +30,5 @@ returns-clause-pass g c test =
     let r = c.in_ok-pick_items.ensures.made n.0 a.0 b.0 n.1 a.1 b.1 in
     let are = all_added c.in_ok-made.made.items c.pick_items.new.out.items r.0 c.in_ok-made.ensures.items r.1 in
     pick_passes c.args.chooser.now c.args.yes.now c.args.no.now n.0 a.0 b.0 (c.items.ensures.good n.0 n.1) (c.items-on.ensures.good a.0 a.1) (c.items-off.ensures.good b.0 b.1)
-    (c.items.ensures.paths n.0 n.1) (c.items-on.ensures.paths a.0 a.1) (c.items-off.ensures.paths b.0 b.1) c.faults-faults.result c.faults-faults.ensures r.0 c.of.result (c.of.ensures.is r.0 are) test (r.2.pass test)
+    (c.items.ensures.paths n.0 n.1) (c.items-on.ensures.paths a.0 a.1) (c.items-off.ensures.paths b.0 b.1) c.faults-faults.result c.faults-faults.ensures r.0 c.of.result
+    (c.of.ensures.is r.0 are) test (r.2.pass test)
