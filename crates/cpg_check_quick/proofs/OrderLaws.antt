@@ -16,7 +16,7 @@ use Rattle.cpg_cube.specs.Cube.{matches}
 use Rattle.cpg_table.specs.Table.{NodeTable, columns_of}
 use Rattle.cpg_cube.specs.Column.{Column, column_at}
 use Rattle.cpg_table.specs.declared.rule.Rule.{Rule}
-use Rattle.cpg_row_trees.specs.declared.places.Places.{Places}
+use Rattle.cpg_row_trees.specs.PlacesState.{PlacesState}
 use Rattle.cpg_row_trees.specs.Places.{place_at}
 use Rattle.cpg_row_trees.specs.Trees.{IsRowTree}
 use Rattle.cpg_row_trees.proofs.TreeLaws.{none_matches, place_only}
@@ -70,7 +70,7 @@ courses_more lasts g tables n list course before here = record {
 -- ---- one column
 
 -- what is told of the column at the tree's place is told of each that matches
-module _ {g : Graph} {columns : List Column} {tree : Places} (is : IsRowTree g columns tree) (s : Scenario) (law : IsScenario g s) (fact : Column → Type 0) where
+module _ {g : Graph} {columns : List Column} {tree : PlacesState} (is : IsRowTree g columns tree) (s : Scenario) (law : IsScenario g s) (fact : Column → Type 0) where
   by_place : (o : Option ℕ) → place_at tree s ≡ o → IfSome o (λ i. fact (column_at columns i)) → (d : Column) → Contains columns d → matches d.cube s ≡ true → fact d
   by_place None e h d c m = absurd (none_matches is s law e d c m)
   by_place (Some i) e h d c m =
@@ -98,9 +98,9 @@ module _ {g : Graph} {tables : List NodeTable} {lasts : Scenario → ℕ} {x : �
       let first : course.first ≤ d.time = All-contains (λ (d : Column). course.first ≤ d.time) (columns_of tables x) d is.first c in
       omega (arith, l, h, first)
 
-  module _ (tree : Places) (there : course.tree.now ≡ Some tree) where
+  module _ (tree : PlacesState) (there : course.tree.now ≡ Some tree) where
     row_tree : IsRowTree g (columns_of tables x) tree
-    row_tree = subst (λ (o : Option Places). IfSome o (λ (t : Places). IsRowTree g (columns_of tables x) t)) there is.tree
+    row_tree = subst (λ (o : Option PlacesState). IfSome o (λ (t : PlacesState). IsRowTree g (columns_of tables x) t)) there is.tree
 
     -- by the tree
     pub told_over : (time : ℕ) → IfSome (place_at tree s) (λ i. IsPast course.span (column_at course.columns.now i).time time s) → IsOverBy tables (lasts s) x time s
@@ -120,9 +120,9 @@ module _ {g : Graph} {tables : List NodeTable} {lasts : Scenario → ℕ} {x : �
         ]
 
 -- the tree of an item's columns
-module _ {g : Graph} {tables : List NodeTable} {last : Scenario → ℕ} {x : ℕ} {course : Course} (is : IsCourse g tables last x course) (tree : Places) (there : course.tree.now ≡ Some tree) where
+module _ {g : Graph} {tables : List NodeTable} {last : Scenario → ℕ} {x : ℕ} {course : Course} (is : IsCourse g tables last x course) (tree : PlacesState) (there : course.tree.now ≡ Some tree) where
   its_tree : IsRowTree g (columns_of tables x) tree
-  its_tree = subst (λ (o : Option Places). IfSome o (λ (t : Places). IsRowTree g (columns_of tables x) t)) there is.tree
+  its_tree = subst (λ (o : Option PlacesState). IfSome o (λ (t : PlacesState). IsRowTree g (columns_of tables x) t)) there is.tree
 
 -- what is told of the column that a look-up finds
 pub told_at : (fact : Column → Type 0) (columns : List Column) (i : ℕ) (c : Column) → i < length columns → c ≡ get_or columns i c → fact c → fact (column_at columns i)
@@ -135,7 +135,7 @@ told_so (Some i) h f = f i h
 
 -- ---- two trees
 
-module _ {g : Graph} {tables : List NodeTable} {lasts : Scenario → ℕ} {y : ℕ} {one : Course} (is : IsCourse g tables lasts y one) {s : Scenario} (law : IsScenario g s) (own : Places)
+module _ {g : Graph} {tables : List NodeTable} {lasts : Scenario → ℕ} {y : ℕ} {one : Course} (is : IsCourse g tables lasts y one) {s : Scenario} (law : IsScenario g s) (own : PlacesState)
     (there : one.tree.now ≡ Some own) where
   over_at : (time : ℕ) → IsOverAt one time (place_at own s) s → IsOverBy tables (lasts s) y time s
   over_at time h = elim h [
@@ -149,7 +149,7 @@ module _ {g : Graph} {tables : List NodeTable} (lasts : ℕ → Scenario → ℕ
   early_before h s c law here m = early_over is law c.time (omega (arith, h, All-contains (λ (d : Column). other.first ≤ d.time) (columns_of tables x) c by.first here))
 
   -- what is over by the time of the column at each place of another's tree is over before it
-  pub walked_before : (own tree : Places) → one.tree.now ≡ Some own → other.tree.now ≡ Some tree
+  pub walked_before : (own tree : PlacesState) → one.tree.now ≡ Some own → other.tree.now ≡ Some tree
       → ((s : Scenario) → IsScenario g s → IfSome (place_at tree s) (λ i. IsOverAt one (column_at other.columns.now i).time (place_at own s) s)) → IsOver lasts g tables y x
   walked_before own tree has there all s c law here m =
       each_told (its_tree by tree there) s law (λ (c : Column). IsOverBy tables (lasts y s) y c.time s)

@@ -9,7 +9,7 @@ use Rattle.cpg_base.specs.Scenario.{Scenario, IsScenario}
 use Rattle.cpg_cube.specs.Cube.{matches}
 use Rattle.cpg_cube.specs.Column.{Column, column_at}
 use Rattle.cpg_table.specs.Valid.{breaks_single}
-use Rattle.cpg_row_trees.specs.declared.places.Places.{Places}
+use Rattle.cpg_row_trees.specs.PlacesState.{PlacesState}
 use Rattle.cpg_row_trees.specs.Trees.{IsRowTree}
 use Rattle.cpg_violation.proofs.Tests.{off_where}
 use Rattle.cpg_row_trees.proofs.TreeLaws.{none_earlier}
@@ -29,13 +29,13 @@ front_as columns n i s less none = elim (cases_lt i (length columns)) [
   | inr past ↦ double_past columns i s past
 ]
 
-none_double : (g : Graph) (columns : List Column) (tree : Places) → IsRowTree g columns tree → (i : ℕ) (s : Scenario) → IsScenario g s → is_double columns i s ≡ false
+none_double : (g : Graph) (columns : List Column) (tree : PlacesState) → IsRowTree g columns tree → (i : ℕ) (s : Scenario) → IsScenario g s → is_double columns i s ≡ false
 none_double g columns tree is i s law = elim (cases_lt i (length columns)) [
   | inl l ↦ sym (double_at columns i (record { time = 0; cube = [] }) s l) ∙ off_where (matches (column_at columns i).cube s) (breaks_single s (take i columns)) (λ m. none_earlier is s law i l m)
   | inr past ↦ double_past columns i s past
 ]
 
-pub none_by_tree : (g : Graph) (columns : List Column) (n : ℕ) (o : Option Places) → IfSome o (IsRowTree g (take n columns))
+pub none_by_tree : (g : Graph) (columns : List Column) (n : ℕ) (o : Option PlacesState) → IfSome o (IsRowTree g (take n columns))
     → OnTrue (is_some o) ((i : ℕ) (s : Scenario) → i < n → IsScenario g s → is_double columns i s ≡ false)
 none_by_tree g columns n None is = tt
 none_by_tree g columns n (Some tree) is = λ i s less law. front_as columns n i s less (none_double g (take n columns) tree is i s law)

@@ -15,7 +15,7 @@ use Rattle.cpg_table.specs.Table.{NodeTable, columns_of}
 use Rattle.cpg_cube.specs.Column.{Column, column_at}
 use Rattle.cpg_table.specs.Valid.{breaks_at, breaks_present}
 use Rattle.cpg_table.specs.declared.rule.Rule.{Rule}
-use Rattle.cpg_row_trees.specs.declared.places.Places.{Places}
+use Rattle.cpg_row_trees.specs.PlacesState.{PlacesState}
 use Rattle.cpg_row_trees.specs.Places.{place_at}
 use Rattle.cpg_row_trees.specs.Trees.{IsRowTree}
 use Rattle.cpg_row_trees.proofs.TreeLaws.{none_earlier, place_there, place_matches, tree_of_row}
@@ -24,7 +24,7 @@ use Rattle.cpg_violation.proofs.Tests.{off_where}
 use Rattle.cpg_row_trees.specs.Trees.{AreRowTrees}
 use Rattle.cpg_check_rows.specs.Absent.{IsIdleWhere}
 
-module _ (g : Graph) (tables : List NodeTable) (x : ℕ) {tree : Places} (is : IsRowTree g (columns_of tables x) tree) where
+module _ (g : Graph) (tables : List NodeTable) (x : ℕ) {tree : PlacesState} (is : IsRowTree g (columns_of tables x) tree) where
   -- V2
   pub single_sure : IsSure g tables Rule.Single x
   single_sure None s law = refl
@@ -48,18 +48,18 @@ module _ (g : Graph) (tables : List NodeTable) (x : ℕ) {tree : Places} (is : I
           (i, there, get_or_default (columns_of tables x) i (column_at (columns_of tables x) i) (record { time = 0; cube = [] }) there) (place_matches is s law i e) in
           ap (λ b. item_active g s.values (item_at g x) && not b) some ∙ and-false (item_active g s.values (item_at g x))
 
-module _ (g : Graph) (tables : List NodeTable) (trees : List (Option Places)) (x : ℕ) (o : Option Places) where
+module _ (g : Graph) (tables : List NodeTable) (trees : List (Option PlacesState)) (x : ℕ) (o : Option PlacesState) where
   here : x < length trees → o ≡ get_or trees x o → AreRowTrees g tables trees → IfSome o (IsRowTree g (columns_of tables x))
   here there is are = tree_of_row g tables trees x are (omega (arith, there, are.count)) o is
 
   -- the tree of an item's row
-  pub tree_at : (tree : Places) → x < length trees → o ≡ get_or trees x o → o ≡ Some tree → AreRowTrees g tables trees → IsRowTree g (columns_of tables x) tree
+  pub tree_at : (tree : PlacesState) → x < length trees → o ≡ get_or trees x o → o ≡ Some tree → AreRowTrees g tables trees → IsRowTree g (columns_of tables x) tree
   tree_at tree there is some are = subst (λ p. IfSome p (IsRowTree g (columns_of tables x))) some (here there is are)
 
   -- a row that has one keeps V2
   pub single_at : x < length trees → o ≡ get_or trees x o → AreRowTrees g tables trees → OnTrue (is_some o) (IsSure g tables Rule.Single x)
   single_at there is are = go o (here there is are)
     where
-      go : (o : Option Places) → IfSome o (IsRowTree g (columns_of tables x)) → OnTrue (is_some o) (IsSure g tables Rule.Single x)
+      go : (o : Option PlacesState) → IfSome o (IsRowTree g (columns_of tables x)) → OnTrue (is_some o) (IsSure g tables Rule.Single x)
       go None h = tt
       go (Some tree) h = single_sure g tables x h

@@ -4,3 +4,4 @@ pub mod SpotLaws
 pub mod Gathered
 pub mod SliceLaws
 pub mod TreeLaws
+pub mod PlacesSeen

@@ -18,8 +18,11 @@ use Rattle.cpg_base.specs.Scenario.{Scenario, number_of}
 use Rattle.cpg_cube.specs.declared.literal.Literal.{Literal}
 use Rattle.cpg_cube.specs.Cube.{IsRising, holds, matches}
 use Rattle.cpg_cube.proofs.CubeLows.{holds-low, holds-high, holds-from}
-use Rattle.cpg_tree.specs.declared.node.TreeNode.{TreeNode}
-use Rattle.cpg_row_trees.specs.declared.places.Sorted.{Sorted}
+use Rattle.cpg_tree.specs.TreeNode.{TreeNode, Leaf}
+use Rattle.cpg_row_trees.specs.declared.places.TreeGrowth.{TreeGrowth}
+use Rattle.cpg_tree.specs.Added.{Adds, ForksEnd}
+use Rattle.cpg_tree.specs.Flat.{flat}
+use Rattle.cpg_tree.proofs.JoinLaws.{split_of}
 use Rattle.cpg_tree.specs.declared.space.Lifted.{Lifted}
 use Rattle.cpg_tree.specs.declared.space.Space.{Space}
 use Rattle.cpg_tree.specs.Space.{Lies, HasFew, IsWhole, below_cut, above_cut, reopened_below}
@@ -261,17 +264,31 @@ module _ (k : ℕ) (room side : Space) (v cut narrow n : ℕ) (there : v < 256) 
     over_cut : (s : Scenario) → Lies side s → cut < number_of s v
     over_cut s lies = number_above room v cut there s long (in_range (above_cut room v cut) s (subst (λ (r : Space). Lies r s) is lies))
 
-module _ (cubes : List (List Literal)) (k : ℕ) (room under over : Space) (from border to v cut narrow n left : ℕ) (there : v < 256) (lows : length room.low ≡ 256) (highs : length room.high ≡ 256)
+module _ (cubes : List (List Literal)) (k : ℕ) (room under over : Space) (from border to v cut narrow n : ℕ) (there : v < 256) (lows : length room.low ≡ 256) (highs : length room.high ≡ 256)
     (reached : IsReached k room narrow) (open_ : AreOpen room v cut) (more : narrow + 1 ≤ n + narrowed k room v) (is_under : under ≡ below_cut room v cut) (is_over : over ≡ above_cut room v cut)
     (goes_under : (s : Scenario) → Lies room s → number_of s v ≤ cut → Lies under s) (goes_over : (s : Scenario) → Lies room s → cut < number_of s v → Lies over s) where
-  pub led_parted : (below above : Sorted) (r : TreeNode (Option ℕ)) → IsForkOf v cut below.node above.node r → IsLed cubes k under from border left below →
-      IsLed cubes k over border to below.left above → IsLed cubes k room from to left (record { node = r; left = above.left })
-  led_parted below above r fork low high = record {
-    leads = leads_apart cubes k room under over from border to v cut below.node above.node r fork low.leads high.leads goes_under goes_over
-        (back_from_under k room under v cut narrow n there highs reached open_ more is_under goes_under) (back_from_over k room over v cut narrow n there lows reached open_ more is_over goes_over)
-        (under_cut k room under v cut narrow n there highs reached open_ more is_under goes_under) (over_cut k room over v cut narrow n there lows reached open_ more is_over goes_over);
-    fewer = omega (arith, low.fewer, high.fewer);
-  }
+  pub led_parted : (start middle : ℕ) (old half full new : TreeGrowth) → ForksEnd start middle v cut full.items.items new.items.items → new.left ≡ full.left →
+      start ≡ length old.items.items → middle ≡ length half.items.items → IsLed cubes k under from border old half → IsLed cubes k over border to half full → IsLed cubes k room from to old new
+  led_parted start middle old half full new forks as_full first second low high =
+      let lo = low.leads in
+      let hi = high.leads in
+      let fork = forks old.items.items lo.0 hi.0 (split_of start middle old.items.items half.items.items full.items.items lo.0 hi.0 lo.1 hi.1 first second) in
+      record {
+        leads = (
+          fork.0,
+          fork.1,
+          leads_apart cubes k room under over from border to v cut lo.0 hi.0 fork.0 fork.2.made lo.2 hi.2 goes_under goes_over
+              (back_from_under k room under v cut narrow n there highs reached open_ more is_under goes_under) (back_from_over k room over v cut narrow n there lows reached open_ more is_over
+              goes_over)
+              (under_cut k room under v cut narrow n there highs reached open_ more is_under goes_under) (over_cut k room over v cut narrow n there lows reached open_ more is_over goes_over),
+        );
+        fewer = omega (arith, low.fewer, high.fewer, as_full);
+      }
+
+-- a leaf that leads to its place
+pub led_leaf : (cubes : List (List Literal)) (k : ℕ) (room : Space) (from to : ℕ) (x : Option ℕ) (old new : TreeGrowth) → Leads cubes k room from to (λ s. x) →
+    new.items.items ≡ old.items.items ++ flat (Leaf x) → new.left ≤ old.left → IsLed cubes k room from to old new
+led_leaf cubes k room from to x old new leads added fewer = record { leads = (Leaf x, added, leads); fewer = fewer }
 
 -- ---- what the literals of a path say
 

@@ -8,9 +8,12 @@ use Rattle.cpg_base.proofs.Lists.{Contains-nil}
 use Rattle.cpg_base.specs.Scenario.{Scenario, number_of}
 use Rattle.cpg_cube.specs.declared.literal.Literal.{Literal}
 use Rattle.cpg_cube.proofs.CubeLows.{holds-low, holds-high}
-use Rattle.cpg_tree.specs.declared.node.TreeNode.{TreeNode}
+use Rattle.cpg_tree.specs.TreeNode.{TreeNode, Leaf}
+use Rattle.cpg_tree.specs.Added.{Adds, ForksEnd}
+use Rattle.cpg_tree.specs.Flat.{flat}
+use Rattle.cpg_tree.proofs.JoinLaws.{split_of}
 use Rattle.cpg_row_trees.specs.declared.places.Spot.{Spot}
-use Rattle.cpg_row_trees.specs.declared.places.Sorted.{Sorted}
+use Rattle.cpg_row_trees.specs.declared.places.TreeGrowth.{TreeGrowth}
 use Rattle.cpg_tree.specs.declared.space.Space.{Space}
 use Rattle.cpg_tree.specs.Space.{Lies}
 use Rattle.cpg_tree.specs.Decision.{value_at}
@@ -79,20 +82,27 @@ module _ (cubes : List (List Literal)) (room one two : Space) (places low high :
         (widen_place cubes (λ s. number_of s v ≤ cut) places low keeps_below s h (value_at below s) (of_one s l))
   ]
 
-module _ (cubes : List (List Literal)) (room one two : Space) (places low high : List ℕ) (v cut left : ℕ) (below above : Sorted) (r : TreeNode (Option ℕ))
-    (fork : IsForkOf v cut below.node above.node r)
-    (keeps_below : KeepsWhere cubes (λ s. number_of s v ≤ cut) places low) (keeps_above : KeepsWhere cubes (λ s. Lies room s × (cut < number_of s v)) places high)
-    (of_one : IsSorted cubes one low left below) (of_two : IsSorted cubes two high below.left above)
-    (goes_one : (s : Scenario) → Lies room s → number_of s v ≤ cut → Lies one s) (goes_two : (s : Scenario) → Lies room s → cut < number_of s v → Lies two s) where
-  pub sorted_parted : IsSorted cubes room places left (record { node = r; left = above.left })
-  sorted_parted = record {
-    told = told_parted cubes room one two places low high v cut below.node above.node r fork keeps_below keeps_above of_one.told of_two.told goes_one goes_two;
-    fewer = omega (arith, of_one.fewer, of_two.fewer);
-  }
+-- a leaf that tells of the places
+pub sorted_leaf : (cubes : List (List Literal)) (room : Space) (places : List ℕ) (x : Option ℕ) (old new : TreeGrowth) → ((s : Scenario) → Lies room s → tells_place cubes places x s) →
+    new.items.items ≡ old.items.items ++ flat (Leaf x) → new.left ≤ old.left → IsSorted cubes room places old new
+sorted_leaf cubes room places x old new told added fewer = record { told = (Leaf x, added, told); fewer = fewer }
 
--- if more nodes may be, so may as many as these
-pub sorted_fewer : (cubes : List (List Literal)) (room : Space) (places : List ℕ) (rest left : ℕ) (r : Sorted) → rest ≤ left → IsSorted cubes room places rest r → IsSorted cubes room places left r
-sorted_fewer cubes room places rest left r less h = record { told = h.told; fewer = omega (arith, h.fewer, less) }
+module _ (cubes : List (List Literal)) (room one two : Space) (places low high : List ℕ) (v cut start middle : ℕ) (old rest half full new : TreeGrowth)
+    (forks : ForksEnd start middle v cut full.items.items new.items.items) (kept : rest.items.items ≡ old.items.items) (less : rest.left ≤ old.left) (as_full : new.left ≡ full.left)
+    (first : start ≡ length old.items.items) (second : middle ≡ length half.items.items)
+    (keeps_below : KeepsWhere cubes (λ s. number_of s v ≤ cut) places low) (keeps_above : KeepsWhere cubes (λ s. Lies room s × (cut < number_of s v)) places high)
+    (of_one : IsSorted cubes one low rest half) (of_two : IsSorted cubes two high half full)
+    (goes_one : (s : Scenario) → Lies room s → number_of s v ≤ cut → Lies one s) (goes_two : (s : Scenario) → Lies room s → cut < number_of s v → Lies two s) where
+  pub sorted_parted : IsSorted cubes room places old new
+  sorted_parted =
+      let lo = of_one.told in
+      let hi = of_two.told in
+      let of_low = subst (λ xs. half.items.items ≡ xs ++ flat lo.0) kept lo.1 in
+      let fork = forks old.items.items lo.0 hi.0 (split_of start middle old.items.items half.items.items full.items.items lo.0 hi.0 of_low hi.1 first second) in
+      record {
+        told = (fork.0, fork.1, told_parted cubes room one two places low high v cut lo.0 hi.0 fork.0 fork.2.made keeps_below keeps_above lo.2 hi.2 goes_one goes_two);
+        fewer = omega (arith, of_one.fewer, of_two.fewer, less, as_full);
+      }
 
 -- the cube at a place is the one that is lent there
 module _ (lent : List (Bor (List Literal))) (i : ℕ) (b : Bor (List Literal)) (there : i < length lent) (is : b ≡ get_or lent i b) where

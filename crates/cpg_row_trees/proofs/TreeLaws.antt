@@ -11,7 +11,7 @@ use Rattle.cpg_cube.specs.declared.literal.Literal.{Literal}
 use Rattle.cpg_cube.specs.Column.{Column, column_at}
 use Rattle.cpg_table.specs.Table.{NodeTable, columns_of}
 use Rattle.cpg_tree.proofs.OnePath.{scenario_few}
-use Rattle.cpg_row_trees.specs.declared.places.Places.{Places}
+use Rattle.cpg_row_trees.specs.PlacesState.{PlacesState}
 use Rattle.cpg_tree.specs.Space.{HasFew}
 use Rattle.cpg_row_trees.specs.Places.{IsMatched, cube_at, place_at, tells_cube}
 use Rattle.cpg_row_trees.specs.Trees.{AreRowTrees, IsRowTree}
@@ -25,7 +25,7 @@ module _ (lent : List (Bor (List Literal))) (columns : List Column) (same : map 
   pub as_long : length lent ≡ length columns
   as_long = sym (length-map lent (λ (b : Bor (List Literal)). b.now)) ∙ ap length same ∙ length-map columns (λ (c : Column). c.cube)
 
-  pub row_tree_of : (g : Graph) (k : ℕ) (o : Option Places) → k ≡ g.faults
+  pub row_tree_of : (g : Graph) (k : ℕ) (o : Option PlacesState) → k ≡ g.faults
       → IfSome o (λ t. (s : Scenario) → HasFew k s → tells_cube (map (λ (b : Bor (List Literal)). b.now) lent) (place_at t s) s) → IfSome o (IsRowTree g columns)
   row_tree_of g k None e h = tt
   row_tree_of g k (Some t) e h = record { told = λ s law. subst (λ cubes. tells_cube cubes (place_at t s) s) same (h s (subst (λ k. HasFew k s) (sym e) (scenario_few g s law))) }
@@ -43,7 +43,7 @@ module _ (columns : List Column) (s : Scenario) (i : ℕ) where
   pub matches_at : IsMatched (cubes_in columns) s i → matches (column_at columns i).cube s ≡ true
   matches_at h = sym (ap (λ c. matches c s) (cube_here (there_at h))) ∙ h.matched
 
-module _ {g : Graph} {columns : List Column} {tree : Places} (is : IsRowTree g columns tree) (s : Scenario) (law : IsScenario g s) where
+module _ {g : Graph} {columns : List Column} {tree : PlacesState} (is : IsRowTree g columns tree) (s : Scenario) (law : IsScenario g s) where
   told_as : (o : Option ℕ) → place_at tree s ≡ o → tells_cube (cubes_in columns) o s
   told_as o e = subst (λ p. tells_cube (cubes_in columns) p s) e (is.told s law)
 
@@ -76,7 +76,7 @@ module _ {g : Graph} {columns : List Column} {tree : Places} (is : IsRowTree g c
       let at_d : column_at columns l.0 ≡ d = get_or_default columns l.0 (record { time = 0; cube = [] }) d l.1 ∙ l.2 in
       sym at_c ∙ ap (column_at columns) (one_place k.0 l.0 k.1 l.1 (ap (λ (x : Column). matches x.cube s) at_c ∙ m) (ap (λ (x : Column). matches x.cube s) at_d ∙ n)) ∙ at_d
 
-module _ {g : Graph} {columns : List Column} {tree : Places} (is : IsRowTree g columns tree) (s : Scenario) (law : IsScenario g s) (i : ℕ) (there : i < length columns)
+module _ {g : Graph} {columns : List Column} {tree : PlacesState} (is : IsRowTree g columns tree) (s : Scenario) (law : IsScenario g s) (i : ℕ) (there : i < length columns)
     (m : matches (column_at columns i).cube s ≡ true) where
   -- no earlier column matches if one does
   pub none_earlier : list_any (λ (d : Column). matches d.cube s) (take i columns) ≡ false
@@ -93,7 +93,7 @@ module _ {g : Graph} {columns : List Column} {tree : Places} (is : IsRowTree g c
           omega (arith, less, one_place is s law k.0 i (omega (arith, less, there)) there (ap (λ (x : Column). matches x.cube s) at ∙ n) m)
 
 -- the tree of an item's row, if it has one
-pub tree_of_row : (g : Graph) (tables : List NodeTable) (trees : List (Option Places)) (x : ℕ) → AreRowTrees g tables trees → x < item_count g → (o : Option Places) → o ≡ get_or trees x o →
+pub tree_of_row : (g : Graph) (tables : List NodeTable) (trees : List (Option PlacesState)) (x : ℕ) → AreRowTrees g tables trees → x < item_count g → (o : Option PlacesState) → o ≡ get_or trees x o →
     IfSome o (IsRowTree g (columns_of tables x))
-tree_of_row g tables trees x are l o is = subst (λ (p : Option Places). IfSome p (IsRowTree g (columns_of tables x))) (get_or_default trees x None o (omega (arith, l, are.count)) ∙ sym is)
+tree_of_row g tables trees x are l o is = subst (λ (p : Option PlacesState). IfSome p (IsRowTree g (columns_of tables x))) (get_or_default trees x None o (omega (arith, l, are.count)) ∙ sym is)
     (are.each x l)

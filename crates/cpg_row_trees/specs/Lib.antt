@@ -1,3 +1,4 @@
+pub mod PlacesState
 pub mod Places
 pub mod Spots
 pub mod Slices

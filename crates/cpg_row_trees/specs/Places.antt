@@ -1,17 +1,23 @@
 -- Cubes of which no scenario matches two, by their places.
-use Rattle.std.specs.Prelude.{ℕ, ◌≡◌, ◌<◌, true, List, [], Option, None, Some, Contains, length, get_or}
+use Rattle.std.specs.Prelude.{ℕ, ◌≡◌, ◌<◌, true, List, [], ◌∷◌, Option, None, Some, Contains, length, get_or}
 use Rattle.cpg_base.specs.Scenario.{Scenario}
 use Rattle.cpg_cube.specs.Cube.{matches}
 use Rattle.cpg_cube.specs.declared.literal.Literal.{Literal}
-use Rattle.cpg_tree.specs.declared.node.TreeNode.{TreeNode}
-use Rattle.cpg_row_trees.specs.declared.places.Places.{Places}
+use Rattle.cpg_tree.specs.TreeNode.{TreeNode}
+use Rattle.cpg_row_trees.specs.PlacesState.{PlacesState}
 use Rattle.cpg_tree.specs.declared.space.Space.{Space}
 use Rattle.cpg_tree.specs.Space.{Lies}
 use Rattle.cpg_tree.specs.Decision.{value_at}
+use Rattle.cpg_tree.specs.ReadBack.{read_back}
+
+-- the place that a scenario comes to in the tree that stands on top
+abbrev pub place_on : List (TreeNode (Option ℕ)) → Scenario → Option ℕ
+place_on [] s = None
+place_on (n ∷ stack) s = value_at n s
 
 -- the place that a scenario comes to, if it comes to one
-abbrev pub place_at : Places → Scenario → Option ℕ
-place_at places s = value_at places.root s
+abbrev pub place_at : PlacesState → Scenario → Option ℕ
+place_at places s = place_on (read_back places.items []) s
 
 -- the cube at a place
 abbrev pub cube_at : List (List Literal) → ℕ → List Literal

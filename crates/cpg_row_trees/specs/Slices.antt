@@ -8,10 +8,11 @@ use Rattle.cpg_cube.specs.declared.literal.Literal.{Literal}
 use Rattle.cpg_row_trees.specs.declared.slices.Lead.{Lead}
 use Rattle.cpg_row_trees.specs.declared.slices.ForkSides.{ForkSides}
 use Rattle.cpg_row_trees.specs.declared.slices.Lead.TheVariants.{Leaf, Fork, Unknown}
-use Rattle.cpg_row_trees.specs.declared.places.Sorted.{Sorted}
+use Rattle.cpg_row_trees.specs.declared.places.TreeGrowth.{TreeGrowth}
 use Rattle.cpg_tree.specs.declared.space.Space.{Space}
 use Rattle.cpg_tree.specs.Space.{Lies, HasFew}
 use Rattle.cpg_tree.specs.Decision.{value_at}
+use Rattle.cpg_tree.specs.Added.{Adds}
 use Rattle.cpg_row_trees.specs.Places.{IsMatched}
 use Rattle.cpg_row_trees.specs.Spots.{AreOpen}
 
@@ -61,10 +62,10 @@ IsLead cubes k room from to (Leaf x) = Leads cubes k room from to (λ s. x)
 IsLead cubes k room from to (Fork p) = AreOpen room p.cut.variable p.cut.most
 IsLead cubes k room from to Unknown = Unit {0}
 
--- a tree that leads to the places of a slice, with no more nodes left than there were
-pub record IsLed (cubes : List (List Literal)) (k : ℕ) (room : Space) (from to left : ℕ) (r : Sorted) : Type 0 where
-  pub leads : Leads cubes k room from to (value_at r.node)
-  pub fewer : r.left ≤ left
+-- a tree that leads to the places of a slice is added, with no more items left than there were
+pub record IsLed (cubes : List (List Literal)) (k : ℕ) (room : Space) (from to : ℕ) (old new : TreeGrowth) : Type 0 where
+  pub leads : Adds (λ n. Leads cubes k room from to (value_at n)) old.items.items new.items.items
+  pub fewer : new.left ≤ old.left
 
 -- what a fork says of its sides
 pub record AreSides (k v cut : ℕ) (sides : ForkSides) : Type 0 where

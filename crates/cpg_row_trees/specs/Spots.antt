@@ -7,9 +7,10 @@ use Rattle.cpg_row_trees.specs.declared.places.Said.{Said}
 use Rattle.cpg_row_trees.specs.declared.places.Spot.{Spot}
 use Rattle.cpg_row_trees.specs.declared.places.PlacesTop.{PlacesTop}
 use Rattle.cpg_row_trees.specs.declared.places.PlacesTop.TheVariants.{Leaf, Fork, Unknown}
-use Rattle.cpg_row_trees.specs.declared.places.Sorted.{Sorted}
+use Rattle.cpg_row_trees.specs.declared.places.TreeGrowth.{TreeGrowth}
 use Rattle.cpg_tree.specs.declared.space.Space.{Space}
 use Rattle.cpg_tree.specs.Space.{Lies, is_open_below, is_open_above}
+use Rattle.cpg_tree.specs.Added.{Adds}
 use Rattle.cpg_row_trees.specs.Places.{IsMatched, IsToldAll}
 
 -- the places
@@ -55,7 +56,7 @@ IsTop cubes room places (Leaf x) = (s : Scenario) → Lies room s → tells_plac
 IsTop cubes room places (Fork c) = AreOpen room c.variable c.most
 IsTop cubes room places Unknown = Unit {0}
 
--- a tree that tells of the places, with no more nodes left than there were
-pub record IsSorted (cubes : List (List Literal)) (room : Space) (places : List ℕ) (left : ℕ) (r : Sorted) : Type 0 where
-  pub told : IsToldAll (tells_place cubes places) room r.node
-  pub fewer : r.left ≤ left
+-- a tree that tells of the places is added, with no more items left than there were
+pub record IsSorted (cubes : List (List Literal)) (room : Space) (places : List ℕ) (old new : TreeGrowth) : Type 0 where
+  pub told : Adds (IsToldAll (tells_place cubes places) room) old.items.items new.items.items
+  pub fewer : new.left ≤ old.left

@@ -1,14 +1,16 @@
 //! The places that scenarios of a space come to.
-ghost use Rattle.std.specs.Prelude.{◌≡◌, ℕ, Contains, IfOk};
+ghost use Rattle.std.specs.Prelude.{◌≡◌, ℕ, Option, Contains, IfOk};
 ghost use Rattle.std.specs.Bool.{OnTrue};
 ghost use Rattle.cpg_base.specs.Scenario.{Scenario};
 ghost use Rattle.cpg_tree.specs.Space.{Lies};
 ghost use Rattle.cpg_tree.specs.Decision.{value_at};
+ghost use Rattle.cpg_tree.specs.Flat.{IsFlat, flat};
+ghost use Rattle.cpg_tree.specs.TreeNode.{TreeNode};
 ghost use Rattle.cpg_row_trees.specs.Places.{IsAmong};
 
 use crate::walk::Test;
 use cpg_base::OutOfMemory;
-use cpg_tree::{Space, TreeNode};
+use cpg_tree::{Space, Top, TreeItem, part_in, top_of};
 
 /// Adds a place, if there is one; whether there is.
 fn add_place(place: Option<u32>, found: &mut Vec<u32>) -> Result<bool, OutOfMemory>
@@ -25,50 +27,51 @@ fn add_place(place: Option<u32>, found: &mut Vec<u32>) -> Result<bool, OutOfMemo
 /// Adds the places that scenarios of a space come to, as long as there is one and a test passes at each; false if it
 /// stopped before the last. The space is changed on the way, and is as before if it didn't stop.
 fn gather_each<J: Test>(
-    node: &TreeNode<Option<u32>>,
+    items: &[TreeItem<Option<u32>>],
     space: &mut Space,
     test: &J,
     found: &mut Vec<u32>,
 ) -> Result<bool, OutOfMemory>
+    requires { IsFlat items.now }
     ensures kept { IfOk result (λ _. (i : ℕ) → Contains found.old.items i → Contains found.new.items i) }
-    ensures found { IfOk result (λ all. OnTrue all ((s : Scenario) → Lies space.old s → J.tells test.now (value_at node.now s) s ×
-        IsAmong found.new.items (value_at node.now s))) }
+    ensures found { IfOk result (λ all. OnTrue all ((n : TreeNode (Option ℕ)) → items.now ≡ flat n → (s : Scenario) → Lies space.old s →
+        J.tells test.now (value_at n s) s × IsAmong found.new.items (value_at n s))) }
     ensures same { IfOk result (λ all. OnTrue all (space.new ≡ space.old)) }
 {
-    match node {
-        TreeNode::Leaf(place) => {
-            if !test.passes(*place, space) {
+    match top_of(items) {
+        Top::Value(place) => {
+            if !test.passes(place, space) {
                 return Ok(false);
             }
-            let there = add_place(*place, found)?;
+            let there = add_place(place, found)?;
             Ok(there)
         }
-        TreeNode::Fork {
+        Top::Cut {
             variable,
             cut,
-            sides,
+            below,
+            above,
         } => {
-            let (below, above) = &**sides;
-            if !space.is_open_below(*variable, *cut) {
+            if !space.is_open_below(variable, cut) {
                 let all = gather_each(above, space, test, found)?;
                 return Ok(all);
             }
-            if !space.is_open_above(*variable, *cut) {
+            if !space.is_open_above(variable, cut) {
                 let all = gather_each(below, space, test, found)?;
                 return Ok(all);
             }
-            let most = space.close_above(*variable, *cut);
+            let most = space.close_above(variable, cut);
             let low = gather_each(below, space, test, found)?;
             if !low {
                 return Ok(false);
             }
-            space.reopen_above(*variable, most);
-            let was = space.close_below(*variable, *cut);
+            space.reopen_above(variable, most);
+            let was = space.close_below(variable, cut);
             let high = gather_each(above, space, test, found)?;
             if !high {
                 return Ok(false);
             }
-            space.reopen_below(*variable, was);
+            space.reopen_below(variable, was);
             Ok(true)
         }
     }
@@ -77,17 +80,18 @@ fn gather_each<J: Test>(
 /// As `gather_each`, with a space of its own to change. It is a function of its own, since that space is cleared at
 /// each call.
 fn gather_in_all<J: Test>(
-    node: &TreeNode<Option<u32>>,
+    items: &[TreeItem<Option<u32>>],
     space: &Space,
     test: &J,
     found: &mut Vec<u32>,
 ) -> Result<bool, OutOfMemory>
+    requires { IsFlat items.now }
     ensures kept { IfOk result (λ _. (i : ℕ) → Contains found.old.items i → Contains found.new.items i) }
-    ensures found { IfOk result (λ all. OnTrue all ((s : Scenario) → Lies space.now s → J.tells test.now (value_at node.now s) s ×
-        IsAmong found.new.items (value_at node.now s))) }
+    ensures found { IfOk result (λ all. OnTrue all ((n : TreeNode (Option ℕ)) → items.now ≡ flat n → (s : Scenario) → Lies space.now s →
+        J.tells test.now (value_at n s) s × IsAmong found.new.items (value_at n s))) }
 {
     let mut own = *space;
-    let all = gather_each(node, &mut own, test, found)?;
+    let all = gather_each(items, &mut own, test, found)?;
     Ok(all)
 }
 
@@ -111,23 +115,24 @@ fn gather_one<J: Test>(
 /// Adds the places that scenarios of a space come to, as long as there is one and a test passes at each; false if it
 /// stopped before the last.
 pub(crate) fn gather<J: Test>(
-    node: &TreeNode<Option<u32>>,
+    items: &[TreeItem<Option<u32>>],
     space: &Space,
     test: &J,
     found: &mut Vec<u32>,
 ) -> Result<bool, OutOfMemory>
+    requires { IsFlat items.now }
     ensures kept { IfOk result (λ _. (i : ℕ) → Contains found.old.items i → Contains found.new.items i) }
-    ensures found { IfOk result (λ all. OnTrue all ((s : Scenario) → Lies space.now s → J.tells test.now (value_at node.now s) s ×
-        IsAmong found.new.items (value_at node.now s))) }
+    ensures found { IfOk result (λ all. OnTrue all ((n : TreeNode (Option ℕ)) → items.now ≡ flat n → (s : Scenario) → Lies space.now s →
+        J.tells test.now (value_at n s) s × IsAmong found.new.items (value_at n s))) }
 {
     // mostly it comes to one place, and then the space isn't copied
-    let part = node.part_in(space);
-    match part {
-        TreeNode::Leaf(place) => {
-            let there = gather_one(*place, space, test, found)?;
+    let part = part_in(items, space);
+    match top_of(part) {
+        Top::Value(place) => {
+            let there = gather_one(place, space, test, found)?;
             Ok(there)
         }
-        TreeNode::Fork { .. } => {
+        Top::Cut { .. } => {
             let all = gather_in_all(part, space, test, found)?;
             Ok(all)
         }

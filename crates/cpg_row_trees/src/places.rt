@@ -1,11 +1,12 @@
 //! The tree of the places of cubes of which no scenario matches two.
-ghost use Rattle.std.specs.Prelude.{◌≡◌, ◌≤◌, ◌<◌, ℕ, Contains, IfOk, IfSome, OnOk, false, length, map, true};
+ghost use Rattle.std.specs.Prelude.{◌≡◌, ◌++◌, ◌≤◌, ◌<◌, ℕ, [], Contains, IfOk, IfSome, OnOk, false, length, map, true};
 ghost use Rattle.std.specs.Bool.{OnFalse, OnTrue};
 ghost use Rattle.cpg_base.specs.Scenario.{Scenario, number_of};
 ghost use Rattle.cpg_base.specs.declared.limits.TheConstants.{MOST_LOAD};
 ghost use Rattle.cpg_cube.specs.Cube.{IsRising, matches};
 ghost use Rattle.cpg_tree.specs.Space.{Lies, HasFew};
-ghost use Rattle.cpg_tree.specs.Decision.{value_at};
+ghost use Rattle.cpg_tree.specs.Flat.{IsFlat, flat};
+ghost use Rattle.cpg_tree.specs.TreeNode.{Leaf};
 ghost use Rattle.cpg_row_trees.specs.Places.{IsAmong, IsMatched, place_at, tells_cube};
 ghost use Rattle.cpg_row_trees.specs.Spots.{IsSaid, IsSaidBy, IsTop, IsKept, IsSorted, KeepsWhere, AreOpen, places_of};
 
@@ -14,14 +15,15 @@ use crate::slices::led_out;
 use crate::walk::{PairTest, Test, do_pass, do_pass_with};
 use cpg_base::{FIRST_VALUE, OutOfMemory};
 use cpg_cube::{Cube, Literal};
-use cpg_tree::{Space, Tally, TreeNode};
+use cpg_tree::{Space, Tally, TreeItem, fork_of};
 use std::alloc::Global;
+use std::marker::Model;
 
-/// A tree has at most this many nodes for each cube, and `FEW` besides.
+/// A tree has at most this many items for each cube, and `FEW` besides.
 const EACH: u32 = 6;
-/// How many nodes a tree of few cubes may have.
+/// How many items a tree of few cubes may have.
 const FEW: u32 = 64;
-/// The number for each cube if a cube that goes to both sides of a fork counts as a node, too.
+/// The number for each cube if a cube that goes to both sides of a fork counts as an item, too.
 const EACH_SHARED: u32 = 8;
 /// The number that is added to `EACH_SHARED` for each cube.
 const FEW_SHARED: u32 = 104;
@@ -82,11 +84,43 @@ struct PlaceSides {
     high: Vec<Spot>,
 }
 
-/// A tree, and how many more nodes there may be.
+/// A list to which the items of trees are added, and how many more there may be.
 #[derive(Drop)]
-pub(crate) struct Sorted {
-    pub(crate) node: TreeNode<Option<u32>>,
+pub(crate) struct TreeGrowth {
+    pub(crate) items: Vec<TreeItem<Option<u32>>>,
     pub(crate) left: u32,
+}
+
+impl TreeGrowth {
+    /// A list without items, with room for the tree of so many places, each at one leaf.
+    pub(crate) fn new(alloc: Global, places: usize, left: u32) -> Result<TreeGrowth, OutOfMemory>
+        ensures items { IfOk result (λ r. r.items.items ≡ []) }
+        ensures left { IfOk result (λ r. r.left ≡ left) }
+    {
+        let items = Vec::with_capacity(alloc, places.saturating_mul(2))?;
+        Ok(TreeGrowth { items, left })
+    }
+
+    /// Whether there may be one more item, which is counted.
+    pub(crate) fn may_grow(&mut self) -> bool
+        ensures items { self.new.items.items ≡ self.old.items.items }
+        ensures left { OnTrue result (self.new.left < self.old.left) }
+    {
+        if self.left == 0 {
+            return false;
+        }
+        self.left -= 1;
+        true
+    }
+
+    /// Adds a leaf.
+    pub(crate) fn add_leaf(&mut self, place: Option<u32>) -> Result<(), OutOfMemory>
+        ensures items { IfOk result (λ _. self.new.items.items ≡ self.old.items.items ++ flat (Leaf place)) }
+        ensures left { self.new.left ≡ self.old.left }
+    {
+        self.items.push(TreeItem::Value(place))?;
+        Ok(())
+    }
 }
 
 /// The literal on a variable, if there is one from a place on.
@@ -499,7 +533,7 @@ fn top_of(space: &Space, cubes: &[&Cube], spots: &[Spot], tally: &mut Tally) -> 
     PlacesTop::Leaf(Some(first.place))
 }
 
-/// How many more nodes there may be if a fork parts so many places: each that goes to both sides counts as one.
+/// How many more items there may be if a fork parts so many places: each that goes to both sides counts as one.
 fn left_after(left: u32, count: usize, sides: &PlaceSides) -> u32
     ensures { result ≤ left }
 {
@@ -508,7 +542,7 @@ fn left_after(left: u32, count: usize, sides: &PlaceSides) -> u32
     left.saturating_sub(shared as u32)
 }
 
-/// The tree of places that a fork parts. The space is as before if there is a tree.
+/// Adds the tree of places that a fork parts. The space is as before if there is a tree.
 #[cycle(sorted)]
 fn forked(
     alloc: Global,
@@ -516,59 +550,60 @@ fn forked(
     cubes: &[&Cube],
     spots: Vec<Spot>,
     cut: PlaceCut,
-    left: u32,
+    growth: &mut TreeGrowth,
     tally: &mut Tally,
-) -> Result<Option<Sorted>, OutOfMemory>
+) -> Result<bool, OutOfMemory>
     requires { AreOpen space.old cut.variable cut.most }
-    ensures sorted { IfOk result (λ r. IfSome r (IsSorted (map (λ b. b.now) cubes.now) space.old (places_of spots.items) left)) }
-    ensures same { IfOk result (λ r. IfSome r (λ _. space.new ≡ space.old)) }
+    ensures sorted { IfOk result (λ is. OnTrue is (IsSorted (map (λ b. b.now) cubes.now) space.old (places_of spots.items) growth.old growth.new)) }
+    ensures same { IfOk result (λ is. OnTrue is (space.new ≡ space.old)) }
 {
     let count = spots.len();
     let span = span_of(space, cut);
     let sides = parted(alloc, space, cubes, spots.as_slice(), span)?;
     drop(spots);
-    let rest = left_after(left, count, &sides);
+    growth.left = left_after(growth.left, count, &sides);
+    let start = growth.items.len();
     let most = space.close_above(cut.variable, cut.most);
-    let Some(below) = sorted_out(alloc, space, cubes, sides.low, rest, tally)? else {
-        return Ok(None);
-    };
+    let has_below = sorted_out(alloc, space, cubes, sides.low, growth, tally)?;
+    if !has_below {
+        return Ok(false);
+    }
     space.reopen_above(cut.variable, most);
+    let middle = growth.items.len();
     let was = space.close_below(cut.variable, cut.most);
-    let Some(above) = sorted_out(alloc, space, cubes, sides.high, below.left, tally)? else {
-        return Ok(None);
-    };
+    let has_above = sorted_out(alloc, space, cubes, sides.high, growth, tally)?;
+    if !has_above {
+        return Ok(false);
+    }
     space.reopen_below(cut.variable, was);
-    let node = TreeNode::fork_of(alloc, cut.variable, cut.most, below.node, above.node)?;
-    Ok(Some(Sorted {
-        node,
-        left: above.left,
-    }))
+    fork_of(&mut growth.items, start, middle, cut.variable, cut.most)?;
+    Ok(true)
 }
 
-/// The tree of these places for the scenarios of a space, with at most so many nodes; `None` if two cubes may match
-/// together, or if there would be more nodes. The space is as before if there is a tree.
+/// Adds the tree of these places for the scenarios of a space, unless there would be too many items; false if there is none:
+/// then two cubes may match together, or there would be more items. The space is as before if there is a tree.
 #[cycle(sorted)]
 fn sorted_out(
     alloc: Global,
     space: &mut Space,
     cubes: &[&Cube],
     spots: Vec<Spot>,
-    left: u32,
+    growth: &mut TreeGrowth,
     tally: &mut Tally,
-) -> Result<Option<Sorted>, OutOfMemory>
-    ensures sorted { IfOk result (λ r. IfSome r (IsSorted (map (λ b. b.now) cubes.now) space.old (places_of spots.items) left)) }
-    ensures same { IfOk result (λ r. IfSome r (λ _. space.new ≡ space.old)) }
+) -> Result<bool, OutOfMemory>
+    ensures sorted { IfOk result (λ is. OnTrue is (IsSorted (map (λ b. b.now) cubes.now) space.old (places_of spots.items) growth.old growth.new)) }
+    ensures same { IfOk result (λ is. OnTrue is (space.new ≡ space.old)) }
 {
-    if left == 0 {
-        return Ok(None);
+    if !growth.may_grow() {
+        return Ok(false);
     }
     match top_of(space, cubes, spots.as_slice(), tally) {
-        PlacesTop::Unknown => Ok(None),
-        PlacesTop::Leaf(place) => Ok(Some(Sorted {
-            node: TreeNode::Leaf(place),
-            left: left - 1,
-        })),
-        PlacesTop::Fork(cut) => forked(alloc, space, cubes, spots, cut, left - 1, tally),
+        PlacesTop::Unknown => Ok(false),
+        PlacesTop::Leaf(place) => {
+            growth.add_leaf(place)?;
+            Ok(true)
+        }
+        PlacesTop::Fork(cut) => forked(alloc, space, cubes, spots, cut, growth, tally),
     }
 }
 
@@ -624,24 +659,26 @@ fn spots_of(alloc: Global, k: u8, space: &Space, cubes: &[&Cube]) -> Result<Vec<
     Ok(spots)
 }
 
-/// The tree of places of cubes in any order, in the scenarios of at most `k` faults and with at most so many nodes, by forks
+/// The tree of places of cubes in any order, in the scenarios of at most `k` faults and with at most so many items, by forks
 /// that a tally chooses.
 fn all_sorted_by(
     alloc: Global,
     k: u8,
     cubes: &[&Cube],
-    nodes: u32,
+    items: u32,
     tally: &mut Tally,
-) -> Result<Option<TreeNode<Option<u32>>>, OutOfMemory>
+) -> Result<Option<Places>, OutOfMemory>
     requires { length cubes.now ≤ MOST_LOAD }
-    ensures { IfOk result (λ r. IfSome r (λ n. (s : Scenario) → HasFew k s → tells_cube (map (λ b. b.now) cubes.now) (value_at n s) s)) }
+    ensures { IfOk result (λ r. IfSome r (λ t. (s : Scenario) → HasFew k s → tells_cube (map (λ b. b.now) cubes.now) (place_at t s) s)) }
 {
     let mut space = Space::whole(k);
     let spots = spots_of(alloc, k, &space, cubes)?;
-    match sorted_out(alloc, &mut space, cubes, spots, nodes, tally)? {
-        Some(sorted) => Ok(Some(sorted.node)),
-        None => Ok(None),
+    let mut growth = TreeGrowth::new(alloc, cubes.len(), items)?;
+    let has_tree = sorted_out(alloc, &mut space, cubes, spots, &mut growth, tally)?;
+    if !has_tree {
+        return Ok(None);
     }
+    Ok(Some(Places::grown(growth)))
 }
 
 /// As `all_sorted_by`, by forks at the first literal that is open, or, if that leads to no tree, by those that part
@@ -650,57 +687,76 @@ fn all_sorted_out(
     alloc: Global,
     k: u8,
     cubes: &[&Cube],
-    nodes: u32,
-) -> Result<Option<TreeNode<Option<u32>>>, OutOfMemory>
+    items: u32,
+) -> Result<Option<Places>, OutOfMemory>
     requires { length cubes.now ≤ MOST_LOAD }
-    ensures { IfOk result (λ r. IfSome r (λ n. (s : Scenario) → HasFew k s → tells_cube (map (λ b. b.now) cubes.now) (value_at n s) s)) }
+    ensures { IfOk result (λ r. IfSome r (λ t. (s : Scenario) → HasFew k s → tells_cube (map (λ b. b.now) cubes.now) (place_at t s) s)) }
 {
     let mut tally = Tally::new(alloc);
-    if let Some(root) = all_sorted_by(alloc, k, cubes, nodes, &mut tally)? {
-        return Ok(Some(root));
+    if let Some(places) = all_sorted_by(alloc, k, cubes, items, &mut tally)? {
+        return Ok(Some(places));
     }
     tally.keep(alloc)?;
-    let root = all_sorted_by(alloc, k, cubes, nodes, &mut tally)?;
-    Ok(root)
+    let places = all_sorted_by(alloc, k, cubes, items, &mut tally)?;
+    Ok(places)
 }
 
-/// For each scenario the place of the one cube that it matches, if it matches one.
+/// For each scenario the place of the one cube that it matches, if it matches one: a tree, seen as its items.
 #[derive(Drop)]
 pub struct Places {
-    root: TreeNode<Option<u32>>,
+    items: Vec<TreeItem<Option<u32>>>,
+}
+
+impl Model for Places {
+    ghost use Rattle.cpg_row_trees.specs.PlacesState.{PlacesState};
+    ghost use Rattle.cpg_tree.specs.Flat.{IsFlat};
+
+    ghost Value = { PlacesState };
+
+    ghost view = { λ p. record { items = p.items.items } };
+
+    ghost invariant = { λ p. IsFlat p.items.items };
 }
 
 impl Places {
+    /// The tree that a list has grown to.
+    pub(crate) fn grown(growth: TreeGrowth) -> Places
+        requires { IsFlat growth.items.items }
+        ensures { result ≡ record { items = growth.items.items } }
+    {
+        Places {
+            items: growth.items,
+        }
+    }
+
     /// The places of cubes in the scenarios of at most `k` faults. `None` says nothing: two cubes may match together, or the
     /// tree would be too large.
     pub fn of(alloc: Global, k: u8, cubes: &[&Cube]) -> Result<Option<Places>, OutOfMemory>
         requires { length cubes.now ≤ MOST_LOAD }
         ensures { IfOk result (λ r. IfSome r (λ t. (s : Scenario) → HasFew k s → tells_cube (map (λ b. b.now) cubes.now) (place_at t s) s)) }
     {
-        let nodes = cubes.len() as u32 * EACH + FEW;
+        let items = cubes.len() as u32 * EACH + FEW;
         // rows mostly stand as a tree lists them, and then this is faster
-        if let Some(root) = led_out(alloc, k, cubes, nodes)? {
-            return Ok(Some(Places { root }));
+        if let Some(places) = led_out(alloc, k, cubes, items)? {
+            return Ok(Some(places));
         }
-        let nodes = cubes.len() as u32 * EACH_SHARED + FEW_SHARED;
-        let Some(root) = all_sorted_out(alloc, k, cubes, nodes)? else {
-            return Ok(None);
-        };
-        Ok(Some(Places { root }))
+        let items = cubes.len() as u32 * EACH_SHARED + FEW_SHARED;
+        let places = all_sorted_out(alloc, k, cubes, items)?;
+        Ok(places)
     }
 
     /// Whether a test passes at each place that scenarios of a space come to.
     pub fn do_pass<J: Test>(&self, space: &Space, test: &J) -> bool
         ensures { OnTrue result ((s : Scenario) → Lies space.now s → J.tells test.now (place_at self.now s) s) }
     {
-        do_pass(&self.root, space, test)
+        do_pass(self.items.as_slice(), space, test)
     }
 
     /// Whether a test passes at each two places that scenarios of a space come to here and in another tree.
     pub fn do_pass_with<J: PairTest>(&self, other: &Places, space: &Space, test: &J) -> bool
         ensures { OnTrue result ((s : Scenario) → Lies space.now s → J.tells test.now (place_at self.now s) (place_at other.now s) s) }
     {
-        do_pass_with(&self.root, &other.root, space, test)
+        do_pass_with(self.items.as_slice(), other.items.as_slice(), space, test)
     }
 
     /// Adds the places that scenarios of a space come to, as long as there is one and a test passes at each; false if it
@@ -714,7 +770,7 @@ impl Places {
         ensures { IfOk result (λ all. OnTrue all ((s : Scenario) → Lies space.now s → J.tells test.now (place_at self.now s) s ×
             IsAmong found.new.items (place_at self.now s))) }
     {
-        let all = gather(&self.root, space, test, found)?;
+        let all = gather(self.items.as_slice(), space, test, found)?;
         Ok(all)
     }
 }

@@ -6,15 +6,16 @@ ghost use Rattle.cpg_base.specs.Scenario.{Scenario};
 ghost use Rattle.cpg_base.specs.declared.limits.TheConstants.{MOST_LOAD};
 ghost use Rattle.cpg_cube.specs.Cube.{IsRising, holds};
 ghost use Rattle.cpg_tree.specs.Space.{Lies, HasFew, is_open_above};
-ghost use Rattle.cpg_tree.specs.Decision.{value_at};
-ghost use Rattle.cpg_row_trees.specs.Places.{tells_cube};
+ghost use Rattle.cpg_row_trees.specs.Places.{place_at, tells_cube};
 ghost use Rattle.cpg_row_trees.specs.Spots.{AreOpen};
 ghost use Rattle.cpg_row_trees.specs.Slices.{IsReached, IsLead, IsLed, IsInside, IsLastOn, IsEntered, IsOwn, AreBounds, AreSides, is_narrow, left_by, met_by, narrowed};
 
-use crate::places::{PlaceCut, Sorted, cut_of, literal_from, literal_up_to, open_value};
+use crate::places::{
+    PlaceCut, Places, TreeGrowth, cut_of, literal_from, literal_up_to, open_value,
+};
 use cpg_base::{OutOfMemory, top};
 use cpg_cube::{Cube, Literal};
-use cpg_tree::{Space, TreeNode};
+use cpg_tree::{Space, fork_of};
 use std::alloc::Global;
 
 /// How the variable is found at which a slice parts: a guess, that no clause speaks of.
@@ -444,7 +445,7 @@ fn border_of(cubes: &[&Cube], slice: Slice, part: SlicePart) -> u32 {
     first
 }
 
-/// The tree of a slice that a fork parts. The space and the path are as before if there is a tree.
+/// Adds the tree of a slice that a fork parts. The space and the path are as before if there is a tree.
 #[cycle(led)]
 fn led_apart(
     k: u8,
@@ -453,19 +454,19 @@ fn led_apart(
     cubes: &[&Cube],
     slice: Slice,
     part: SlicePart,
-    left: u32,
-) -> Result<Option<Sorted>, OutOfMemory>
+    growth: &mut TreeGrowth,
+) -> Result<bool, OutOfMemory>
     requires open { AreOpen space.old part.cut.variable part.cut.most }
     requires reached { IsReached k space.old slice.narrow }
     requires own { IsOwn k space.old path.old.items }
-    ensures led { IfOk result (λ r. IfSome r (IsLed (map (λ b. b.now) cubes.now) k space.old slice.from slice.to left)) }
-    ensures same { IfOk result (λ r. IfSome r (λ _. space.new ≡ space.old)) }
-    ensures path { IfOk result (λ r. IfSome r (λ _. path.new.items ≡ path.old.items)) }
+    ensures led { IfOk result (λ is. OnTrue is (IsLed (map (λ b. b.now) cubes.now) k space.old slice.from slice.to growth.old growth.new)) }
+    ensures same { IfOk result (λ is. OnTrue is (space.new ≡ space.old)) }
+    ensures path { IfOk result (λ is. OnTrue is (path.new.items ≡ path.old.items)) }
 {
     let cut = part.cut;
     let sides = sides_of(k, space, cut);
     let Some(narrow) = narrow_with(k, space, cut.variable, slice.narrow) else {
-        return Ok(None);
+        return Ok(false);
     };
     let border = border_of(cubes, slice, part);
     let low = Slice {
@@ -482,31 +483,31 @@ fn led_apart(
         held: part.held,
         way: slice.way,
     };
+    let start = growth.items.len();
     let most = space.close_above(cut.variable, cut.most);
     let under = enter(path, sides.below)?;
-    let Some(below) = led(k, space, path, cubes, low, left)? else {
-        return Ok(None);
-    };
+    let has_below = led(k, space, path, cubes, low, growth)?;
+    if !has_below {
+        return Ok(false);
+    }
     leave(path, under);
     space.reopen_above(cut.variable, most);
+    let middle = growth.items.len();
     let was = space.close_below(cut.variable, cut.most);
     let over = enter(path, sides.above)?;
-    let Some(above) = led(k, space, path, cubes, high, below.left)? else {
-        return Ok(None);
-    };
+    let has_above = led(k, space, path, cubes, high, growth)?;
+    if !has_above {
+        return Ok(false);
+    }
     leave(path, over);
     space.reopen_below(cut.variable, was);
-    let alloc = *path.allocator();
-    let node = TreeNode::fork_of(alloc, cut.variable, cut.most, below.node, above.node)?;
-    Ok(Some(Sorted {
-        node,
-        left: above.left,
-    }))
+    fork_of(&mut growth.items, start, middle, cut.variable, cut.most)?;
+    Ok(true)
 }
 
-/// The tree of a slice for the scenarios of a space, which are those that the literals of a path match, with at most so many
-/// nodes; `None` if the cubes don't stand as a tree lists them, or if there would be more nodes. The space and the path
-/// are as before if there is a tree.
+/// Adds the tree of a slice for the scenarios of a space, which are those that the literals of a path match, unless there would be
+/// too many items; false if there is none: then the cubes don't stand as a tree lists them, or there would be more items. The
+/// space and the path are as before if there is a tree.
 #[cycle(led)]
 fn led(
     k: u8,
@@ -514,38 +515,38 @@ fn led(
     path: &mut Vec<Literal>,
     cubes: &[&Cube],
     slice: Slice,
-    left: u32,
-) -> Result<Option<Sorted>, OutOfMemory>
+    growth: &mut TreeGrowth,
+) -> Result<bool, OutOfMemory>
     requires reached { IsReached k space.old slice.narrow }
     requires own { IsOwn k space.old path.old.items }
-    ensures led { IfOk result (λ r. IfSome r (IsLed (map (λ b. b.now) cubes.now) k space.old slice.from slice.to left)) }
-    ensures same { IfOk result (λ r. IfSome r (λ _. space.new ≡ space.old)) }
-    ensures path { IfOk result (λ r. IfSome r (λ _. path.new.items ≡ path.old.items)) }
+    ensures led { IfOk result (λ is. OnTrue is (IsLed (map (λ b. b.now) cubes.now) k space.old slice.from slice.to growth.old growth.new)) }
+    ensures same { IfOk result (λ is. OnTrue is (space.new ≡ space.old)) }
+    ensures path { IfOk result (λ is. OnTrue is (path.new.items ≡ path.old.items)) }
 {
-    if left == 0 {
-        return Ok(None);
+    if !growth.may_grow() {
+        return Ok(false);
     }
     match lead_of(k, space, path.as_slice(), cubes, slice) {
-        Lead::Unknown => Ok(None),
-        Lead::Leaf(place) => Ok(Some(Sorted {
-            node: TreeNode::Leaf(place),
-            left: left - 1,
-        })),
-        Lead::Fork(part) => led_apart(k, space, path, cubes, slice, part, left - 1),
+        Lead::Unknown => Ok(false),
+        Lead::Leaf(place) => {
+            growth.add_leaf(place)?;
+            Ok(true)
+        }
+        Lead::Fork(part) => led_apart(k, space, path, cubes, slice, part, growth),
     }
 }
 
 /// The tree of the places of cubes that stand as a tree lists them, in the scenarios of at most `k` faults and with at most
-/// so many nodes, if the slices are found in one way.
+/// so many items, if the slices are found in one way.
 fn led_by(
     alloc: Global,
     k: u8,
     cubes: &[&Cube],
-    nodes: u32,
+    items: u32,
     way: GuessedWay,
-) -> Result<Option<TreeNode<Option<u32>>>, OutOfMemory>
+) -> Result<Option<Places>, OutOfMemory>
     requires { length cubes.now ≤ MOST_LOAD }
-    ensures { IfOk result (λ r. IfSome r (λ n. (s : Scenario) → HasFew k s → tells_cube (map (λ b. b.now) cubes.now) (value_at n s) s)) }
+    ensures { IfOk result (λ r. IfSome r (λ t. (s : Scenario) → HasFew k s → tells_cube (map (λ b. b.now) cubes.now) (place_at t s) s)) }
 {
     let mut space = Space::whole(k);
     let slice = Slice {
@@ -556,26 +557,28 @@ fn led_by(
         way,
     };
     let mut path = Vec::new(alloc);
-    match led(k, &mut space, &mut path, cubes, slice, nodes)? {
-        Some(sorted) => Ok(Some(sorted.node)),
-        None => Ok(None),
+    let mut growth = TreeGrowth::new(alloc, cubes.len(), items)?;
+    let has_tree = led(k, &mut space, &mut path, cubes, slice, &mut growth)?;
+    if !has_tree {
+        return Ok(None);
     }
+    Ok(Some(Places::grown(growth)))
 }
 
 /// The tree of the places of cubes that stand as a tree lists them, in the scenarios of at most `k` faults and with at most
-/// so many nodes; `None` if they don't, or if there would be more nodes.
+/// so many items; `None` if they don't, or if there would be more items.
 pub(crate) fn led_out(
     alloc: Global,
     k: u8,
     cubes: &[&Cube],
-    nodes: u32,
-) -> Result<Option<TreeNode<Option<u32>>>, OutOfMemory>
+    items: u32,
+) -> Result<Option<Places>, OutOfMemory>
     requires { length cubes.now ≤ MOST_LOAD }
-    ensures { IfOk result (λ r. IfSome r (λ n. (s : Scenario) → HasFew k s → tells_cube (map (λ b. b.now) cubes.now) (value_at n s) s)) }
+    ensures { IfOk result (λ r. IfSome r (λ t. (s : Scenario) → HasFew k s → tells_cube (map (λ b. b.now) cubes.now) (place_at t s) s)) }
 {
-    if let Some(root) = led_by(alloc, k, cubes, nodes, GuessedWay::ByNumber)? {
-        return Ok(Some(root));
+    if let Some(places) = led_by(alloc, k, cubes, items, GuessedWay::ByNumber)? {
+        return Ok(Some(places));
     }
-    let root = led_by(alloc, k, cubes, nodes, GuessedWay::ByEnds)?;
-    Ok(root)
+    let places = led_by(alloc, k, cubes, items, GuessedWay::ByEnds)?;
+    Ok(places)
 }

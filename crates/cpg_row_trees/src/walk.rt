@@ -4,8 +4,10 @@ ghost use Rattle.std.specs.Bool.{OnTrue};
 ghost use Rattle.cpg_base.specs.Scenario.{Scenario};
 ghost use Rattle.cpg_tree.specs.Space.{Lies};
 ghost use Rattle.cpg_tree.specs.Decision.{value_at};
+ghost use Rattle.cpg_tree.specs.Flat.{IsFlat, flat};
+ghost use Rattle.cpg_tree.specs.TreeNode.{TreeNode};
 
-use cpg_tree::{Space, TreeNode};
+use cpg_tree::{Space, Top, TreeItem, part_in, top_of};
 
 /// A test of the places that scenarios come to: what it tells if it passes.
 pub trait Test {
@@ -46,34 +48,35 @@ impl<'a, J: PairTest> Test for Beside<'a, J> {
 
 /// Whether a test passes at each place that scenarios of a space come to. The space is changed on the way, and is as
 /// before if the test passes at each.
-fn do_pass_each<J: Test>(node: &TreeNode<Option<u32>>, space: &mut Space, test: &J) -> bool
-    ensures passed { OnTrue result ((s : Scenario) → Lies space.old s → J.tells test.now (value_at node.now s) s) }
+fn do_pass_each<J: Test>(items: &[TreeItem<Option<u32>>], space: &mut Space, test: &J) -> bool
+    requires { IsFlat items.now }
+    ensures passed { OnTrue result ((n : TreeNode (Option ℕ)) → items.now ≡ flat n → (s : Scenario) → Lies space.old s → J.tells test.now (value_at n s) s) }
     ensures same { OnTrue result (space.new ≡ space.old) }
 {
-    match node {
-        TreeNode::Leaf(place) => test.passes(*place, space),
-        TreeNode::Fork {
+    match top_of(items) {
+        Top::Value(place) => test.passes(place, space),
+        Top::Cut {
             variable,
             cut,
-            sides,
+            below,
+            above,
         } => {
-            let (below, above) = &**sides;
-            if !space.is_open_below(*variable, *cut) {
+            if !space.is_open_below(variable, cut) {
                 return do_pass_each(above, space, test);
             }
-            if !space.is_open_above(*variable, *cut) {
+            if !space.is_open_above(variable, cut) {
                 return do_pass_each(below, space, test);
             }
-            let most = space.close_above(*variable, *cut);
+            let most = space.close_above(variable, cut);
             if !do_pass_each(below, space, test) {
                 return false;
             }
-            space.reopen_above(*variable, most);
-            let was = space.close_below(*variable, *cut);
+            space.reopen_above(variable, most);
+            let was = space.close_below(variable, cut);
             if !do_pass_each(above, space, test) {
                 return false;
             }
-            space.reopen_below(*variable, was);
+            space.reopen_below(variable, was);
             true
         }
     }
@@ -81,33 +84,35 @@ fn do_pass_each<J: Test>(node: &TreeNode<Option<u32>>, space: &mut Space, test: 
 
 /// As `do_pass_each`, with a space of its own to change. It is a function of its own, since that space is cleared at
 /// each call.
-fn do_pass_in_all<J: Test>(node: &TreeNode<Option<u32>>, space: &Space, test: &J) -> bool
-    ensures { OnTrue result ((s : Scenario) → Lies space.now s → J.tells test.now (value_at node.now s) s) }
+fn do_pass_in_all<J: Test>(items: &[TreeItem<Option<u32>>], space: &Space, test: &J) -> bool
+    requires { IsFlat items.now }
+    ensures { OnTrue result ((n : TreeNode (Option ℕ)) → items.now ≡ flat n → (s : Scenario) → Lies space.now s → J.tells test.now (value_at n s) s) }
 {
     let mut own = *space;
-    do_pass_each(node, &mut own, test)
+    do_pass_each(items, &mut own, test)
 }
 
 /// Whether a test passes at each place that scenarios of a space come to. The space isn't copied as long as one side of
 /// each fork is closed, as mostly.
-pub(crate) fn do_pass<J: Test>(node: &TreeNode<Option<u32>>, space: &Space, test: &J) -> bool
-    ensures { OnTrue result ((s : Scenario) → Lies space.now s → J.tells test.now (value_at node.now s) s) }
+pub(crate) fn do_pass<J: Test>(items: &[TreeItem<Option<u32>>], space: &Space, test: &J) -> bool
+    requires { IsFlat items.now }
+    ensures { OnTrue result ((n : TreeNode (Option ℕ)) → items.now ≡ flat n → (s : Scenario) → Lies space.now s → J.tells test.now (value_at n s) s) }
 {
-    match node {
-        TreeNode::Leaf(place) => test.passes(*place, space),
-        TreeNode::Fork {
+    match top_of(items) {
+        Top::Value(place) => test.passes(place, space),
+        Top::Cut {
             variable,
             cut,
-            sides,
+            below,
+            above,
         } => {
-            let (below, above) = &**sides;
-            if !space.is_open_below(*variable, *cut) {
+            if !space.is_open_below(variable, cut) {
                 return do_pass(above, space, test);
             }
-            if !space.is_open_above(*variable, *cut) {
+            if !space.is_open_above(variable, cut) {
                 return do_pass(below, space, test);
             }
-            do_pass_in_all(node, space, test)
+            do_pass_in_all(items, space, test)
         }
     }
 }
@@ -116,11 +121,12 @@ pub(crate) fn do_pass<J: Test>(node: &TreeNode<Option<u32>>, space: &Space, test
 /// The space is changed on the way, and is as before if the test passes with each.
 fn do_pass_at<J: PairTest>(
     first: Option<u32>,
-    second: &TreeNode<Option<u32>>,
+    second: &[TreeItem<Option<u32>>],
     space: &mut Space,
     test: &J,
 ) -> bool
-    ensures passed { OnTrue result ((s : Scenario) → Lies space.old s → J.tells test.now first (value_at second.now s) s) }
+    requires { IsFlat second.now }
+    ensures passed { OnTrue result ((n : TreeNode (Option ℕ)) → second.now ≡ flat n → (s : Scenario) → Lies space.old s → J.tells test.now first (value_at n s) s) }
     ensures same { OnTrue result (space.new ≡ space.old) }
 {
     if test.passes_with_any(first) {
@@ -133,39 +139,42 @@ fn do_pass_at<J: PairTest>(
 /// Whether a test passes at each two places that scenarios of a space come to in two trees. The second is walked down
 /// with the first. The space is changed on the way, and is as before if the test passes at each two.
 fn do_pass_both<J: PairTest>(
-    first: &TreeNode<Option<u32>>,
-    second: &TreeNode<Option<u32>>,
+    first: &[TreeItem<Option<u32>>],
+    second: &[TreeItem<Option<u32>>],
     space: &mut Space,
     test: &J,
 ) -> bool
-    ensures passed { OnTrue result ((s : Scenario) → Lies space.old s → J.tells test.now (value_at first.now s) (value_at second.now s) s) }
+    requires first { IsFlat first.now }
+    requires second { IsFlat second.now }
+    ensures passed { OnTrue result ((n m : TreeNode (Option ℕ)) → first.now ≡ flat n → second.now ≡ flat m → (s : Scenario) → Lies space.old s →
+        J.tells test.now (value_at n s) (value_at m s) s) }
     ensures same { OnTrue result (space.new ≡ space.old) }
 {
-    match first {
-        TreeNode::Leaf(place) => do_pass_at(*place, second, space, test),
-        TreeNode::Fork {
+    match top_of(first) {
+        Top::Value(place) => do_pass_at(place, second, space, test),
+        Top::Cut {
             variable,
             cut,
-            sides,
+            below,
+            above,
         } => {
-            let (below, above) = &**sides;
-            let part = second.part_in(space);
-            if !space.is_open_below(*variable, *cut) {
+            let part = part_in(second, space);
+            if !space.is_open_below(variable, cut) {
                 return do_pass_both(above, part, space, test);
             }
-            if !space.is_open_above(*variable, *cut) {
+            if !space.is_open_above(variable, cut) {
                 return do_pass_both(below, part, space, test);
             }
-            let most = space.close_above(*variable, *cut);
+            let most = space.close_above(variable, cut);
             if !do_pass_both(below, part, space, test) {
                 return false;
             }
-            space.reopen_above(*variable, most);
-            let was = space.close_below(*variable, *cut);
+            space.reopen_above(variable, most);
+            let was = space.close_below(variable, cut);
             if !do_pass_both(above, part, space, test) {
                 return false;
             }
-            space.reopen_below(*variable, was);
+            space.reopen_below(variable, was);
             true
         }
     }
@@ -173,12 +182,15 @@ fn do_pass_both<J: PairTest>(
 
 /// Whether a test passes at each two places that scenarios of a space come to in two trees.
 pub(crate) fn do_pass_with<J: PairTest>(
-    first: &TreeNode<Option<u32>>,
-    second: &TreeNode<Option<u32>>,
+    first: &[TreeItem<Option<u32>>],
+    second: &[TreeItem<Option<u32>>],
     space: &Space,
     test: &J,
 ) -> bool
-    ensures { OnTrue result ((s : Scenario) → Lies space.now s → J.tells test.now (value_at first.now s) (value_at second.now s) s) }
+    requires first { IsFlat first.now }
+    requires second { IsFlat second.now }
+    ensures { OnTrue result ((n m : TreeNode (Option ℕ)) → first.now ≡ flat n → second.now ≡ flat m → (s : Scenario) → Lies space.now s →
+        J.tells test.now (value_at n s) (value_at m s) s) }
 {
     let mut own = *space;
     do_pass_both(first, second, &mut own, test)

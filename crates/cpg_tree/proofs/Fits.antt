@@ -1,9 +1,9 @@
 -- A tree that fits a space fits one with higher highs and with more faults left.
-use Rattle.std.proofs.Common.{ℕ, ◌+◌, ◌-◌, ◌<◌, ◌≤◌, ◌≡◌, ◌≢◌, true, ◌||◌, nat_lt, List, get_or, arith, refl, sym, ap, ◌∙◌, subst, Box, Global, set-set, inl, inr, ◌⊎◌, lt-ltb}
+use Rattle.std.proofs.Common.{ℕ, ◌+◌, ◌-◌, ◌<◌, ◌≤◌, ◌≡◌, ◌≢◌, true, ◌||◌, nat_lt, List, get_or, arith, refl, sym, ap, ◌∙◌, subst, set-set, inl, inr, ◌⊎◌, lt-ltb}
 use Rattle.std.specs.Prelude.{nat_le, slice_set, length}
 use Rattle.std.proofs.lemmas.Bool.{cases_eq, cases_lt, and_parts, and_from, or_cases, or_left, or_right, cond-true, cond-false, leb-true, ltb-true, le-leb, le-ltb}
 use Rattle.std.proofs.lemmas.List.{get_or-set_same, get_or-set_other, get_or_past, length-set}
-use Rattle.cpg_tree.specs.declared.node.TreeNode.{TreeNode, Leaf, Fork'}
+use Rattle.cpg_tree.specs.TreeNode.{TreeNode, Leaf, Fork}
 use Rattle.cpg_tree.specs.Space.{Space, is_open_below, is_open_above, below_cut, above_cut, faults_of}
 use Rattle.cpg_tree.specs.Decision.{IsFit}
 
@@ -62,7 +62,7 @@ module _ (room other : Space) (h : IsHigher room other) (v cut : ℕ) where
 
 fits_higher : {T : Type 0} (node : TreeNode T) (room other : Space) → IsHigher room other → IsFit room node → IsFit other node
 fits_higher (Leaf x) room other h fit = fit
-fits_higher (Fork' v cut p below above) room other h fit = (
+fits_higher (Fork v cut below above) room other h fit = (
   fit.0,
   open_below room other h v cut fit.1,
   open_above room other h v cut fit.2,
@@ -162,12 +162,12 @@ module _ (room : Space) (v cut far : ℕ) (less : cut < far) (below : is_open_be
   joined_above = record { low = set-set room.low v (cut + 1) (far + 1); left = joined_left; long = refl; high = λ u. omega arith }
 
 -- a fork with a fork on the same variable above it, whose side below is left out
-pub fits_joined : {T : Type 0} (below near far_above above : TreeNode T) {p : Box (Unit {0}) Global} (room : Space) (v cut next far : ℕ) → above ≡ Fork' next far p near far_above → next ≡ v →
+pub fits_joined : {T : Type 0} (below near far_above above : TreeNode T) (room : Space) (v cut next far : ℕ) → above ≡ Fork next far near far_above → next ≡ v →
     cut < far →
     is_open_below room v cut ≡ true → IsFit (below_cut room v cut) below → IsFit (above_cut room v cut) above →
     (v < 256) × (is_open_below room v far ≡ true) × (is_open_above room v far ≡ true) × IsFit (below_cut room v far) below × IsFit (above_cut room v far) far_above
-fits_joined {T} below near far_above above {p} room v cut next far is same less under fit_below fit_above =
-    let fit = subst (λ (u : ℕ). IsFit (above_cut room v cut) (Fork' u far p near far_above)) same (subst (λ (n : TreeNode T). IsFit (above_cut room v cut) n) is fit_above) in (
+fits_joined {T} below near far_above above room v cut next far is same less under fit_below fit_above =
+    let fit = subst (λ (u : ℕ). IsFit (above_cut room v cut) (Fork u far near far_above)) same (subst (λ (n : TreeNode T). IsFit (above_cut room v cut) n) is fit_above) in (
       fit.0,
       joined_open_below room v cut far less under,
       joined_open_above room v cut far less under fit.2,

@@ -1,10 +1,10 @@
 -- What a scenario finds at a fork, and what is made of its two sides.
-use Rattle.std.proofs.Common.{ℕ, ◌+◌, ◌<◌, ◌≤◌, ◌≡◌, ◌≢◌, max, min, ◌==◌, Bool, true, false, arith, refl, sym, ap, ◌∙◌, subst, inl, inr, ◌⊎◌, eq-eqb, ne_eqb, Box, Global, Result, Ok, Err}
+use Rattle.std.proofs.Common.{ℕ, ◌+◌, ◌<◌, ◌≤◌, ◌≡◌, ◌≢◌, max, min, ◌==◌, Bool, true, false, arith, refl, sym, ap, ◌∙◌, subst, inl, inr, ◌⊎◌, eq-eqb, ne_eqb, Result, Ok, Err}
 use Rattle.std.specs.Prelude.{nat_le, IfOk}
 use Rattle.std.specs.Bool.{OnFalse, OnTrue}
 use Rattle.std.proofs.lemmas.Bool.{cases_lt, cases_eq, cond-true, cond-false, le-leb, lt-leb}
 use Rattle.cpg_base.specs.Scenario.{Scenario, number_of}
-use Rattle.cpg_tree.specs.declared.node.TreeNode.{TreeNode, Leaf, Fork'}
+use Rattle.cpg_tree.specs.TreeNode.{TreeNode, Leaf, Fork}
 use Rattle.cpg_tree.specs.Decision.{value_at, low_at, high_at, DoForksPass, IsFit}
 use Rattle.cpg_tree.specs.Space.{Space, Lies}
 use Rattle.cpg_tree.specs.Results.{IsForkOf, IsJoinIn, IsJoinOf, IsPickOf, IsMade, IsWithin, picked}
@@ -13,37 +13,37 @@ use Rattle.cpg_tree.specs.declared.asked.Highs.{Highs}
 
 -- ---- what a scenario finds
 
-module _ {T : Type 0} (v cut : ℕ) (p : Box (Unit {0}) Global) (below : TreeNode T) (above : TreeNode T) (s : Scenario) where
+module _ {T : Type 0} (v cut : ℕ) (below : TreeNode T) (above : TreeNode T) (s : Scenario) where
   module _ (h : number_of s v ≤ cut) where
     goes_below : nat_le (number_of s v) cut ≡ true
     goes_below = le-leb (number_of s v) cut h
 
-    pub value_below : value_at (Fork' v cut p below above) s ≡ value_at below s
+    pub value_below : value_at (Fork v cut below above) s ≡ value_at below s
     value_below = cond-true (nat_le (number_of s v) cut) _ _ goes_below
 
-    pub low_below : (u : ℕ) → low_at (Fork' v cut p below above) s u ≡ low_at below s u
+    pub low_below : (u : ℕ) → low_at (Fork v cut below above) s u ≡ low_at below s u
     low_below u = cond-true (nat_le (number_of s v) cut) _ _ goes_below
 
-    pub high_below : (k u : ℕ) → u ≢ v → high_at k (Fork' v cut p below above) s u ≡ high_at k below s u
+    pub high_below : (k u : ℕ) → u ≢ v → high_at k (Fork v cut below above) s u ≡ high_at k below s u
     high_below k u n = cond-true (nat_le (number_of s v) cut) _ _ goes_below ∙ cond-false (v == u) _ _ (ne_eqb v u (λ e. n (sym e)))
 
-    pub high_here : (k : ℕ) → high_at k (Fork' v cut p below above) s v ≡ min cut (high_at k below s v)
+    pub high_here : (k : ℕ) → high_at k (Fork v cut below above) s v ≡ min cut (high_at k below s v)
     high_here k = cond-true (nat_le (number_of s v) cut) _ _ goes_below ∙ cond-true (v == v) _ _ (eq-eqb v v refl)
 
   module _ (h : cut < number_of s v) where
     goes_above : nat_le (number_of s v) cut ≡ false
     goes_above = lt-leb (number_of s v) cut h
 
-    pub value_above : value_at (Fork' v cut p below above) s ≡ value_at above s
+    pub value_above : value_at (Fork v cut below above) s ≡ value_at above s
     value_above = cond-false (nat_le (number_of s v) cut) _ _ goes_above
 
-    pub low_above : (u : ℕ) → u ≢ v → low_at (Fork' v cut p below above) s u ≡ low_at above s u
+    pub low_above : (u : ℕ) → u ≢ v → low_at (Fork v cut below above) s u ≡ low_at above s u
     low_above u n = cond-false (nat_le (number_of s v) cut) _ _ goes_above ∙ cond-false (v == u) _ _ (ne_eqb v u (λ e. n (sym e)))
 
-    pub low_here : low_at (Fork' v cut p below above) s v ≡ max (cut + 1) (low_at above s v)
+    pub low_here : low_at (Fork v cut below above) s v ≡ max (cut + 1) (low_at above s v)
     low_here = cond-false (nat_le (number_of s v) cut) _ _ goes_above ∙ cond-true (v == v) _ _ (eq-eqb v v refl)
 
-    pub high_above : (k u : ℕ) → high_at k (Fork' v cut p below above) s u ≡ high_at k above s u
+    pub high_above : (k u : ℕ) → high_at k (Fork v cut below above) s u ≡ high_at k above s u
     high_above k u = cond-false (nat_le (number_of s v) cut) _ _ goes_above
 
 -- ---- made of two sides
@@ -155,48 +155,48 @@ module _ {T U : Type 0} (fact : Scenario → T → U → Type 0) where
   abbrev pub IsOne : (Scenario → Type 0) → TreeNode T → TreeNode U → Type 0
   IsOne domain a r = IsMade domain (λ s z. fact s (value_at a s) z) (low_at a) (λ k. high_at k a) r
 
-  module _ (domain : Scenario → Type 0) (v cut : ℕ) (p : Box (Unit {0}) Global) (below : TreeNode T) (above : TreeNode T) (r : TreeNode U) where
+  module _ (domain : Scenario → Type 0) (v cut : ℕ) (below : TreeNode T) (above : TreeNode T) (r : TreeNode U) where
     abbrev whole : TreeNode T
-    whole = Fork' v cut p below above
+    whole = Fork v cut below above
 
-    pub one_below : IsOne domain below r → ((s : Scenario) → domain s → number_of s v ≤ cut) → IsOne domain (Fork' v cut p below above) r
+    pub one_below : IsOne domain below r → ((s : Scenario) → domain s → number_of s v ≤ cut) → IsOne domain (Fork v cut below above) r
     one_below made only = made_weaker domain _ _ _ _ _ _ r made
-        (λ s z d t. subst (λ x. fact s x z) (sym (value_below v cut p below above s (only s d))) t)
-        (λ s u d. omega (arith, low_below v cut p below above s (only s d) u))
+        (λ s z d t. subst (λ x. fact s x z) (sym (value_below v cut below above s (only s d))) t)
+        (λ s u d. omega (arith, low_below v cut below above s (only s d) u))
         (λ k s u d. elim (cases_eq u v) [
-          | inl e ↦ subst (λ w. high_at k whole s w ≤ high_at k below s w) (sym e) (omega (arith, high_here v cut p below above s (only s d) k))
-          | inr n ↦ omega (arith, high_below v cut p below above s (only s d) k u n)
+          | inl e ↦ subst (λ w. high_at k whole s w ≤ high_at k below s w) (sym e) (omega (arith, high_here v cut below above s (only s d) k))
+          | inr n ↦ omega (arith, high_below v cut below above s (only s d) k u n)
         ])
 
-    pub one_above : IsOne domain above r → ((s : Scenario) → domain s → cut < number_of s v) → IsOne domain (Fork' v cut p below above) r
+    pub one_above : IsOne domain above r → ((s : Scenario) → domain s → cut < number_of s v) → IsOne domain (Fork v cut below above) r
     one_above made only = made_weaker domain _ _ _ _ _ _ r made
-        (λ s z d t. subst (λ x. fact s x z) (sym (value_above v cut p below above s (only s d))) t)
+        (λ s z d t. subst (λ x. fact s x z) (sym (value_above v cut below above s (only s d))) t)
         (λ s u d. elim (cases_eq u v) [
-          | inl e ↦ subst (λ w. low_at above s w ≤ low_at whole s w) (sym e) (omega (arith, low_here v cut p below above s (only s d)))
-          | inr n ↦ omega (arith, low_above v cut p below above s (only s d) u n)
+          | inl e ↦ subst (λ w. low_at above s w ≤ low_at whole s w) (sym e) (omega (arith, low_here v cut below above s (only s d)))
+          | inr n ↦ omega (arith, low_above v cut below above s (only s d) u n)
         ])
-        (λ k s u d. omega (arith, high_above v cut p below above s (only s d) k u))
+        (λ k s u d. omega (arith, high_above v cut below above s (only s d) k u))
 
     pub one_fork : (one two : Scenario → Type 0) (lo hi : TreeNode U) → IsOne one below lo → IsOne two above hi → IsForkOf v cut lo hi r →
-        ((s : Scenario) → domain s → number_of s v ≤ cut → one s) → ((s : Scenario) → domain s → cut < number_of s v → two s) → IsOne domain (Fork' v cut p below above) r
+        ((s : Scenario) → domain s → number_of s v ≤ cut → one s) → ((s : Scenario) → domain s → cut < number_of s v → two s) → IsOne domain (Fork v cut below above) r
     one_fork one two lo hi of_lo of_hi fork goes_one goes_two = made_of_sides domain (λ s z. fact s (value_at whole s) z) (low_at whole) (λ k. high_at k whole) v cut
         one _ _ _ two _ _ _ lo hi r fork of_lo of_hi
         (λ s d h. record {
           lies = goes_one s d h;
-          tells = λ z t. subst (λ x. fact s x z) (sym (value_below v cut p below above s h)) t;
-          lows = λ u n. omega (arith, low_below v cut p below above s h u);
-          highs = λ k u n. omega (arith, high_below v cut p below above s h k u n);
+          tells = λ z t. subst (λ x. fact s x z) (sym (value_below v cut below above s h)) t;
+          lows = λ u n. omega (arith, low_below v cut below above s h u);
+          highs = λ k u n. omega (arith, high_below v cut below above s h k u n);
         })
-        (λ s d h. omega (arith, low_below v cut p below above s h v))
-        (λ k s d h. omega (arith, high_here v cut p below above s h k))
+        (λ s d h. omega (arith, low_below v cut below above s h v))
+        (λ k s d h. omega (arith, high_here v cut below above s h k))
         (λ s d h. record {
           lies = goes_two s d h;
-          tells = λ z t. subst (λ x. fact s x z) (sym (value_above v cut p below above s h)) t;
-          lows = λ u n. omega (arith, low_above v cut p below above s h u n);
-          highs = λ k u n. omega (arith, high_above v cut p below above s h k u);
+          tells = λ z t. subst (λ x. fact s x z) (sym (value_above v cut below above s h)) t;
+          lows = λ u n. omega (arith, low_above v cut below above s h u n);
+          highs = λ k u n. omega (arith, high_above v cut below above s h k u);
         })
-        (λ s d h. omega (arith, low_here v cut p below above s h))
-        (λ k s d h. omega (arith, high_above v cut p below above s h k v))
+        (λ s d h. omega (arith, low_here v cut below above s h))
+        (λ k s d h. omega (arith, high_above v cut below above s h k v))
 
 -- ---- of a tree and more
 
@@ -204,50 +204,50 @@ module _ {T U : Type 0} (fact : Scenario → T → U → Type 0) (more_low : Sce
   abbrev pub IsTwo : (Scenario → Type 0) → TreeNode T → TreeNode U → Type 0
   IsTwo domain a r = IsMade domain (λ s z. fact s (value_at a s) z) (λ s u. max (low_at a s u) (more_low s (value_at a s) u)) (λ k s u. min (high_at k a s u) (more_high k s (value_at a s) u)) r
 
-  module _ (domain : Scenario → Type 0) (v cut : ℕ) (p : Box (Unit {0}) Global) (below : TreeNode T) (above : TreeNode T) (r : TreeNode U) where
+  module _ (domain : Scenario → Type 0) (v cut : ℕ) (below : TreeNode T) (above : TreeNode T) (r : TreeNode U) where
     abbrev both : TreeNode T
-    both = Fork' v cut p below above
+    both = Fork v cut below above
 
-    pub two_below : IsTwo domain below r → ((s : Scenario) → domain s → number_of s v ≤ cut) → IsTwo domain (Fork' v cut p below above) r
+    pub two_below : IsTwo domain below r → ((s : Scenario) → domain s → number_of s v ≤ cut) → IsTwo domain (Fork v cut below above) r
     two_below made only = made_weaker domain _ _ _ _ _ _ r made
-        (λ s z d t. subst (λ x. fact s x z) (sym (value_below v cut p below above s (only s d))) t)
-        (λ s u d. omega (arith, low_below v cut p below above s (only s d) u, ap (λ x. more_low s x u) (value_below v cut p below above s (only s d))))
+        (λ s z d t. subst (λ x. fact s x z) (sym (value_below v cut below above s (only s d))) t)
+        (λ s u d. omega (arith, low_below v cut below above s (only s d) u, ap (λ x. more_low s x u) (value_below v cut below above s (only s d))))
         (λ k s u d. elim (cases_eq u v) [
           | inl e ↦ subst (λ w. min (high_at k both s w) (more_high k s (value_at both s) w) ≤ min (high_at k below s w) (more_high k s (value_at below s) w)) (sym e)
-              (omega (arith, high_here v cut p below above s (only s d) k, ap (λ x. more_high k s x v) (value_below v cut p below above s (only s d))))
-          | inr n ↦ omega (arith, high_below v cut p below above s (only s d) k u n, ap (λ x. more_high k s x u) (value_below v cut p below above s (only s d)))
+              (omega (arith, high_here v cut below above s (only s d) k, ap (λ x. more_high k s x v) (value_below v cut below above s (only s d))))
+          | inr n ↦ omega (arith, high_below v cut below above s (only s d) k u n, ap (λ x. more_high k s x u) (value_below v cut below above s (only s d)))
         ])
 
-    pub two_above : IsTwo domain above r → ((s : Scenario) → domain s → cut < number_of s v) → IsTwo domain (Fork' v cut p below above) r
+    pub two_above : IsTwo domain above r → ((s : Scenario) → domain s → cut < number_of s v) → IsTwo domain (Fork v cut below above) r
     two_above made only = made_weaker domain _ _ _ _ _ _ r made
-        (λ s z d t. subst (λ x. fact s x z) (sym (value_above v cut p below above s (only s d))) t)
+        (λ s z d t. subst (λ x. fact s x z) (sym (value_above v cut below above s (only s d))) t)
         (λ s u d. elim (cases_eq u v) [
           | inl e ↦ subst (λ w. max (low_at above s w) (more_low s (value_at above s) w) ≤ max (low_at both s w) (more_low s (value_at both s) w)) (sym e)
-              (omega (arith, low_here v cut p below above s (only s d), ap (λ x. more_low s x v) (value_above v cut p below above s (only s d))))
-          | inr n ↦ omega (arith, low_above v cut p below above s (only s d) u n, ap (λ x. more_low s x u) (value_above v cut p below above s (only s d)))
+              (omega (arith, low_here v cut below above s (only s d), ap (λ x. more_low s x v) (value_above v cut below above s (only s d))))
+          | inr n ↦ omega (arith, low_above v cut below above s (only s d) u n, ap (λ x. more_low s x u) (value_above v cut below above s (only s d)))
         ])
-        (λ k s u d. omega (arith, high_above v cut p below above s (only s d) k u, ap (λ x. more_high k s x u) (value_above v cut p below above s (only s d))))
+        (λ k s u d. omega (arith, high_above v cut below above s (only s d) k u, ap (λ x. more_high k s x u) (value_above v cut below above s (only s d))))
 
     pub two_fork : (one two : Scenario → Type 0) (lo hi : TreeNode U) → IsTwo one below lo → IsTwo two above hi → IsForkOf v cut lo hi r →
-        ((s : Scenario) → domain s → number_of s v ≤ cut → one s) → ((s : Scenario) → domain s → cut < number_of s v → two s) → IsTwo domain (Fork' v cut p below above) r
+        ((s : Scenario) → domain s → number_of s v ≤ cut → one s) → ((s : Scenario) → domain s → cut < number_of s v → two s) → IsTwo domain (Fork v cut below above) r
     two_fork one two lo hi of_lo of_hi fork goes_one goes_two = made_of_sides domain _ _ _ v cut
         one _ _ _ two _ _ _ lo hi r fork of_lo of_hi
         (λ s d h. record {
           lies = goes_one s d h;
-          tells = λ z t. subst (λ x. fact s x z) (sym (value_below v cut p below above s h)) t;
-          lows = λ u n. omega (arith, low_below v cut p below above s h u, ap (λ x. more_low s x u) (value_below v cut p below above s h));
-          highs = λ k u n. omega (arith, high_below v cut p below above s h k u n, ap (λ x. more_high k s x u) (value_below v cut p below above s h));
+          tells = λ z t. subst (λ x. fact s x z) (sym (value_below v cut below above s h)) t;
+          lows = λ u n. omega (arith, low_below v cut below above s h u, ap (λ x. more_low s x u) (value_below v cut below above s h));
+          highs = λ k u n. omega (arith, high_below v cut below above s h k u n, ap (λ x. more_high k s x u) (value_below v cut below above s h));
         })
-        (λ s d h. omega (arith, low_below v cut p below above s h v, ap (λ x. more_low s x v) (value_below v cut p below above s h)))
-        (λ k s d h. omega (arith, high_here v cut p below above s h k, ap (λ x. more_high k s x v) (value_below v cut p below above s h)))
+        (λ s d h. omega (arith, low_below v cut below above s h v, ap (λ x. more_low s x v) (value_below v cut below above s h)))
+        (λ k s d h. omega (arith, high_here v cut below above s h k, ap (λ x. more_high k s x v) (value_below v cut below above s h)))
         (λ s d h. record {
           lies = goes_two s d h;
-          tells = λ z t. subst (λ x. fact s x z) (sym (value_above v cut p below above s h)) t;
-          lows = λ u n. omega (arith, low_above v cut p below above s h u n, ap (λ x. more_low s x u) (value_above v cut p below above s h));
-          highs = λ k u n. omega (arith, high_above v cut p below above s h k u, ap (λ x. more_high k s x u) (value_above v cut p below above s h));
+          tells = λ z t. subst (λ x. fact s x z) (sym (value_above v cut below above s h)) t;
+          lows = λ u n. omega (arith, low_above v cut below above s h u n, ap (λ x. more_low s x u) (value_above v cut below above s h));
+          highs = λ k u n. omega (arith, high_above v cut below above s h k u, ap (λ x. more_high k s x u) (value_above v cut below above s h));
         })
-        (λ s d h. omega (arith, low_here v cut p below above s h, ap (λ x. more_low s x v) (value_above v cut p below above s h)))
-        (λ k s d h. omega (arith, high_above v cut p below above s h k v, ap (λ x. more_high k s x v) (value_above v cut p below above s h)))
+        (λ s d h. omega (arith, low_here v cut below above s h, ap (λ x. more_low s x v) (value_above v cut below above s h)))
+        (λ k s d h. omega (arith, high_above v cut below above s h k v, ap (λ x. more_high k s x v) (value_above v cut below above s h)))
 
 -- what follows of an answer holds of it too
 pub of_answer : {T E : Type 0} (r : Result T E) (P Q : T → Type 0) → IfOk r P → ((x : T) → P x → Q x) → IfOk r Q
@@ -268,32 +268,32 @@ from_true true e h = h
 from_true false e h = cc
 
 -- the same of a tree that is a fork
-module _ {T U : Type 0} (fact : Scenario → T → U → Type 0) (domain : Scenario → Type 0) (v cut : ℕ) (below above n : TreeNode T) {p : Box (Unit {0}) Global} (is : n ≡ Fork' v cut p below above)
+module _ {T U : Type 0} (fact : Scenario → T → U → Type 0) (domain : Scenario → Type 0) (v cut : ℕ) (below above n : TreeNode T) (is : n ≡ Fork v cut below above)
     (r : TreeNode U) where
   pub one_below_of : IsOne fact domain below r → ((s : Scenario) → domain s → number_of s v ≤ cut) → IsOne fact domain n r
-  one_below_of made only = subst (λ (m : TreeNode T). IsOne fact domain m r) (sym is) (one_below fact domain v cut p below above r made only)
+  one_below_of made only = subst (λ (m : TreeNode T). IsOne fact domain m r) (sym is) (one_below fact domain v cut below above r made only)
 
   pub one_above_of : IsOne fact domain above r → ((s : Scenario) → domain s → cut < number_of s v) → IsOne fact domain n r
-  one_above_of made only = subst (λ (m : TreeNode T). IsOne fact domain m r) (sym is) (one_above fact domain v cut p below above r made only)
+  one_above_of made only = subst (λ (m : TreeNode T). IsOne fact domain m r) (sym is) (one_above fact domain v cut below above r made only)
 
   pub one_fork_of : (one two : Scenario → Type 0) (lo hi : TreeNode U) → IsOne fact one below lo → IsOne fact two above hi → IsForkOf v cut lo hi r →
       ((s : Scenario) → domain s → number_of s v ≤ cut → one s) → ((s : Scenario) → domain s → cut < number_of s v → two s) → IsOne fact domain n r
   one_fork_of one two lo hi of_lo of_hi fork goes_one goes_two = subst (λ (m : TreeNode T). IsOne fact domain m r) (sym is)
-      (one_fork fact domain v cut p below above r one two lo hi of_lo of_hi fork goes_one goes_two)
+      (one_fork fact domain v cut below above r one two lo hi of_lo of_hi fork goes_one goes_two)
 
 -- the same of a tree that is a fork
 module _ {T U : Type 0} (fact : Scenario → T → U → Type 0) (more_low : Scenario → T → ℕ → ℕ) (more_high : ℕ → Scenario → T → ℕ → ℕ) (domain : Scenario → Type 0) (v cut : ℕ)
-    (below above n : TreeNode T) {p : Box (Unit {0}) Global} (is : n ≡ Fork' v cut p below above) (r : TreeNode U) where
+    (below above n : TreeNode T) (is : n ≡ Fork v cut below above) (r : TreeNode U) where
   pub two_below_of : IsTwo fact more_low more_high domain below r → ((s : Scenario) → domain s → number_of s v ≤ cut) → IsTwo fact more_low more_high domain n r
-  two_below_of made only = subst (λ (m : TreeNode T). IsTwo fact more_low more_high domain m r) (sym is) (two_below fact more_low more_high domain v cut p below above r made only)
+  two_below_of made only = subst (λ (m : TreeNode T). IsTwo fact more_low more_high domain m r) (sym is) (two_below fact more_low more_high domain v cut below above r made only)
 
   pub two_above_of : IsTwo fact more_low more_high domain above r → ((s : Scenario) → domain s → cut < number_of s v) → IsTwo fact more_low more_high domain n r
-  two_above_of made only = subst (λ (m : TreeNode T). IsTwo fact more_low more_high domain m r) (sym is) (two_above fact more_low more_high domain v cut p below above r made only)
+  two_above_of made only = subst (λ (m : TreeNode T). IsTwo fact more_low more_high domain m r) (sym is) (two_above fact more_low more_high domain v cut below above r made only)
 
   pub two_fork_of : (one two : Scenario → Type 0) (lo hi : TreeNode U) → IsTwo fact more_low more_high one below lo → IsTwo fact more_low more_high two above hi → IsForkOf v cut lo hi r →
       ((s : Scenario) → domain s → number_of s v ≤ cut → one s) → ((s : Scenario) → domain s → cut < number_of s v → two s) → IsTwo fact more_low more_high domain n r
   two_fork_of one two lo hi of_lo of_hi fork goes_one goes_two = subst (λ (m : TreeNode T). IsTwo fact more_low more_high domain m r) (sym is)
-      (two_fork fact more_low more_high domain v cut p below above r one two lo hi of_lo of_hi fork goes_one goes_two)
+      (two_fork fact more_low more_high domain v cut below above r one two lo hi of_lo of_hi fork goes_one goes_two)
 
 -- the same of a tree that is one value
 module _ {T U : Type 0} (fact : Scenario → T → U → Type 0) (more_low : Scenario → T → ℕ → ℕ) (more_high : ℕ → Scenario → T → ℕ → ℕ) (domain : Scenario → Type 0) (x : T) (n : TreeNode T)
@@ -303,21 +303,13 @@ module _ {T U : Type 0} (fact : Scenario → T → U → Type 0) (more_low : Sce
       (made_weaker domain _ _ _ _ _ _ r made (λ s z d t. t) (λ s u d. omega arith) (λ k s u d. omega arith))
 
 -- if the forks of a tree that is a fork pass a test, so do those of its sides
-pub passes_parts : {T : Type 0} (test : ℕ → Bool) (v cut : ℕ) (below above n : TreeNode T) {p : Box (Unit {0}) Global} → n ≡ Fork' v cut p below above → DoForksPass test n → (test v ≡ true) ×
+pub passes_parts : {T : Type 0} (test : ℕ → Bool) (v cut : ℕ) (below above n : TreeNode T) → n ≡ Fork v cut below above → DoForksPass test n → (test v ≡ true) ×
     DoForksPass test below × DoForksPass test above
 passes_parts test v cut below above n is pass = subst (DoForksPass test) is pass
 
 -- if such a tree fits, so do its sides
-pub fit_parts : {T : Type 0} (room : Space) (v cut : ℕ) (below above n : TreeNode T) {p : Box (Unit {0}) Global} → n ≡ Fork' v cut p below above → IsFit room n → IsFit room (Fork' v cut p below above)
+pub fit_parts : {T : Type 0} (room : Space) (v cut : ℕ) (below above n : TreeNode T) → n ≡ Fork v cut below above → IsFit room n → IsFit room (Fork v cut below above)
 fit_parts room v cut below above n is fit = subst (IsFit room) is fit
-
--- if two pairs of sides are the same, so are their sides
-module _ {T : Type 0} {one other : TreeNode T × TreeNode T} (same : one ≡ other) where
-  pub same_below : one.0 ≡ other.0
-  same_below = ap (λ (sides : TreeNode T × TreeNode T). sides.0) same
-
-  pub same_above : one.1 ≡ other.1
-  same_above = ap (λ (sides : TreeNode T × TreeNode T). sides.1) same
 
 -- ---- two spaces, put back above a cut
 
@@ -332,7 +324,7 @@ module _ (rooms shut inner opened : Rooms) (v : ℕ) (highs : Highs) (back : low
 
 -- ---- a fork at which all scenarios of two spaces go one way
 
-module _ {T U V : Type 0} (answers : T → U → V → Type 0) (rooms inner : Rooms) (v cut : ℕ) (below above n : TreeNode T) {p : Box (Unit {0}) Global} (is : n ≡ Fork' v cut p below above)
+module _ {T U V : Type 0} (answers : T → U → V → Type 0) (rooms inner : Rooms) (v cut : ℕ) (below above n : TreeNode T) (is : n ≡ Fork v cut below above)
     (other part : TreeNode U) (same : IsWithin rooms.walked other part) (r : TreeNode V) where
   -- what is made in the spaces left, with the part of the other tree that the space walked comes to, is made with both trees
   pub made_all_below : IsInner rooms (λ s. number_of s v ≤ cut) inner → IsJoinIn answers (LiesInBoth inner) below part r → IsJoinIn answers (LiesInBoth rooms) n other r

@@ -2,7 +2,7 @@
 use Rattle.std.proofs.Common.{ℕ, ◌≤◌, ◌≡◌, max, inl, inr, arith, ap, subst}
 use Rattle.std.proofs.lemmas.Bool.{cases_lt}
 use Rattle.cpg_base.specs.Scenario.{Scenario, number_of}
-use Rattle.cpg_tree.specs.declared.node.TreeNode.{TreeNode, Leaf, Fork'}
+use Rattle.cpg_tree.specs.TreeNode.{TreeNode, Leaf, Fork}
 use Rattle.cpg_tree.specs.Space.{Space, Lies}
 use Rattle.cpg_tree.specs.Decision.{value_at}
 use Rattle.cpg_tree.specs.Results.{IsFillOf, IsJoinOf}
@@ -12,16 +12,16 @@ use Rattle.cpg_tree.proofs.Forks.{value_below, value_above, made_weaker}
 module _ {T : Type 0} (number : T → ℕ) where
   pub least_under : (a : TreeNode T) (s : Scenario) → least_in number a ≤ number (value_at a s)
   least_under (Leaf x) s = omega arith
-  least_under (Fork' v cut p below above) s = elim (cases_lt cut (number_of s v)) [
-    | inl h ↦ omega (arith, least_under above s, ap number (value_above v cut p below above s h))
-    | inr h ↦ omega (arith, least_under below s, ap number (value_below v cut p below above s h))
+  least_under (Fork v cut below above) s = elim (cases_lt cut (number_of s v)) [
+    | inl h ↦ omega (arith, least_under above s, ap number (value_above v cut below above s h))
+    | inr h ↦ omega (arith, least_under below s, ap number (value_below v cut below above s h))
   ]
 
   pub most_over : (a : TreeNode T) (s : Scenario) → number (value_at a s) ≤ most_in number a
   most_over (Leaf x) s = omega arith
-  most_over (Fork' v cut p below above) s = elim (cases_lt cut (number_of s v)) [
-    | inl h ↦ omega (arith, most_over above s, ap number (value_above v cut p below above s h))
-    | inr h ↦ omega (arith, most_over below s, ap number (value_below v cut p below above s h))
+  most_over (Fork v cut below above) s = elim (cases_lt cut (number_of s v)) [
+    | inl h ↦ omega (arith, most_over above s, ap number (value_above v cut below above s h))
+    | inr h ↦ omega (arith, most_over below s, ap number (value_below v cut below above s h))
   ]
 
 -- what is made of the greater number of two trees

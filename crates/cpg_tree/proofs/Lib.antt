@@ -2,6 +2,8 @@ pub mod Spaces
 pub mod Forks
 pub mod Greatness
 pub mod BoundLaws
+pub mod GreaterLaws
+pub mod WhereLaws
 pub mod Fits
 pub mod PathLaws
 pub mod Publics
@@ -17,3 +19,12 @@ pub mod OnePath
 pub mod AtLeast
 pub mod Readings
 pub mod Where
+pub mod Flats
+pub mod ForkLaws
+pub mod MapLaws
+pub mod Moves
+pub mod AtLaws
+pub mod JoinLaws
+pub mod PickLaws
+pub mod GoodLists
+pub mod VariableLaws

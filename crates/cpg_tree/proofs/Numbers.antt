@@ -7,7 +7,7 @@ use Rattle.std.proofs.lemmas.List.FromFn.{length-map-range_with_len}
 use Rattle.cpg_base.specs.Scenario.{number_of_value, Scenario, number_of}
 use Rattle.cpg_base.specs.Numbers.{numbers_below}
 use Rattle.cpg_base.proofs.Lists.{get_or-map-below}
-use Rattle.cpg_tree.specs.declared.node.TreeNode.{TreeNode, Leaf}
+use Rattle.cpg_tree.specs.TreeNode.{TreeNode, Leaf}
 use Rattle.cpg_tree.specs.Space.{Space, HasFew, IsWhole, is_open_below, is_open_above, above_cut}
 use Rattle.cpg_tree.specs.Decision.{value_at, IsGood}
 use Rattle.cpg_tree.specs.Results.{IsForkOf}

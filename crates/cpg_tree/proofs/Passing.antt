@@ -9,7 +9,7 @@ use Rattle.cpg_cube.specs.declared.literal.Literal.{Literal}
 use Rattle.cpg_cube.specs.Narrow.{narrowed_by, meet_literal}
 use Rattle.cpg_cube.specs.Fit.{IsKnown}
 use Rattle.cpg_cube.proofs.Narrow.{narrowed-before, narrowed-here, narrowed-after, variables_of_narrowed}
-use Rattle.cpg_tree.specs.declared.node.TreeNode.{TreeNode, Leaf, Fork'}
+use Rattle.cpg_tree.specs.TreeNode.{TreeNode, Leaf, Fork}
 use Rattle.cpg_tree.specs.Decision.{DoForksPass}
 use Rattle.cpg_tree.specs.Paths.{up_to, above, paths_from, paths_of}
 use Rattle.cpg_tree.specs.Tree.{Path, DoPathsPass}
@@ -51,7 +51,7 @@ IsSpoken {T} paths v = (p : Path T) × Contains paths p × SpeaksOf p.0 v
 
 some_path : {T : Type 0} (k : ℕ) (node : TreeNode T) (cube : List Literal) (v : ℕ) → SpeaksOf cube v → IsSpoken (paths_from k cube node) v
 some_path k (Leaf x) cube v speaks = ((cube, x), Contains-first (cube, x) [], speaks)
-some_path k (Fork' u cut p below upper) cube v speaks =
+some_path k (Fork u cut below upper) cube v speaks =
     let old = speaks_of_old (up_to u cut) cube speaks.0 speaks.1 in
     let r = some_path k below (narrowed_by (up_to u cut) cube) v (old.0, old.1, old.2 ∙ speaks.2) in
     (r.0, Contains-append_left (paths_from k (narrowed_by (up_to u cut) cube) below) (paths_from k (narrowed_by (above k u cut) cube) upper) r.0 r.1, r.2)
@@ -62,7 +62,7 @@ module _ (test : ℕ → Bool) where
 
   forks_from : {T : Type 0} (k : ℕ) (node : TreeNode T) (cube : List Literal) → ((p : Path T) → Contains (paths_from k cube node) p → Passes p.0) → DoForksPass test node
   forks_from k (Leaf x) cube h = tt
-  forks_from k (Fork' v cut p below upper) cube h =
+  forks_from k (Fork v cut below upper) cube h =
       let lower = paths_from k (narrowed_by (up_to v cut) cube) below in
       let higher = paths_from k (narrowed_by (above k v cut) cube) upper in
       let some = some_path k below (narrowed_by (up_to v cut) cube) v (speaks_of_new (up_to v cut) cube) in (
@@ -84,7 +84,7 @@ module _ (test : ℕ → Bool) where
     | inl e ↦ subst (λ (z : Path T). Passes z.0) e on
     | inr none ↦ absurd (Contains-nil x none)
   ]
-  paths_pass k (Fork' v cut p below upper) cube on pass x c =
+  paths_pass k (Fork v cut below upper) cube on pass x c =
       elim (Contains-append_cases (paths_from k (narrowed_by (up_to v cut) cube) below) (paths_from k (narrowed_by (above k v cut) cube) upper) x c) [
         | inl i ↦ paths_pass k below (narrowed_by (up_to v cut) cube) (passes_narrowed (up_to v cut) cube pass.0 on) pass.1 x i
         | inr i ↦ paths_pass k upper (narrowed_by (above k v cut) cube) (passes_narrowed (above k v cut) cube pass.0 on) pass.2 x i

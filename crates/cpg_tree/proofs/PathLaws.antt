@@ -1,6 +1,6 @@
 -- The paths of a tree: each scenario is on one, which has the value and the ranges that it finds on its way down.
 use Rattle.std.proofs.Common.{ℕ, ◌+◌, ◌<◌, ◌≤◌, ◌≡◌, ◌≢◌, max, min, true, false, List, [], ◌∷◌, length, filter, get_or, Contains, arith, refl, sym, ap, ap₂, ◌∙◌, subst, inl, inr, ◌⊎◌, length-append}
-use Rattle.std.proofs.Common.{lt-ltb, le-ltb, rules, Box, Global}
+use Rattle.std.proofs.Common.{lt-ltb, le-ltb, rules}
 use Rattle.std.specs.Prelude.{nat_lt, slice_set}
 use Rattle.std.proofs.lemmas.Bool.{cases_lt, cases_eq, cond-true, cond-false, and_parts, and_from, both_ways, false_from_ne_true, ltb-true}
 use Rattle.std.proofs.lemmas.List.{get_or-set_same, get_or-set_other, get_or_past}
@@ -13,7 +13,7 @@ use Rattle.cpg_base.specs.Variable.{top}
 use Rattle.cpg_cube.specs.Narrow.{narrowed_by}
 use Rattle.cpg_cube.proofs.CubeLows.{holds-low, holds-high, holds-from}
 use Rattle.cpg_cube.proofs.Narrow.{matches-narrowed, rising-narrowed}
-use Rattle.cpg_tree.specs.declared.node.TreeNode.{TreeNode, Leaf, Fork'}
+use Rattle.cpg_tree.specs.TreeNode.{TreeNode, Leaf, Fork}
 use Rattle.cpg_tree.specs.Space.{Space, HasFew, IsWhole, below_cut, above_cut}
 use Rattle.cpg_tree.specs.Decision.{value_at, low_at, high_at, IsFit, IsGood, HasCuts}
 use Rattle.cpg_tree.specs.Paths.{up_to, above, paths_from, paths_of}
@@ -47,7 +47,7 @@ reaches_below k room v cut less h u l = by_place (cases_eq u v)
 fits_cuts : {T : Type 0} (k : ℕ) (node : TreeNode T) (room : Space) → Reaches k room → IsFit room node → HasCuts k node
 unfolding Reaches
 fits_cuts k (Leaf x) room h fit = tt
-fits_cuts k (Fork' v cut p below above) room h fit =
+fits_cuts k (Fork v cut below above) room h fit =
     let less : cut < top k v = omega (arith, ltb-true cut (get_or room.high v 0) (and_parts (nat_lt cut (get_or room.high v 0)) _ fit.2).0, h v fit.0) in
     (fit.0, less, fits_cuts k below (below_cut room v cut) (reaches_below k room v cut less h) fit.3, fits_cuts k above (above_cut room v cut) h fit.4)
 
@@ -95,43 +95,43 @@ module _ {T : Type 0} (k : ℕ) (s : Scenario) where
     pub low : (v : ℕ) → low_in x.0 v ≡ max (low_in cube v) (low_at node s v)
     pub high : (v : ℕ) → high_in k x.0 v ≡ min (high_in k cube v) (high_at k node s v)
 
-  tells_below : (cube : List Literal) → IsTidy k cube → (v cut : ℕ) (p : Box (Unit {0}) Global) (below : TreeNode T) (upper : TreeNode T) → cut < top k v → (x : Path T) →
-      Tells (narrowed_by (up_to v cut) cube) below x → Tells cube (Fork' v cut p below upper) x
-  tells_below cube tidy v cut p below upper less x t =
+  tells_below : (cube : List Literal) → IsTidy k cube → (v cut : ℕ) (below : TreeNode T) (upper : TreeNode T) → cut < top k v → (x : Path T) →
+      Tells (narrowed_by (up_to v cut) cube) below x → Tells cube (Fork v cut below upper) x
+  tells_below cube tidy v cut below upper less x t =
       let both = and_parts (holds s (up_to v cut)) (matches cube s) (sym (matches-narrowed s (up_to v cut) cube) ∙ t.came) in
       let le : number_of s v ≤ cut = holds-high s (up_to v cut) both.0 in
       record {
         came = both.1;
-        value = t.value ∙ sym (value_below v cut p below upper s le);
+        value = t.value ∙ sym (value_below v cut below upper s le);
         low = λ u. elim (cases_eq v u) [
-          | inl e ↦ subst (λ w. low_in x.0 w ≡ max (low_in cube w) (low_at (Fork' v cut p below upper) s w)) e
-              (omega (arith, t.low v, low-same k (up_to v cut) cube tidy.rising, low_below v cut p below upper s le v))
-          | inr n ↦ omega (arith, t.low u, low-other k (up_to v cut) cube u n, low_below v cut p below upper s le u)
+          | inl e ↦ subst (λ w. low_in x.0 w ≡ max (low_in cube w) (low_at (Fork v cut below upper) s w)) e
+              (omega (arith, t.low v, low-same k (up_to v cut) cube tidy.rising, low_below v cut below upper s le v))
+          | inr n ↦ omega (arith, t.low u, low-other k (up_to v cut) cube u n, low_below v cut below upper s le u)
         ];
         high = λ u. elim (cases_eq v u) [
-          | inl e ↦ subst (λ w. high_in k x.0 w ≡ min (high_in k cube w) (high_at k (Fork' v cut p below upper) s w)) e
-              (omega (arith, t.high v, high-same k (up_to v cut) cube tidy.rising (omega (arith, less)), high_here v cut p below upper s le k))
-          | inr n ↦ omega (arith, t.high u, high-other k (up_to v cut) cube u n, high_below v cut p below upper s le k u (λ i. n (sym i)))
+          | inl e ↦ subst (λ w. high_in k x.0 w ≡ min (high_in k cube w) (high_at k (Fork v cut below upper) s w)) e
+              (omega (arith, t.high v, high-same k (up_to v cut) cube tidy.rising (omega (arith, less)), high_here v cut below upper s le k))
+          | inr n ↦ omega (arith, t.high u, high-other k (up_to v cut) cube u n, high_below v cut below upper s le k u (λ i. n (sym i)))
         ];
       }
 
-  tells_above : (cube : List Literal) → IsTidy k cube → (v cut : ℕ) (p : Box (Unit {0}) Global) (below : TreeNode T) (upper : TreeNode T) → cut < top k v → (x : Path T) →
-      Tells (narrowed_by (above k v cut) cube) upper x → Tells cube (Fork' v cut p below upper) x
-  tells_above cube tidy v cut p below upper less x t =
+  tells_above : (cube : List Literal) → IsTidy k cube → (v cut : ℕ) (below : TreeNode T) (upper : TreeNode T) → cut < top k v → (x : Path T) →
+      Tells (narrowed_by (above k v cut) cube) upper x → Tells cube (Fork v cut below upper) x
+  tells_above cube tidy v cut below upper less x t =
       let both = and_parts (holds s (above k v cut)) (matches cube s) (sym (matches-narrowed s (above k v cut) cube) ∙ t.came) in
       let gt : cut < number_of s v = let l = holds-low s (above k v cut) both.0 in omega (arith, l) in
       record {
         came = both.1;
-        value = t.value ∙ sym (value_above v cut p below upper s gt);
+        value = t.value ∙ sym (value_above v cut below upper s gt);
         low = λ u. elim (cases_eq v u) [
-          | inl e ↦ subst (λ w. low_in x.0 w ≡ max (low_in cube w) (low_at (Fork' v cut p below upper) s w)) e
-              (omega (arith, t.low v, low-same k (above k v cut) cube tidy.rising, low_here v cut p below upper s gt))
-          | inr n ↦ omega (arith, t.low u, low-other k (above k v cut) cube u n, low_above v cut p below upper s gt u (λ i. n (sym i)))
+          | inl e ↦ subst (λ w. low_in x.0 w ≡ max (low_in cube w) (low_at (Fork v cut below upper) s w)) e
+              (omega (arith, t.low v, low-same k (above k v cut) cube tidy.rising, low_here v cut below upper s gt))
+          | inr n ↦ omega (arith, t.low u, low-other k (above k v cut) cube u n, low_above v cut below upper s gt u (λ i. n (sym i)))
         ];
         high = λ u. elim (cases_eq v u) [
-          | inl e ↦ subst (λ w. high_in k x.0 w ≡ min (high_in k cube w) (high_at k (Fork' v cut p below upper) s w)) e
-              (omega (arith, t.high v, high-same k (above k v cut) cube tidy.rising (omega arith), high_above v cut p below upper s gt k v, tidy.within v))
-          | inr n ↦ omega (arith, t.high u, high-other k (above k v cut) cube u n, high_above v cut p below upper s gt k u)
+          | inl e ↦ subst (λ w. high_in k x.0 w ≡ min (high_in k cube w) (high_at k (Fork v cut below upper) s w)) e
+              (omega (arith, t.high v, high-same k (above k v cut) cube tidy.rising (omega arith), high_above v cut below upper s gt k v, tidy.within v))
+          | inr n ↦ omega (arith, t.high u, high-other k (above k v cut) cube u n, high_above v cut below upper s gt k u)
         ];
       }
 
@@ -146,10 +146,10 @@ module _ {T : Type 0} (k : ℕ) (s : Scenario) where
         high = λ v. omega (arith, tidy.within v);
       })
       only (inr none) = absurd (Contains-nil x none)
-  tells (Fork' v cut p below upper) cube tidy cuts x c m =
+  tells (Fork v cut below upper) cube tidy cuts x c m =
       elim (Contains-append_cases (paths_from k (narrowed_by (up_to v cut) cube) below) (paths_from k (narrowed_by (above k v cut) cube) upper) x c) [
-        | inl i ↦ tells_below cube tidy v cut p below upper cuts.1 x (tells below (narrowed_by (up_to v cut) cube) (tidy_below k cube tidy v cut cuts.1) cuts.2 x i m)
-        | inr i ↦ tells_above cube tidy v cut p below upper cuts.1 x (tells upper (narrowed_by (above k v cut) cube) (tidy_above k cube tidy v cut cuts.1) cuts.3 x i m)
+        | inl i ↦ tells_below cube tidy v cut below upper cuts.1 x (tells below (narrowed_by (up_to v cut) cube) (tidy_below k cube tidy v cut cuts.1) cuts.2 x i m)
+        | inr i ↦ tells_above cube tidy v cut below upper cuts.1 x (tells upper (narrowed_by (above k v cut) cube) (tidy_above k cube tidy v cut cuts.1) cuts.3 x i m)
       ]
 
   -- a scenario that the cube doesn't match is on no path
@@ -160,7 +160,7 @@ module _ {T : Type 0} (k : ℕ) (s : Scenario) where
   -- one that it matches is on one
   pub one_from : HasFew k s → (node : TreeNode T) (cube : List Literal) → IsTidy k cube → HasCuts k node → matches cube s ≡ true → length (filter (is_on s) (paths_from k cube node)) ≡ 1
   one_from few (Leaf y) cube tidy cuts on = ap length (cond-true (matches cube s) ((cube, y) ∷ []) [] on)
-  one_from few (Fork' v cut p below upper) cube tidy cuts on =
+  one_from few (Fork v cut below upper) cube tidy cuts on =
       ap length (filter-append (is_on s) (paths_from k (narrowed_by (up_to v cut) cube) below) (paths_from k (narrowed_by (above k v cut) cube) upper))
       ∙ length-append (filter (is_on s) (paths_from k (narrowed_by (up_to v cut) cube) below)) (filter (is_on s) (paths_from k (narrowed_by (above k v cut) cube) upper))
       ∙ elim (cases_lt cut (number_of s v)) [

@@ -3,12 +3,17 @@ use Rattle.std.proofs.Common.{ℕ, ◌≡◌, min, Bool, true, false, List, if�
 use Rattle.cpg_base.specs.Scenario.{Scenario}
 use Rattle.cpg_cube.specs.Cube.{low_in, high_in}
 use Rattle.cpg_base.specs.Variable.{top}
-use Rattle.cpg_tree.specs.declared.node.TreeNode.{TreeNode}
+use Rattle.cpg_tree.specs.TreeNode.{TreeNode}
 use Rattle.cpg_tree.specs.Space.{Space, Lies, HasFew, IsWhole}
 use Rattle.cpg_tree.specs.Decision.{value_at, low_at, high_at, IsGood, IsFit, DoForksPass}
 use Rattle.cpg_tree.specs.Paths.{paths_of}
+use Rattle.cpg_tree.specs.declared.item.TreeItem.{TreeItem}
+use Rattle.cpg_tree.specs.Flat.{IsFlat, flat}
+use Rattle.cpg_tree.specs.ReadBack.{IsGoodList, paths_in}
+use Rattle.cpg_tree.specs.Added.{IsMapped, IsJoined, IsPicked}
 use Rattle.cpg_tree.specs.Results.{IsMapOf, IsJoinOf, IsPickOf, picked}
 use Rattle.cpg_tree.specs.Tree.{Path, TreeState, IsOn, IsMap, IsJoin, IsPick, IsValueAt, DoPathsPass}
+use Rattle.cpg_tree.proofs.Flats.{flat-same, paths_in-flat}
 use Rattle.cpg_tree.proofs.PathLaws.{found}
 use Rattle.cpg_tree.proofs.Passing.{forks_of_paths, paths_of_forks}
 
@@ -16,20 +21,17 @@ use Rattle.cpg_tree.proofs.Passing.{forks_of_paths, paths_of_forks}
 abbrev pub state : {T : Type 0} → ℕ → TreeNode T → TreeState T
 state k node = record { faults = k; paths = paths_of k node }
 
--- what is known of a root is known of what a reference to it shows
-module _ {T : Type 0} (k : ℕ) (a root : TreeNode T) (same : a ≡ root) where
-  pub root_seen : (t : TreeState T) → state k root ≡ t → state k a ≡ t
-  root_seen t is = ap (λ (n : TreeNode T). state k n) same ∙ is
+-- what is known of a tree's list is known of what a reference to it shows, as a caller sees the tree
+module _ {T : Type 0} (k : ℕ) (items shown : List (TreeItem T)) (same : shown ≡ items) (good : IsGoodList k items) (t : TreeState T) (seen : record { faults = k; paths = paths_in k items } ≡ t) where
+  pub flat_shown : IsFlat shown
+  flat_shown = (good.0, same ∙ good.1)
 
-  pub root_good : IsGood k root → IsGood k a
-  root_good good = subst (λ (n : TreeNode T). IsGood k n) (sym same) good
+  module _ (n : TreeNode T) (are : shown ≡ flat n) where
+    pub good_shown : IsGood t.faults n
+    good_shown = subst (λ (u : TreeState T). IsGood u.faults n) seen (subst (IsGood k) (flat-same good.0 n (sym good.1 ∙ sym same ∙ are)) good.2)
 
-  -- as a caller sees it
-  pub good_seen : (t : TreeState T) → state k root ≡ t → IsGood k root → IsGood t.faults a
-  good_seen t is good = subst (λ (u : TreeState T). IsGood u.faults a) (root_seen t is) (root_good good)
-
-  pub paths_seen : (t : TreeState T) → state k root ≡ t → t.paths ≡ paths_of t.faults a
-  paths_seen t is = subst (λ (u : TreeState T). u.paths ≡ paths_of u.faults a) (root_seen t is) refl
+    pub paths_shown : t.paths ≡ paths_of t.faults n
+    paths_shown = subst (λ (u : TreeState T). u.paths ≡ paths_of u.faults n) seen (paths_in-flat k items n (sym same ∙ are))
 
 -- a tree with the paths of a node is the node's
 pub state_seen : {T : Type 0} (t : TreeState T) (a : TreeNode T) → t.paths ≡ paths_of t.faults a → state t.faults a ≡ t
@@ -120,3 +122,65 @@ module _ {T U V : Type 0} (k l : ℕ) (a : TreeNode T) (b : TreeNode U) (r : Tre
   joined_pass test pass on_first on_second = paths_of_forks test k r (pass
       (forks_of_paths test k a (subst (λ (x : TreeState T). DoPathsPass test x.paths) (sym is_first) on_first))
       (forks_of_paths test l b (subst (λ (x : TreeState U). DoPathsPass test x.paths) (sym is_second) on_second)))
+
+-- ---- what is made of trees that callers see
+
+-- the list of a tree that is made fits the space of all scenarios
+pub good_made : {T : Type 0} (k : ℕ) (room : Space) (r : TreeNode T) (items : List (TreeItem T)) → IsWhole k room → IsFit room r → items ≡ flat r → IsGoodList k items
+good_made k room r items whole fit are = (r, are, (room, whole, fit))
+
+module _ {T U : Type 0} (answers : T → U → Type 0) (t : TreeState T) (n : TreeNode T) (good : IsGood t.faults n) (paths : t.paths ≡ paths_of t.faults n) (k : ℕ) (same : k ≡ t.faults) (r : TreeNode U)
+    (mapped : IsMapped answers n r) where
+  pub good_mapped : IsGood k r
+  good_mapped = subst (λ (m : ℕ). IsGood m r) (sym same) (good.0, good.1, mapped.fit good.0 good.2)
+
+  module _ (made : TreeState U) (is : made ≡ state k r) where
+    pub map_shown : IsMap answers t made
+    map_shown = subst (IsMap answers t) (ap (λ (m : ℕ). state m r) (sym same) ∙ sym is)
+        (subst (λ (u : TreeState T). IsMap answers u (state t.faults r)) (state_seen t n paths)
+        (map_paths t.faults answers n r good (good.0, good.1, mapped.fit good.0 good.2) mapped.made))
+
+    pub map_passes : (test : ℕ → Bool) → DoPathsPass test t.paths → DoPathsPass test made.paths
+    map_passes test on = subst (λ (u : TreeState U). DoPathsPass test u.paths) (sym is)
+        (paths_of_forks test k r (mapped.pass test (forks_of_paths test t.faults n (subst (λ (ps : List (Path T)). DoPathsPass test ps) paths on))))
+
+-- of two trees
+module _ {T U V : Type 0} (first : TreeState T) (second : TreeState U) (a : TreeNode T) (b : TreeNode U) (good_a : IsGood first.faults a) (good_b : IsGood second.faults b)
+    (paths_a : first.paths ≡ paths_of first.faults a) (paths_b : second.paths ≡ paths_of second.faults b) (k : ℕ) (same : k ≡ first.faults) (r : TreeNode V) (made : TreeState V)
+    (is : made ≡ state k r) where
+  pub join_shown : (answers : T → U → V → Type 0) → first.faults ≡ second.faults → (room : Space) → IsWhole k room → ((s : Scenario) → HasFew k s → Lies room s) →
+      IsFit room r → IsJoinOf answers room a b r →
+      IsJoin answers first second made
+  join_shown answers equal room whole all fit joined = subst (IsJoin answers first second) (ap (λ (m : ℕ). state m r) (sym same) ∙ sym is)
+      (joined_seen first.faults second.faults a b r first second (state_seen first a paths_a) (state_seen second b paths_b) answers equal good_a good_b room
+      (subst (λ (m : ℕ). IsWhole m room) same whole) (λ s few. all s (subst (λ (m : ℕ). HasFew m s) (sym same) few)) fit joined)
+
+  pub join_passes : (test : ℕ → Bool) → (DoForksPass test a → DoForksPass test b → DoForksPass test r) → DoPathsPass test first.paths → DoPathsPass test second.paths → DoPathsPass test made.paths
+  join_passes test pass on_first on_second = subst (λ (u : TreeState V). DoPathsPass test u.paths) (ap (λ (m : ℕ). state m r) (sym same) ∙ sym is)
+      (joined_pass first.faults second.faults a b r first second (state_seen first a paths_a) (state_seen second b paths_b) test pass on_first on_second)
+
+-- of a chooser and two trees
+module _ {T : Type 0} (chooser : TreeState Bool) (first second : TreeState T) (c : TreeNode Bool) (a b : TreeNode T) (good_c : IsGood chooser.faults c) (good_a : IsGood first.faults a)
+    (good_b : IsGood second.faults b) (paths_c : chooser.paths ≡ paths_of chooser.faults c) (paths_a : first.paths ≡ paths_of first.faults a) (paths_b : second.paths ≡ paths_of second.faults b)
+    (k : ℕ)
+    (same : k ≡ chooser.faults) (r : TreeNode T) (made : TreeState T) (is : made ≡ state k r) where
+  pub pick_shown : chooser.faults ≡ first.faults → chooser.faults ≡ second.faults → (room : Space) → IsWhole k room → ((s : Scenario) → HasFew k s → Lies room s) → IsFit room r →
+      IsPickOf room c a b r →
+      IsPick chooser first second made
+  pick_shown one two room whole all fit picked =
+      let m : ℕ = chooser.faults in
+      let equal_a : state m a ≡ first = ap (λ (l : ℕ). state l a) one ∙ state_seen first a paths_a in
+      let equal_b : state m b ≡ second = ap (λ (l : ℕ). state l b) two ∙ state_seen second b paths_b in
+      subst (IsPick chooser first second) (ap (λ (l : ℕ). state l r) (sym same) ∙ sym is)
+      (subst (λ (x : TreeState Bool). IsPick x first second (state m r)) (state_seen chooser c paths_c)
+      (subst (λ (x : TreeState T). IsPick (state m c) x second (state m r)) equal_a
+      (subst (λ (x : TreeState T). IsPick (state m c) (state m a) x (state m r)) equal_b
+      (pick_paths m room (λ s few. all s (subst (λ (l : ℕ). HasFew l s) (sym same) few)) c a b r good_c (subst (λ (l : ℕ). IsGood l a) (sym one) good_a) (subst (λ (l : ℕ). IsGood l b)
+      (sym two) good_b)
+      (room, subst (λ (l : ℕ). IsWhole l room) same whole, fit) picked))))
+
+  pub pick_passes : (test : ℕ → Bool) → (DoForksPass test c → DoForksPass test a → DoForksPass test b → DoForksPass test r) → DoPathsPass test chooser.paths → DoPathsPass test first.paths →
+      DoPathsPass test second.paths → DoPathsPass test made.paths
+  pick_passes test pass on_c on_a on_b = subst (λ (u : TreeState T). DoPathsPass test u.paths) (sym is) (paths_of_forks test k r (pass
+      (forks_of_paths test chooser.faults c (subst (DoPathsPass test) paths_c on_c)) (forks_of_paths test first.faults a (subst (DoPathsPass test) paths_a on_a))
+      (forks_of_paths test second.faults b (subst (DoPathsPass test) paths_b on_b))))

@@ -8,11 +8,13 @@ use Rattle.cpg_base.proofs.Sums.{filter-map}
 use Rattle.cpg_base.specs.Scenario.{Scenario, number_of}
 use Rattle.cpg_cube.specs.declared.literal.Literal.{Literal}
 use Rattle.cpg_cube.specs.Narrow.{narrowed_by}
-use Rattle.cpg_tree.specs.declared.node.TreeNode.{TreeNode, Leaf, Fork'}
+use Rattle.cpg_tree.specs.TreeNode.{TreeNode, Leaf, Fork}
 use Rattle.cpg_tree.specs.Decision.{value_at, low_at, high_at, IsFit, IsGood, DoForksPass}
 use Rattle.cpg_tree.specs.Later.{time_later}
-use Rattle.cpg_tree.specs.Paths.{up_to, above, paths_from}
+use Rattle.cpg_tree.specs.Paths.{up_to, above, paths_from, paths_of}
 use Rattle.cpg_tree.specs.Read.{read_by, later_path, later_by}
+use Rattle.cpg_tree.specs.declared.item.TreeItem.{TreeItem}
+use Rattle.cpg_tree.specs.Added.{Adds, IsFilled, IsKept, IsPart}
 use Rattle.cpg_tree.specs.Results.{IsFillOf, IsWithin}
 use Rattle.cpg_tree.specs.Space.{Space, below_cut, above_cut}
 use Rattle.cpg_tree.specs.Tree.{Path, TreeState, is_on, IsOn, IsMap, IsAsWide, HasOnePathEach, DoPathsPass}
@@ -26,33 +28,33 @@ either number false x y m n e f = f
 module _ {T : Type 0} (number : T → ℕ) where
   pub value_read : (a : TreeNode T) (s : Scenario) → value_at (read_by number a) s ≡ number (value_at a s)
   value_read (Leaf x) s = refl
-  value_read (Fork' v cut p below above) s =
+  value_read (Fork v cut below above) s =
       either number (nat_le (number_of s v) cut) (value_at below s) (value_at above s) (value_at (read_by number below) s) (value_at (read_by number above) s) (value_read below s) (value_read above s)
 
   pub low_read : (a : TreeNode T) (s : Scenario) (u : ℕ) → low_at (read_by number a) s u ≡ low_at a s u
   low_read (Leaf x) s u = refl
-  low_read (Fork' v cut p below above) s u =
+  low_read (Fork v cut below above) s u =
       ap₂ (λ x y. if nat_le (number_of s v) cut then x else if v == u then max (cut + 1) y else y) (low_read below s u) (low_read above s u)
 
   pub high_read : (k : ℕ) (a : TreeNode T) (s : Scenario) (u : ℕ) → high_at k (read_by number a) s u ≡ high_at k a s u
   high_read k (Leaf x) s u = refl
-  high_read k (Fork' v cut p below above) s u =
+  high_read k (Fork v cut below above) s u =
       ap₂ (λ x y. if nat_le (number_of s v) cut then (if v == u then min cut x else x) else y) (high_read k below s u) (high_read k above s u)
 
   pub pass_read : (test : ℕ → Bool) (a : TreeNode T) → DoForksPass test a → DoForksPass test (read_by number a)
   pass_read test (Leaf x) pass = tt
-  pass_read test (Fork' v cut p below above) pass = (pass.0, pass_read test below pass.1, pass_read test above pass.2)
+  pass_read test (Fork v cut below above) pass = (pass.0, pass_read test below pass.1, pass_read test above pass.2)
 
   fit_read : (room : Space) (a : TreeNode T) → IsFit room a → IsFit room (read_by number a)
   fit_read room (Leaf x) fit = tt
-  fit_read room (Fork' v cut p below above) fit = (fit.0, fit.1, fit.2, fit_read (below_cut room v cut) below fit.3, fit_read (above_cut room v cut) above fit.4)
+  fit_read room (Fork v cut below above) fit = (fit.0, fit.1, fit.2, fit_read (below_cut room v cut) below fit.3, fit_read (above_cut room v cut) above fit.4)
 
   pub good_read : (k : ℕ) (a : TreeNode T) → IsGood k a → IsGood k (read_by number a)
   good_read k a good = (good.0, good.1, fit_read good.0 a good.2)
 
   paths_read : (k : ℕ) (cube : List Literal) (a : TreeNode T) → paths_from k cube (read_by number a) ≡ map (λ (p : Path T). (p.0, number p.1)) (paths_from k cube a)
   paths_read k cube (Leaf x) = refl
-  paths_read k cube (Fork' v cut p lower upper) =
+  paths_read k cube (Fork v cut lower upper) =
       ap₂ ◌++◌ (paths_read k (narrowed_by (up_to v cut) cube) lower) (paths_read k (narrowed_by (above k v cut) cube) upper)
       ∙ sym (map-append (λ (q : Path T). (q.0, number q.1)) (paths_from k (narrowed_by (up_to v cut) cube) lower) (paths_from k (narrowed_by (above k v cut) cube) upper))
 
@@ -72,8 +74,23 @@ module _ {T : Type 0} (number : T → ℕ) where
     highs = λ k s u d. omega (arith, high_read k a s u, made.highs k s u d);
   }
 
+  -- and so with the passing of tests
+  passes_read : (test : ℕ → Bool) (a : TreeNode T) → DoForksPass test (read_by number a) → DoForksPass test a
+  passes_read test (Leaf x) pass = tt
+  passes_read test (Fork v cut below above) pass = (pass.0, passes_read test below pass.1, passes_read test above pass.2)
+
+  pub part_read : (room : Space) (a part : TreeNode T) → IsPart room a part → IsPart room (read_by number a) (read_by number part)
+  part_read room a part is = record { same = within_read room a part is.same; pass = λ test on. pass_read test part (is.pass test (passes_read test a on)) }
+
+  pub kept_read : (room : Space) (a : TreeNode T) (old new : List (TreeItem ℕ)) → Adds (IsFilled (λ (x : ℕ) (y : T) (z : ℕ). z ≡ max x (number y)) room 0 a) old new →
+      Adds (IsKept room (read_by number a)) old new
+  kept_read room a old new p = (p.0, p.1, record { made = filled_read room a p.0 p.2.made; fit = p.2.fit; pass = λ test on. p.2.pass test (passes_read test a on) })
+
 pub state_read : (k delay : ℕ) (a : TreeNode (Option ℕ)) → state k (read_by (time_later delay) a) ≡ later_by delay (state k a)
 state_read k delay a = ap (λ (paths : List (Path ℕ)). record { faults = k; paths = paths }) (paths_read (time_later delay) k [] a)
+
+pub later_paths : (delay : ℕ) (t : TreeState (Option ℕ)) (a : TreeNode (Option ℕ)) → t.paths ≡ paths_of t.faults a → (later_by delay t).paths ≡ paths_of t.faults (read_by (time_later delay) a)
+later_paths delay t a paths = ap (λ (ps : List (Path (Option ℕ))). map (later_path delay) ps) paths ∙ sym (ap (λ (u : TreeState ℕ). u.paths) (state_read t.faults delay a))
 
 -- ---- the tree of later times
 

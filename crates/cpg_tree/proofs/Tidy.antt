@@ -9,7 +9,7 @@ use Rattle.cpg_base.specs.Variable.{top}
 use Rattle.cpg_cube.specs.Narrow.{narrowed_by}
 use Rattle.cpg_cube.proofs.Narrow.{variables_of_narrowed}
 use Rattle.cpg_cube.proofs.Ranges.{range_of_literal}
-use Rattle.cpg_tree.specs.declared.node.TreeNode.{TreeNode, Leaf, Fork'}
+use Rattle.cpg_tree.specs.TreeNode.{TreeNode, Leaf, Fork}
 use Rattle.cpg_tree.specs.Space.{Space, below_cut, above_cut}
 use Rattle.cpg_tree.specs.Decision.{IsFit, IsGood}
 use Rattle.cpg_tree.specs.Paths.{up_to, above, paths_from, paths_of}
@@ -53,7 +53,7 @@ tidy_paths {T} k (Leaf y) room cube is told part fit x c = elim (Contains-cases 
   | inl e ↦ subst (λ (z : Path T). IsToldPath k z.0) e (record { room = room; is = is; told = told; part = part })
   | inr none ↦ absurd (Contains-nil x none)
 ]
-tidy_paths k (Fork' v cut p below upper) room cube is told part fit x c =
+tidy_paths k (Fork v cut below upper) room cube is told part fit x c =
     elim (Contains-append_cases (paths_from k (narrowed_by (up_to v cut) cube) below) (paths_from k (narrowed_by (above k v cut) cube) upper) x c) [
       | inl i ↦ tidy_paths k below (below_cut room v cut) (narrowed_by (up_to v cut) cube) (room_below k room is v cut fit.0 fit.1 fit.2) (told_below k room is v cut fit.0 fit.1 fit.2 cube told)
           (part_narrowed k (up_to v cut) cube fit.0

@@ -12,7 +12,7 @@ use Rattle.cpg_cube.specs.Cube.{holds, matches}
 use Rattle.cpg_cube.proofs.Boxes.{top_of_value}
 use Rattle.cpg_cube.proofs.CubeLows.{holds-from}
 use Rattle.cpg_cube.proofs.Ranges.{range_of_literal}
-use Rattle.cpg_tree.specs.declared.node.TreeNode.{TreeNode}
+use Rattle.cpg_tree.specs.TreeNode.{TreeNode}
 use Rattle.cpg_tree.specs.Space.{Space, HasFew}
 use Rattle.cpg_tree.specs.Decision.{IsGood}
 use Rattle.cpg_tree.specs.Paths.{paths_of}

@@ -1,9 +1,9 @@
 -- What is made of two trees where a chooser is true.
-use Rattle.std.proofs.Common.{ℕ, ◌<◌, ◌≤◌, ◌≡◌, max, min, Bool, true, false, List, if◌then◌else◌, arith, refl, sym, ap, ◌∙◌, subst, Box, Global}
+use Rattle.std.proofs.Common.{ℕ, ◌<◌, ◌≤◌, ◌≡◌, max, min, Bool, true, false, List, if◌then◌else◌, arith, refl, sym, ap, ◌∙◌, subst}
 use Rattle.std.proofs.lemmas.Bool.{cond-true, cond-false}
 use Rattle.cpg_base.specs.Scenario.{Scenario, number_of}
 use Rattle.cpg_base.specs.Variable.{top}
-use Rattle.cpg_tree.specs.declared.node.TreeNode.{TreeNode, Leaf, Fork'}
+use Rattle.cpg_tree.specs.TreeNode.{TreeNode, Leaf, Fork}
 use Rattle.cpg_tree.specs.Space.{Space, HasFew, IsWhole, Lies}
 use Rattle.cpg_tree.specs.Decision.{value_at, low_at, high_at, DoForksPass, IsFit, IsGood}
 use Rattle.cpg_tree.specs.Paths.{paths_of}
@@ -28,7 +28,10 @@ module _ {T U V : Type 0} (answers : T → U → V → Type 0) (none : V) (rooms
   pub where_on : (n : TreeNode Bool) → n ≡ Leaf true → (r : TreeNode V) → IsJoinIn answers (LiesInBoth rooms) a b r → IsJoinWhereOf answers none (LiesInBoth rooms) n a b r
   where_on n is r made = two_leaf_of fact low high (LiesInBoth rooms) true n is r made
 
-  module _ (v cut : ℕ) (below above n : TreeNode Bool) {p : Box (Unit {0}) Global} (is : n ≡ Fork' v cut p below above) (r : TreeNode V) where
+  pub where_off : (n : TreeNode Bool) → n ≡ Leaf false → IsJoinWhereOf answers none (LiesInBoth rooms) n a b (Leaf none)
+  where_off n is = two_leaf_of fact low high (LiesInBoth rooms) false n is (Leaf none) (record { value = λ s d. refl; lows = λ s u d. omega arith; highs = λ k s u d. omega arith })
+
+  module _ (v cut : ℕ) (below above n : TreeNode Bool) (is : n ≡ Fork v cut below above) (r : TreeNode V) where
     pub where_below : IsJoinWhereOf answers none (LiesInBoth rooms) below a b r → ((s : Scenario) → Lies rooms.asked s → number_of s v ≤ cut) → IsJoinWhereOf answers none (LiesInBoth rooms) n a b r
     where_below made only = two_below_of fact low high (LiesInBoth rooms) v cut below above n is r made (λ s d. only s d.0)
 

@@ -3,29 +3,29 @@ use Rattle.std.specs.Prelude.{ℕ, ◌+◌, ◌<◌, ◌≡◌, true, max, min, 
 use Rattle.cpg_base.specs.Scenario.{Scenario, number_of}
 use Rattle.cpg_base.specs.Variable.{top}
 use Rattle.cpg_tree.specs.Space.{Space, IsWhole, is_open_below, is_open_above, below_cut, above_cut}
-use Rattle.cpg_tree.specs.declared.node.TreeNode.{TreeNode, Leaf, Fork'}
+use Rattle.cpg_tree.specs.TreeNode.{TreeNode, Leaf, Fork}
 
 -- the value that a scenario comes to
 abbrev pub value_at : {T : Type 0} → TreeNode T → Scenario → T
 value_at (Leaf x) s = x
-value_at (Fork' v cut p below above) s = if nat_le (number_of s v) cut then value_at below s else value_at above s
+value_at (Fork v cut below above) s = if nat_le (number_of s v) cut then value_at below s else value_at above s
 
 -- the least number of a variable that goes the scenario's way
 abbrev pub low_at : {T : Type 0} → TreeNode T → Scenario → ℕ → ℕ
 low_at (Leaf x) s v = 0
-low_at (Fork' u cut p below above) s v = if nat_le (number_of s u) cut then low_at below s v else
+low_at (Fork u cut below above) s v = if nat_le (number_of s u) cut then low_at below s v else
     if u == v then max (cut + 1) (low_at above s v) else low_at above s v
 
 -- the greatest number of a variable that goes the scenario's way
 abbrev pub high_at : {T : Type 0} → ℕ → TreeNode T → Scenario → ℕ → ℕ
 high_at k (Leaf x) s v = top k v
-high_at k (Fork' u cut p below above) s v = if nat_le (number_of s u) cut
+high_at k (Fork u cut below above) s v = if nat_le (number_of s u) cut
     then (if u == v then min cut (high_at k below s v) else high_at k below s v) else high_at k above s v
 
 -- each side of each fork is met by some scenario of the space that comes there
 abbrev pub IsFit : {T : Type 0} → Space → TreeNode T → Type 0
 IsFit room (Leaf x) = Unit {0}
-IsFit room (Fork' v cut p below above) = (v < 256) × (is_open_below room v cut ≡ true) × (is_open_above room v cut ≡ true) ×
+IsFit room (Fork v cut below above) = (v < 256) × (is_open_below room v cut ≡ true) × (is_open_above room v cut ≡ true) ×
     IsFit (below_cut room v cut) below × IsFit (above_cut room v cut) above
 
 -- each side of each fork is met by some scenario of at most k faults that comes there
@@ -35,9 +35,9 @@ IsGood k node = (room : Space) × IsWhole k room × IsFit room node
 -- each fork is on a variable that passes a test
 abbrev pub DoForksPass : {T : Type 0} → (ℕ → Bool) → TreeNode T → Type 0
 DoForksPass test (Leaf x) = Unit {0}
-DoForksPass test (Fork' v cut p below above) = (test v ≡ true) × DoForksPass test below × DoForksPass test above
+DoForksPass test (Fork v cut below above) = (test v ≡ true) × DoForksPass test below × DoForksPass test above
 
 -- each cut leaves numbers above it
 abbrev pub HasCuts : {T : Type 0} → ℕ → TreeNode T → Type 0
 HasCuts k (Leaf x) = Unit {0}
-HasCuts k (Fork' v cut p below above) = (v < 256) × (cut < top k v) × HasCuts k below × HasCuts k above
+HasCuts k (Fork v cut below above) = (v < 256) × (cut < top k v) × HasCuts k below × HasCuts k above

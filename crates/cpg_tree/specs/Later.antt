@@ -1,6 +1,6 @@
 -- Times that are later.
 use Rattle.std.specs.Prelude.{ℕ, ◌≡◌, ◌+◌, ◌-◌, ◌^◌, max, min, Option, Some, unwrap_or}
-use Rattle.cpg_tree.specs.declared.node.TreeNode.{TreeNode, Leaf, Fork'}
+use Rattle.cpg_tree.specs.TreeNode.{TreeNode, Leaf, Fork}
 
 -- a time or 0, later by a delay, as far as there are numbers
 abbrev pub time_later : ℕ → Option ℕ → ℕ
@@ -9,4 +9,4 @@ time_later delay time = min (unwrap_or time 0 + delay) (2 ^ 64 - 1)
 -- each leaf is a time of at least this
 abbrev pub IsAtLeast : ℕ → TreeNode (Option ℕ) → Type 0
 IsAtLeast least (Leaf x) = x ≡ Some (max (time_later 0 x) least)
-IsAtLeast least (Fork' v cut p below above) = IsAtLeast least below × IsAtLeast least above
+IsAtLeast least (Fork v cut below above) = IsAtLeast least below × IsAtLeast least above

@@ -1,3 +1,4 @@
+pub mod TreeNode
 pub mod Asked
 pub mod Space
 pub mod Decision
@@ -7,5 +8,9 @@ pub mod Tree
 pub mod Variables
 pub mod Greater
 pub mod Bounds
+pub mod AddedInBoth
 pub mod Later
 pub mod Read
+pub mod Flat
+pub mod ReadBack
+pub mod Added

@@ -3,7 +3,7 @@ use Rattle.std.specs.Prelude.{ℕ, ◌+◌, List, [], ◌∷◌, ◌++◌}
 use Rattle.cpg_cube.specs.declared.literal.Literal.{Literal}
 use Rattle.cpg_base.specs.Variable.{top}
 use Rattle.cpg_cube.specs.Narrow.{narrowed_by}
-use Rattle.cpg_tree.specs.declared.node.TreeNode.{TreeNode, Leaf, Fork'}
+use Rattle.cpg_tree.specs.TreeNode.{TreeNode, Leaf, Fork}
 
 -- the numbers up to a cut
 abbrev pub up_to : ℕ → ℕ → Literal
@@ -16,7 +16,7 @@ above k v cut = record { variable = v; low = cut + 1; high = top k v }
 -- the paths on from a cube
 abbrev pub paths_from : {T : Type 0} → ℕ → List Literal → TreeNode T → List (List Literal × T)
 paths_from k cube (Leaf x) = (cube, x) ∷ []
-paths_from k cube (Fork' v cut p lower upper) = paths_from k (narrowed_by (up_to v cut) cube) lower ++ paths_from k (narrowed_by (above k v cut) cube) upper
+paths_from k cube (Fork v cut lower upper) = paths_from k (narrowed_by (up_to v cut) cube) lower ++ paths_from k (narrowed_by (above k v cut) cube) upper
 
 -- all paths
 abbrev pub paths_of : {T : Type 0} → ℕ → TreeNode T → List (List Literal × T)

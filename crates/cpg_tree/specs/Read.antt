@@ -1,13 +1,13 @@
 -- Trees whose leaves are read as numbers.
 use Rattle.std.specs.Prelude.{ℕ, Option, map}
-use Rattle.cpg_tree.specs.declared.node.TreeNode.{TreeNode, Leaf, Fork'}
+use Rattle.cpg_tree.specs.TreeNode.{TreeNode, Leaf, Fork}
 use Rattle.cpg_tree.specs.Later.{time_later}
 use Rattle.cpg_tree.specs.Tree.{Path, TreeState}
 
 -- the same forks with the number of each leaf
 abbrev pub read_by : {T : Type 0} → (T → ℕ) → TreeNode T → TreeNode ℕ
 read_by number (Leaf x) = Leaf (number x)
-read_by number (Fork' v cut p below above) = Fork' v cut p (read_by number below) (read_by number above)
+read_by number (Fork v cut below above) = Fork v cut (read_by number below) (read_by number above)
 
 -- a path with its time or 0, later by a delay
 abbrev pub later_path : ℕ → Path (Option ℕ) → Path ℕ

@@ -1,11 +1,11 @@
 -- Trees of the number of one variable, as they are made.
-use Rattle.std.specs.Prelude.{ℕ, ◌+◌, ◌≡◌, ◌≢◌, ◌≤◌, Bool, ◌&&◌, ◌||◌, nat_lt, nat_le, length, get_or}
+use Rattle.std.specs.Prelude.{ℕ, ◌+◌, ◌≡◌, ◌≢◌, ◌≤◌, Bool, true, ◌&&◌, ◌||◌, nat_lt, nat_le, length, get_or}
 use Rattle.cpg_base.specs.Graph.{Graph, process_count, condition_count, value_variable}
 use Rattle.cpg_base.specs.Scenario.{number_of_value, Scenario, number_of}
 use Rattle.cpg_base.specs.Variable.{top}
-use Rattle.cpg_tree.specs.declared.node.TreeNode.{TreeNode}
-use Rattle.cpg_tree.specs.Space.{Space}
-use Rattle.cpg_tree.specs.Decision.{value_at, low_at, high_at}
+use Rattle.cpg_tree.specs.TreeNode.{TreeNode}
+use Rattle.cpg_tree.specs.Space.{Space, IsWhole}
+use Rattle.cpg_tree.specs.Decision.{value_at, low_at, high_at, DoForksPass, IsFit}
 
 -- no forks on other variables
 pub record ForksOnly {T : Type 0} (v : ℕ) (node : TreeNode T) : Type 0 where
@@ -24,10 +24,22 @@ pub record LeavesCounts (room : Space) (p first k : ℕ) : Type 0 where
   pub high : get_or room.high p 0 ≡ k
   pub left : first + room.left ≡ k
 
+-- a tree of these counts
+pub record IsCounted (p first k : ℕ) (r : TreeNode ℕ) : Type 0 where
+  pub counts : AreCountsFrom p first k r
+  pub fit : (room : Space) → LeavesCounts room p first k → IsFit room r
+  pub pass : (test : ℕ → Bool) → test p ≡ true → DoForksPass test r
+
 -- the value of a condition
 pub record IsValueNode (v : ℕ) (node : TreeNode Bool) : Type 0 where
   pub value : (s : Scenario) → number_of s v ≤ 1 → number_of_value (value_at node s) ≡ number_of s v
   pub only : ForksOnly v node
+
+-- a tree of this value
+pub record IsValued (v : ℕ) (r : TreeNode Bool) : Type 0 where
+  pub value : IsValueNode v r
+  pub fit : (k : ℕ) (room : Space) → IsWhole k room → IsFit room r
+  pub pass : (test : ℕ → Bool) → test v ≡ true → DoForksPass test r
 
 -- whether a number is a variable of the graph
 abbrev pub is_variable : Graph → ℕ → Bool

@@ -1,9 +1,12 @@
 //! The least and the greatest number below each fork of a tree whose leaves are read as numbers.
-ghost use Rattle.std.specs.Prelude.{◌≡◌, ◌++◌, max, min, nat_le, IfOk};
-ghost use Rattle.cpg_tree.specs.Bounds.{AreAbove, AreBelow, bounds_in, span_in};
+ghost use Rattle.std.specs.Prelude.{◌≡◌, ◌++◌, ℕ, max, min, nat_le, IfOk};
+ghost use Rattle.cpg_tree.specs.Bounds.{AreSides, IsBounded, bounds_in, span_in};
+ghost use Rattle.cpg_tree.specs.Flat.{IsFlat, flat};
+ghost use Rattle.cpg_tree.specs.TreeNode.{TreeNode, Fork};
 
-use crate::node::TreeNode;
+use crate::item::TreeItem;
 use crate::reading::Reading;
+use crate::top::{Top, top_of};
 use cpg_base::OutOfMemory;
 
 /// The least and the greatest number of a tree.
@@ -13,16 +16,9 @@ pub(crate) struct Span {
     most: u64,
 }
 
-/// The numbers below a fork, and how many forks its side below has.
-#[derive(Clone, Copy)]
-pub(crate) struct Bound {
-    span: Span,
-    forks: usize,
-}
-
 impl Span {
     /// The span of one number.
-    fn of(number: u64) -> Span
+    pub(crate) fn of(number: u64) -> Span
         ensures { result ≡ record { least = number; most = number } }
     {
         Span {
@@ -49,81 +45,79 @@ impl Span {
     }
 }
 
-/// The bounds of a fork's side below, among those of the fork.
-pub(crate) fn bounds_below(bounds: &[Bound]) -> &[Bound]
-    ensures { AreBelow bounds.now result.now }
-{
-    let Some((fork, sides)) = bounds.split_last() else {
-        return bounds;
-    };
-    sides.split_at(fork.forks.min(sides.len())).0
+/// The items of a tree, and the span of each fork in the order of the items.
+#[derive(Clone, Copy)]
+pub(crate) struct BoundedTree<'a, T> {
+    pub(crate) items: &'a [TreeItem<T>],
+    pub(crate) bounds: &'a [Span],
 }
 
-/// The bounds of a fork's side above, among those of the fork.
-pub(crate) fn bounds_above(bounds: &[Bound]) -> &[Bound]
-    ensures { AreAbove bounds.now result.now }
+/// The spans of the forks of both sides of a fork, of which the side below has so many.
+fn bounds_of_sides(bounds: &[Span], forks: usize) -> (&[Span], &[Span])
+    ensures { AreSides bounds.now forks result.0.now result.1.now }
 {
-    let Some((fork, sides)) = bounds.split_last() else {
-        return bounds;
+    let Some((_, sides)) = bounds.split_last() else {
+        return (bounds, bounds);
     };
-    sides.split_at(fork.forks.min(sides.len())).1
+    sides.split_at(forks.min(sides.len()))
 }
 
-impl<T: Copy> TreeNode<T> {
-    /// Adds a bound of each fork, behind those of its sides; the least and the greatest number.
-    #[cycle(push_bounds)]
-    #[inline]
-    pub(crate) fn push_bounds<R: Reading<T>>(
-        &self,
-        read: &R,
-        bounds: &mut Vec<Bound>,
-    ) -> Result<Span, OutOfMemory>
-        ensures bounds { IfOk result (λ _. bounds.new.items ≡ bounds.old.items ++ bounds_in (R.number read.now) self.now) }
-        ensures span { IfOk result (λ r. r ≡ span_in (R.number read.now) self.now) }
-    {
-        if let TreeNode::Leaf(value) = self {
-            return Ok(Span::of(read.number(*value)));
-        }
-        self.push_fork_bounds(read, bounds)
-    }
+/// The sides of a fork, by the spans of the whole.
+pub(crate) fn sides<'a, T: Copy>(
+    bounds: &'a [Span],
+    below: &'a [TreeItem<T>],
+    above: &'a [TreeItem<T>],
+) -> (BoundedTree<'a, T>, BoundedTree<'a, T>)
+    ensures below { result.0.items.now ≡ below.now }
+    ensures above { result.1.items.now ≡ above.now }
+    ensures bounds { (number : T → ℕ) (v cut : ℕ) (x y : TreeNode T) → below.now ≡ flat x → bounds.now ≡ bounds_in number (Fork v cut x y) →
+        (result.0.bounds.now ≡ bounds_in number x) × (result.1.bounds.now ≡ bounds_in number y) }
+{
+    let (low, high) = bounds_of_sides(bounds, below.len() / 2);
+    (
+        BoundedTree {
+            items: below,
+            bounds: low,
+        },
+        BoundedTree {
+            items: above,
+            bounds: high,
+        },
+    )
+}
 
-    /// As `push_bounds`, of a tree that is a fork: a function of its own, since a call of it takes longer than a leaf.
-    #[cycle(push_bounds)]
-    #[inline(never)]
-    fn push_fork_bounds<R: Reading<T>>(
-        &self,
-        read: &R,
-        bounds: &mut Vec<Bound>,
-    ) -> Result<Span, OutOfMemory>
-        ensures bounds { IfOk result (λ _. bounds.new.items ≡ bounds.old.items ++ bounds_in (R.number read.now) self.now) }
-        ensures span { IfOk result (λ r. r ≡ span_in (R.number read.now) self.now) }
-    {
-        match self {
-            TreeNode::Leaf(value) => Ok(Span::of(read.number(*value))),
-            TreeNode::Fork { sides, .. } => {
-                let (below, above) = &**sides;
-                let before = bounds.len();
-                let low = below.push_bounds(read, bounds)?;
-                let forks = bounds.len() - before;
-                let high = above.push_bounds(read, bounds)?;
-                let span = low.with(high);
-                bounds.push(Bound { span, forks })?;
-                Ok(span)
-            }
+/// Adds the span of each fork behind those of its sides; the span of the tree.
+pub(crate) fn push_bounds<T: Copy, R: Reading<T>>(
+    items: &[TreeItem<T>],
+    read: &R,
+    bounds: &mut Vec<Span>,
+) -> Result<Span, OutOfMemory>
+    requires { IsFlat items.now }
+    ensures bounds { IfOk result (λ _. (n : TreeNode T) → items.now ≡ flat n → bounds.new.items ≡ bounds.old.items ++ bounds_in (R.number read.now) n) }
+    ensures span { IfOk result (λ r. (n : TreeNode T) → items.now ≡ flat n → r ≡ span_in (R.number read.now) n) }
+{
+    match top_of(items) {
+        Top::Value(value) => Ok(Span::of(read.number(value))),
+        Top::Cut { below, above, .. } => {
+            let low = push_bounds(below, read, bounds)?;
+            let high = push_bounds(above, read, bounds)?;
+            let span = low.with(high);
+            bounds.push(span)?;
+            Ok(span)
         }
     }
+}
 
-    /// The least and the greatest number, by the bounds of the forks.
-    pub(crate) fn span<R: Reading<T>>(&self, read: &R, bounds: &[Bound]) -> Span
-        requires { bounds.now ≡ bounds_in (R.number read.now) self.now }
-        ensures { result ≡ span_in (R.number read.now) self.now }
-    {
-        match self {
-            TreeNode::Leaf(value) => Span::of(read.number(*value)),
-            TreeNode::Fork { .. } => match bounds.last() {
-                Some(bound) => bound.span,
-                None => unreachable!(),
-            },
-        }
+/// The least and the greatest number.
+pub(crate) fn span_of<T: Copy, R: Reading<T>>(tree: BoundedTree<'_, T>, read: &R) -> Span
+    requires { IsBounded (R.number read.now) tree.items.now tree.bounds.now }
+    ensures { (n : TreeNode T) → tree.entry.items.now ≡ flat n → result ≡ span_in (R.number read.now) n }
+{
+    match tree.bounds.split_last() {
+        Some((span, _)) => *span,
+        None => match top_of(tree.items) {
+            Top::Value(value) => Span::of(read.number(value)),
+            Top::Cut { .. } => unreachable!(),
+        },
     }
 }

@@ -1,87 +1,82 @@
 //! The greater of two trees where a chooser is true.
-ghost use Rattle.std.specs.Prelude.{◌≡◌, max, ℕ, Bool, All, IfOk, true};
-ghost use Rattle.cpg_tree.specs.Asked.{LiesInBoth};
-ghost use Rattle.cpg_tree.specs.Bounds.{bounds_in};
-ghost use Rattle.cpg_tree.specs.Decision.{DoForksPass, IsFit};
-ghost use Rattle.cpg_tree.specs.Results.{IsJoinWhereOf};
+ghost use Rattle.std.specs.Prelude.{◌≡◌, ◌≤◌, max, ℕ, Bool, All, IfOk, true, vec_len};
+ghost use Rattle.cpg_tree.specs.Added.{Adds};
+ghost use Rattle.cpg_tree.specs.AddedInBoth.{IsJoinedWhere};
+ghost use Rattle.cpg_tree.specs.Bounds.{IsBounded};
+ghost use Rattle.cpg_tree.specs.Flat.{IsFlat, flat};
 ghost use Rattle.cpg_tree.specs.Tree.{DoPathsPass, HasOnePathEach, IsJoinWhere, IsTidyPath};
+ghost use Rattle.cpg_tree.specs.TreeNode.{TreeNode};
 
 use crate::Tree;
 use crate::asked::Rooms;
-use crate::greater::{BoundedTree, Greater};
-use crate::node::TreeNode;
+use crate::bounds::{BoundedTree, push_bounds};
+use crate::fork::fork;
+use crate::greater::{Greater, greater_by};
+use crate::item::TreeItem;
 use crate::reading::Reading;
 use crate::space::Space;
+use crate::top::{Top, top_of};
 use cpg_base::OutOfMemory;
-use std::alloc::Global;
 
-/// Two trees with the bounds of their forks.
+/// Two trees with the spans of their forks.
 #[derive(Clone, Copy)]
 pub(crate) struct TreePair<'a, T, U> {
     pub(crate) own: BoundedTree<'a, T>,
     pub(crate) other: BoundedTree<'a, U>,
 }
 
-impl TreeNode<bool> {
-    /// In each scenario of two spaces what is made of the greater number of two trees where this one is true, and else one value.
-    /// Only what is asked for is narrowed on the way, so that the answer has the forks of the two trees' answer in the whole space.
-    pub(crate) fn greater_where<
-        T: Copy,
-        U: Copy,
-        V: Copy + Eq,
-        R: Reading<T>,
-        S: Reading<U>,
-        F: Fn(u64) -> V,
-    >(
-        &self,
-        alloc: Global,
-        rooms: &mut Rooms,
-        pair: &TreePair<'_, T, U>,
-        how: &Greater<'_, R, S, F>,
-        none: V,
-    ) -> Result<TreeNode<V>, OutOfMemory>
-        requires callable { F.IsAlwaysCallable how.now.made.now }
-        requires equal { (x y : V) → V.eq x y ≡ true → x ≡ y }
-        requires own { pair.now.own.bounds.now ≡ bounds_in (R.number how.now.read.now) pair.now.own.node.now }
-        requires others { pair.now.other.bounds.now ≡ bounds_in (S.number how.now.other_reading.now) pair.now.other.node.now }
-        ensures made { IfOk result (IsJoinWhereOf
-            (λ x y z. F.post how.now.made.now (max (R.number how.now.read.now x) (S.number how.now.other_reading.now y)) z)
-            none (LiesInBoth rooms.old) self.now pair.now.own.node.now pair.now.other.node.now) }
-        ensures back { IfOk result (λ _. rooms.new ≡ rooms.old) }
-        ensures fit { IfOk result (IsFit rooms.old.asked) }
-        ensures pass { IfOk result (λ r. (test : ℕ → Bool) → DoForksPass test self.now → DoForksPass test pair.now.own.node.now →
-            DoForksPass test pair.now.other.node.now → DoForksPass test r) }
-    {
-        match self {
-            TreeNode::Leaf(is_on) => {
-                if *is_on {
-                    let own = pair.own;
-                    own.node
-                        .greater_by(alloc, rooms, own.bounds, pair.other, how)
-                } else {
-                    Ok(TreeNode::Leaf(none))
-                }
+/// Adds what is made of the greater number of two trees where a chooser is true, and else one value, in the scenarios of two
+/// spaces. Only what is asked for is narrowed on the way, so that the answer has the forks of the two trees' answer in the
+/// whole space.
+fn greater_where<T: Copy, U: Copy, V: Copy + Eq, R: Reading<T>, S: Reading<U>, F: Fn(u64) -> V>(
+    chooser: &[TreeItem<bool>],
+    pair: &TreePair<'_, T, U>,
+    rooms: &mut Rooms,
+    how: &Greater<'_, R, S, F>,
+    none: V,
+    out: &mut Vec<TreeItem<V>>,
+) -> Result<(), OutOfMemory>
+    requires callable { F.IsAlwaysCallable how.now.made.now }
+    requires equal { (x y : V) → V.eq x y ≡ true → x ≡ y }
+    requires flat { IsFlat chooser.now }
+    requires own { IsBounded (R.number how.now.read.now) pair.now.own.items.now pair.now.own.bounds.now }
+    requires others { IsBounded (S.number how.now.other_reading.now) pair.now.other.items.now pair.now.other.bounds.now }
+    ensures long { IfOk result (λ _. vec_len out.old ≤ vec_len out.new) }
+    ensures back { IfOk result (λ _. rooms.new ≡ rooms.old) }
+    ensures made { IfOk result (λ _. (c : TreeNode Bool) (n : TreeNode T) (m : TreeNode U) → chooser.now ≡ flat c → pair.now.own.items.now ≡ flat n →
+        pair.now.other.items.now ≡ flat m →
+        Adds (IsJoinedWhere (λ x y z. F.post how.now.made.now (max (R.number how.now.read.now x) (S.number how.now.other_reading.now y)) z) none rooms.old c n m)
+        out.old.items out.new.items) }
+{
+    match top_of(chooser) {
+        Top::Value(is_on) => {
+            if is_on {
+                return greater_by(pair.own, pair.other, rooms, how, out);
             }
-            TreeNode::Fork {
-                variable,
-                cut,
-                sides,
-            } => {
-                let (below, above) = &**sides;
-                if !rooms.asked.is_open_below(*variable, *cut) {
-                    return above.greater_where(alloc, rooms, pair, how, none);
-                }
-                if !rooms.asked.is_open_above(*variable, *cut) {
-                    return below.greater_where(alloc, rooms, pair, how, none);
-                }
-                let highs = rooms.ask_below(*variable, *cut);
-                let low = below.greater_where(alloc, rooms, pair, how, none)?;
-                rooms.reopen_above(*variable, highs);
-                let lows = rooms.ask_above(*variable, *cut);
-                let high = above.greater_where(alloc, rooms, pair, how, none)?;
-                rooms.reopen_below(*variable, lows);
-                TreeNode::fork(alloc, *variable, *cut, low, high)
+            out.push(TreeItem::Value(none))?;
+            Ok(())
+        }
+        Top::Cut {
+            variable,
+            cut,
+            below,
+            above,
+        } => {
+            if !rooms.asked.is_open_below(variable, cut) {
+                return greater_where(above, pair, rooms, how, none, out);
             }
+            if !rooms.asked.is_open_above(variable, cut) {
+                return greater_where(below, pair, rooms, how, none, out);
+            }
+            let start = out.len();
+            let highs = rooms.ask_below(variable, cut);
+            greater_where(below, pair, rooms, how, none, out)?;
+            rooms.reopen_above(variable, highs);
+            let middle = out.len();
+            let lows = rooms.ask_above(variable, cut);
+            greater_where(above, pair, rooms, how, none, out)?;
+            rooms.reopen_below(variable, lows);
+            fork(out, start, middle, variable, cut)
         }
     }
 }
@@ -117,20 +112,21 @@ impl Tree<bool> {
             DoPathsPass test other.now.paths → DoPathsPass test t.paths) }
     {
         let alloc = self.alloc();
-        let node = tree.root();
-        let other_node = other.root();
+        let own_items = tree.items();
+        let other_items = other.items();
+        // one list for both takes fewer and larger blocks than two
         let mut bounds = Vec::new(alloc);
-        node.push_bounds(read, &mut bounds)?;
+        push_bounds(own_items, read, &mut bounds)?;
         let forks = bounds.len();
-        other_node.push_bounds(also, &mut bounds)?;
+        push_bounds(other_items, also, &mut bounds)?;
         let (own_bounds, other_bounds) = bounds.split_at(forks);
         let pair = TreePair {
             own: BoundedTree {
-                node,
+                items: own_items,
                 bounds: own_bounds,
             },
             other: BoundedTree {
-                node: other_node,
+                items: other_items,
                 bounds: other_bounds,
             },
         };
@@ -145,9 +141,8 @@ impl Tree<bool> {
             asked: space,
             walked: space,
         };
-        let root = self
-            .root()
-            .greater_where(alloc, &mut rooms, &pair, &how, none)?;
-        Tree::of(alloc, faults, root)
+        let mut items = Vec::new(alloc);
+        greater_where(self.items(), &pair, &mut rooms, &how, none, &mut items)?;
+        Ok(Tree::of(alloc, faults, items))
     }
 }

@@ -1,19 +1,23 @@
 //! The greater of two trees whose leaves are read as numbers.
-ghost use Rattle.std.specs.Prelude.{◌≡◌, max, ℕ, Bool, IfOk, true};
-ghost use Rattle.cpg_tree.specs.Results.{IsWithin, IsFillOf, IsJoinIn, IsJoinOf};
-ghost use Rattle.cpg_base.specs.Scenario.{Scenario};
-ghost use Rattle.cpg_tree.specs.Asked.{LiesInBoth};
-ghost use Rattle.cpg_tree.specs.Space.{Lies};
-ghost use Rattle.cpg_tree.specs.Decision.{DoForksPass, IsFit, value_at};
-ghost use Rattle.cpg_tree.specs.Bounds.{bounds_in};
+ghost use Rattle.std.specs.Prelude.{◌≡◌, ◌≤◌, max, ℕ, Bool, All, IfOk, true, vec_len};
+ghost use Rattle.cpg_tree.specs.Added.{Adds, IsFilled, IsJoined};
+ghost use Rattle.cpg_tree.specs.AddedInBoth.{BoundedPartIs, IsJoinedIn};
+ghost use Rattle.cpg_tree.specs.Bounds.{IsBounded, bounds_in};
+ghost use Rattle.cpg_tree.specs.Flat.{IsFlat, flat};
+ghost use Rattle.cpg_tree.specs.Later.{time_later};
+ghost use Rattle.cpg_tree.specs.Tree.{DoPathsPass, HasOnePathEach, IsJoin, IsTidyPath};
+ghost use Rattle.cpg_tree.specs.TreeNode.{TreeNode};
 
+use crate::Tree;
 use crate::asked::{Rooms, Way};
-use crate::bounds::{Bound, bounds_above, bounds_below};
-use crate::node::TreeNode;
-use crate::reading::Reading;
+use crate::bounds::{BoundedTree, push_bounds, sides, span_of};
+use crate::fork::fork;
+use crate::item::TreeItem;
+use crate::join::fill_items;
+use crate::reading::{AsIs, Later, Reading};
 use crate::space::Space;
+use crate::top::{Top, top_of};
 use cpg_base::OutOfMemory;
-use std::alloc::Global;
 
 /// How the leaves of two trees are read as numbers, and what is made of the greater one.
 #[derive(Clone, Copy)]
@@ -23,213 +27,252 @@ pub(crate) struct Greater<'a, R, S, F> {
     pub(crate) made: &'a F,
 }
 
-/// A tree with the bounds of its forks.
-#[derive(Clone, Copy)]
-pub(crate) struct BoundedTree<'a, T> {
-    pub(crate) node: &'a TreeNode<T>,
-    pub(crate) bounds: &'a [Bound],
+/// The part of a tree that all scenarios of a space come to.
+fn bounded_part<'a, T: Copy>(tree: BoundedTree<'a, T>, space: &Space) -> BoundedTree<'a, T>
+    requires { IsFlat tree.items.now }
+    ensures part { (n : TreeNode T) → tree.entry.items.now ≡ flat n → BoundedPartIs space.now n tree.entry.bounds.now result.items.now result.bounds.now }
+    ensures flat { IsFlat result.items.now }
+{
+    match top_of(tree.items) {
+        Top::Value(_) => tree,
+        Top::Cut {
+            variable,
+            cut,
+            below,
+            above,
+        } => {
+            if !space.is_open_below(variable, cut) {
+                return bounded_part(sides(tree.bounds, below, above).1, space);
+            }
+            if !space.is_open_above(variable, cut) {
+                return bounded_part(sides(tree.bounds, below, above).0, space);
+            }
+            tree
+        }
+    }
 }
 
-impl<T: Copy> TreeNode<T> {
-    /// The part of the tree that a space comes to: without the forks at the top of which it closes a side.
-    fn part<'a>(&'a self, bounds: &'a [Bound], space: &Space) -> BoundedTree<'a, T>
-        ensures same { IsWithin space.now self.now result.node.now }
-        ensures pass { (test : ℕ → Bool) → DoForksPass test self.now → DoForksPass test result.node.now }
-        ensures bounds { (number : T → ℕ) → bounds.now ≡ bounds_in number self.now → result.bounds.now ≡ bounds_in number result.node.now }
-    {
-        match self {
-            TreeNode::Leaf(_) => BoundedTree { node: self, bounds },
-            TreeNode::Fork {
-                variable,
-                cut,
-                sides,
-            } => {
-                let (below, above) = &**sides;
-                if !space.is_open_below(*variable, *cut) {
-                    return above.part(bounds_above(bounds), space);
+/// Adds what is made of a value or the tree's number, whichever is greater, for the scenarios of a space.
+pub(crate) fn at_least<T: Copy, V: Copy + Eq, R: Reading<T>, F: Fn(u64) -> V>(
+    items: &[TreeItem<T>],
+    space: &mut Space,
+    value: u64,
+    read: &R,
+    made: &F,
+    out: &mut Vec<TreeItem<V>>,
+) -> Result<(), OutOfMemory>
+    requires callable { F.IsAlwaysCallable made.now }
+    requires equal { (x y : V) → V.eq x y ≡ true → x ≡ y }
+    requires flat { IsFlat items.now }
+    ensures long { IfOk result (λ _. vec_len out.old ≤ vec_len out.new) }
+    ensures back { IfOk result (λ _. space.new ≡ space.old) }
+    ensures made { IfOk result (λ _. (n : TreeNode T) → items.now ≡ flat n →
+        Adds (IsFilled (λ x y z. F.post made.now (max x (R.number read.now y)) z) space.old value n) out.old.items out.new.items) }
+{
+    fill_items(
+        items,
+        space,
+        value,
+        &|first: u64, second: T| made(first.max(read.number(second))),
+        out,
+    )
+}
+
+/// Adds what is made of the greater number of two trees in the scenarios of two spaces. If one is at least the other everywhere,
+/// nothing of the other is tested. What is asked for is the first space alone: the second is what the forks on the way have
+/// left, so that the answer has the forks that it has in the whole space.
+pub(crate) fn greater_by<
+    T: Copy,
+    U: Copy,
+    V: Copy + Eq,
+    R: Reading<T>,
+    S: Reading<U>,
+    F: Fn(u64) -> V,
+>(
+    own: BoundedTree<'_, T>,
+    other: BoundedTree<'_, U>,
+    rooms: &mut Rooms,
+    how: &Greater<'_, R, S, F>,
+    out: &mut Vec<TreeItem<V>>,
+) -> Result<(), OutOfMemory>
+    requires callable { F.IsAlwaysCallable how.now.made.now }
+    requires equal { (x y : V) → V.eq x y ≡ true → x ≡ y }
+    requires own { IsBounded (R.number how.now.read.now) own.items.now own.bounds.now }
+    requires others { IsBounded (S.number how.now.other_reading.now) other.items.now other.bounds.now }
+    ensures long { IfOk result (λ _. vec_len out.old ≤ vec_len out.new) }
+    ensures back { IfOk result (λ _. rooms.new ≡ rooms.old) }
+    ensures made { IfOk result (λ _. (n : TreeNode T) (m : TreeNode U) → own.entry.items.now ≡ flat n → other.entry.items.now ≡ flat m →
+        Adds (IsJoinedIn (λ x y z. F.post how.now.made.now (max (R.number how.now.read.now x) (S.number how.now.other_reading.now y)) z) rooms.old n m)
+        out.old.items out.new.items) }
+{
+    let other = bounded_part(other, &rooms.walked);
+    let own_span = span_of(own, how.read);
+    let other_span = span_of(other, how.other_reading);
+    if own_span.is_at_least(other_span) {
+        return at_least(own.items, &mut rooms.asked, 0, how.read, how.made, out);
+    }
+    if other_span.is_at_least(own_span) {
+        return at_least(
+            other.items,
+            &mut rooms.asked,
+            0,
+            how.other_reading,
+            how.made,
+            out,
+        );
+    }
+    match top_of(own.items) {
+        Top::Value(value) => {
+            let number = how.read.number(value);
+            at_least(
+                other.items,
+                &mut rooms.asked,
+                number,
+                how.other_reading,
+                how.made,
+                out,
+            )
+        }
+        Top::Cut {
+            variable,
+            cut,
+            below,
+            above,
+        } => {
+            let (below, above) = sides(own.bounds, below, above);
+            match rooms.way(variable, cut) {
+                Way::Above(lows) => {
+                    greater_by(above, other, rooms, how, out)?;
+                    rooms.reopen_below(variable, lows);
+                    Ok(())
                 }
-                if !space.is_open_above(*variable, *cut) {
-                    return below.part(bounds_below(bounds), space);
+                Way::Below(highs) => {
+                    greater_by(below, other, rooms, how, out)?;
+                    rooms.reopen_above(variable, highs);
+                    Ok(())
                 }
-                BoundedTree { node: self, bounds }
+                Way::Both => {
+                    let start = out.len();
+                    let highs = rooms.close_above(variable, cut);
+                    greater_by(below, other, rooms, how, out)?;
+                    rooms.reopen_above(variable, highs);
+                    let middle = out.len();
+                    let lows = rooms.close_below(variable, cut);
+                    greater_by(above, other, rooms, how, out)?;
+                    rooms.reopen_below(variable, lows);
+                    fork(out, start, middle, variable, cut)
+                }
             }
         }
     }
-
-    /// As `part`, without bounds.
-    pub fn part_in(&self, space: &Space) -> &TreeNode<T>
-        ensures value { (s : Scenario) → Lies space.now s → value_at result.now s ≡ value_at self.now s }
-        ensures same { IsWithin space.now self.now result.now }
-        ensures pass { (test : ℕ → Bool) → DoForksPass test self.now → DoForksPass test result.now }
-    {
-        self.part(&[], space).node
-    }
-
-    /// In each scenario of a space a value or the tree's number, whichever is greater.
-    pub(crate) fn at_least<R: Reading<T>>(
-        &self,
-        alloc: Global,
-        space: &mut Space,
-        value: u64,
-        read: &R,
-    ) -> Result<TreeNode<u64>, OutOfMemory>
-        ensures made { IfOk result (IsFillOf (λ x y z. z ≡ max x (R.number read.now y)) space.old value self.now) }
-        ensures back { IfOk result (λ _. space.new ≡ space.old) }
-        ensures fit { IfOk result (IsFit space.old) }
-        ensures pass { IfOk result (λ r. (test : ℕ → Bool) → DoForksPass test self.now → DoForksPass test r) }
-    {
-        self.fill(
-            alloc,
-            space,
-            value,
-            &|first: u64, second: T| first.max(read.number(second)),
-        )
-    }
 }
 
-impl<T: Copy> TreeNode<T> {
-    /// In each scenario of a space what is made of a value or the tree's number, whichever is greater.
-    fn made_at_least<V: Copy + Eq, R: Reading<T>, F: Fn(u64) -> V>(
+/// Adds what is made of the greater number of two trees in the scenarios of a space.
+pub(crate) fn greater_items<
+    T: Copy,
+    U: Copy,
+    V: Copy + Eq,
+    R: Reading<T>,
+    S: Reading<U>,
+    F: Fn(u64) -> V,
+>(
+    own: &[TreeItem<T>],
+    other: &[TreeItem<U>],
+    space: &mut Space,
+    how: &Greater<'_, R, S, F>,
+    out: &mut Vec<TreeItem<V>>,
+) -> Result<(), OutOfMemory>
+    requires callable { F.IsAlwaysCallable how.now.made.now }
+    requires equal { (x y : V) → V.eq x y ≡ true → x ≡ y }
+    requires flat { IsFlat own.now }
+    requires other_flat { IsFlat other.now }
+    ensures long { IfOk result (λ _. vec_len out.old ≤ vec_len out.new) }
+    ensures made { IfOk result (λ _. (n : TreeNode T) (m : TreeNode U) → own.now ≡ flat n → other.now ≡ flat m →
+        Adds (IsJoined (λ x y z. F.post how.now.made.now (max (R.number how.now.read.now x) (S.number how.now.other_reading.now y)) z) space.old n m)
+        out.old.items out.new.items) }
+{
+    if let Top::Value(value) = top_of(own) {
+        let number = how.read.number(value);
+        return at_least(other, space, number, how.other_reading, how.made, out);
+    }
+    if let Top::Value(value) = top_of(other) {
+        let number = how.other_reading.number(value);
+        return at_least(own, space, number, how.read, how.made, out);
+    }
+    // one list for both takes fewer and larger blocks than two
+    let mut bounds = Vec::new(*out.allocator());
+    push_bounds(own, how.read, &mut bounds)?;
+    let forks = bounds.len();
+    push_bounds(other, how.other_reading, &mut bounds)?;
+    let (own_bounds, other_bounds) = bounds.split_at(forks);
+    let own = BoundedTree {
+        items: own,
+        bounds: own_bounds,
+    };
+    let other = BoundedTree {
+        items: other,
+        bounds: other_bounds,
+    };
+    let mut rooms = Rooms {
+        asked: *space,
+        walked: *space,
+    };
+    greater_by(own, other, &mut rooms, how, out)
+}
+
+impl<T: Copy> Tree<T> {
+    /// What a function makes in each scenario of the greater number of two trees whose leaves are read as numbers. If one
+    /// tree's numbers are at least the other's everywhere, nothing of the other is tested, which no clause asks for. The one
+    /// error is `OutOfMemory`.
+    pub fn greater<U: Copy, V: Copy + Eq, R: Reading<T>, S: Reading<U>, F: Fn(u64) -> V>(
         &self,
-        alloc: Global,
-        space: &mut Space,
-        value: u64,
         read: &R,
+        other: &Tree<U>,
+        also: &S,
         made: &F,
-    ) -> Result<TreeNode<V>, OutOfMemory>
+    ) -> Result<Tree<V>, OutOfMemory>
         requires callable { F.IsAlwaysCallable made.now }
         requires equal { (x y : V) → V.eq x y ≡ true → x ≡ y }
-        ensures made { IfOk result (IsFillOf (λ x y z. F.post made.now (max x (R.number read.now y)) z) space.old value self.now) }
-        ensures back { IfOk result (λ _. space.new ≡ space.old) }
-        ensures fit { IfOk result (IsFit space.old) }
-        ensures pass { IfOk result (λ r. (test : ℕ → Bool) → DoForksPass test self.now → DoForksPass test r) }
+        requires same { self.now.faults ≡ other.now.faults }
+        ensures is { IfOk result (IsJoin (λ x y z. F.post made.now (max (R.number read.now x) (S.number also.now y)) z) self.now other.now) }
+        ensures each { IfOk result (λ t. HasOnePathEach t.faults t.paths) }
+        ensures tidy { IfOk result (λ t. All (IsTidyPath t.faults) t.paths) }
+        ensures pass { IfOk result (λ t. (test : ℕ → Bool) → DoPathsPass test self.now.paths → DoPathsPass test other.now.paths → DoPathsPass test t.paths) }
     {
-        self.fill(
-            alloc,
-            space,
-            value,
-            &|first: u64, second: T| made(first.max(read.number(second))),
-        )
+        let faults = self.faults();
+        let mut space = Space::whole(faults);
+        let how = Greater {
+            read,
+            other_reading: also,
+            made,
+        };
+        let others = other.items();
+        let mut items = Vec::new(self.alloc());
+        greater_items(self.items(), others, &mut space, &how, &mut items)?;
+        Ok(Tree::of(self.alloc(), faults, items))
+    }
+}
+
+impl Tree<u64> {
+    /// In each scenario the greater value of two trees.
+    pub fn max(&self, other: &Tree<u64>) -> Result<Tree<u64>, OutOfMemory>
+        requires same { self.now.faults ≡ other.now.faults }
+        ensures is { IfOk result (IsJoin (λ x y z. z ≡ max x y) self.now other.now) }
+        ensures each { IfOk result (λ t. HasOnePathEach t.faults t.paths) }
+        ensures tidy { IfOk result (λ t. All (IsTidyPath t.faults) t.paths) }
+        ensures pass { IfOk result (λ t. (test : ℕ → Bool) → DoPathsPass test self.now.paths → DoPathsPass test other.now.paths → DoPathsPass test t.paths) }
+    {
+        self.greater(&AsIs, other, &AsIs, &|number: u64| number)
     }
 
-    /// In each scenario of two spaces what is made of the greater number of two trees with the bounds of their forks. If one
-    /// is at least the other everywhere, nothing of the other is tested. What is asked for is the first space alone: the second
-    /// is what the forks on the way have left, so that the answer has the forks that it has in the whole space.
-    pub(crate) fn greater_by<U: Copy, V: Copy + Eq, R: Reading<T>, S: Reading<U>, F: Fn(u64) -> V>(
-        &self,
-        alloc: Global,
-        rooms: &mut Rooms,
-        bounds: &[Bound],
-        other: BoundedTree<'_, U>,
-        how: &Greater<'_, R, S, F>,
-    ) -> Result<TreeNode<V>, OutOfMemory>
-        requires callable { F.IsAlwaysCallable how.now.made.now }
-        requires equal { (x y : V) → V.eq x y ≡ true → x ≡ y }
-        requires own { bounds.now ≡ bounds_in (R.number how.now.read.now) self.now }
-        requires others { other.bounds.now ≡ bounds_in (S.number how.now.other_reading.now) other.node.now }
-        ensures made { IfOk result (IsJoinIn (λ x y z. F.post how.now.made.now (max (R.number how.now.read.now x) (S.number how.now.other_reading.now y)) z)
-            (LiesInBoth rooms.old) self.now other.entry.node.now) }
-        ensures back { IfOk result (λ _. rooms.new ≡ rooms.old) }
-        ensures fit { IfOk result (IsFit rooms.old.asked) }
-        ensures pass { IfOk result (λ r. (test : ℕ → Bool) → DoForksPass test self.now → DoForksPass test other.entry.node.now → DoForksPass test r) }
+    /// In each scenario the greater of this tree's number and another's, 0 if that has none, later by a delay.
+    pub fn max_later(&self, other: &Tree<Option<u64>>, delay: u64) -> Result<Tree<u64>, OutOfMemory>
+        requires same { self.now.faults ≡ other.now.faults }
+        ensures is { IfOk result (IsJoin (λ x y z. z ≡ max x (time_later delay y)) self.now other.now) }
+        ensures each { IfOk result (λ t. HasOnePathEach t.faults t.paths) }
+        ensures tidy { IfOk result (λ t. All (IsTidyPath t.faults) t.paths) }
+        ensures pass { IfOk result (λ t. (test : ℕ → Bool) → DoPathsPass test self.now.paths → DoPathsPass test other.now.paths → DoPathsPass test t.paths) }
     {
-        let other = other.node.part(other.bounds, &rooms.walked);
-        let own = self.span(how.read, bounds);
-        let others = other.node.span(how.other_reading, other.bounds);
-        if own.is_at_least(others) {
-            return self.made_at_least(alloc, &mut rooms.asked, 0, how.read, how.made);
-        }
-        if others.is_at_least(own) {
-            return other
-                .node
-                .made_at_least(alloc, &mut rooms.asked, 0, how.other_reading, how.made);
-        }
-        match self {
-            TreeNode::Leaf(value) => {
-                let number = how.read.number(*value);
-                other.node.made_at_least(
-                    alloc,
-                    &mut rooms.asked,
-                    number,
-                    how.other_reading,
-                    how.made,
-                )
-            }
-            TreeNode::Fork {
-                variable,
-                cut,
-                sides,
-            } => {
-                let (below, above) = &**sides;
-                match rooms.way(*variable, *cut) {
-                    Way::Above(lows) => {
-                        let all = above.greater_by(alloc, rooms, bounds_above(bounds), other, how)?;
-                        rooms.reopen_below(*variable, lows);
-                        Ok(all)
-                    }
-                    Way::Below(highs) => {
-                        let all = below.greater_by(alloc, rooms, bounds_below(bounds), other, how)?;
-                        rooms.reopen_above(*variable, highs);
-                        Ok(all)
-                    }
-                    Way::Both => {
-                        let highs = rooms.close_above(*variable, *cut);
-                        let low = below.greater_by(alloc, rooms, bounds_below(bounds), other, how)?;
-                        rooms.reopen_above(*variable, highs);
-                        let lows = rooms.close_below(*variable, *cut);
-                        let high = above.greater_by(
-                            alloc,
-                            rooms,
-                            bounds_above(bounds),
-                            other,
-                            how,
-                        )?;
-                        rooms.reopen_below(*variable, lows);
-                        TreeNode::fork(alloc, *variable, *cut, low, high)
-                    }
-                }
-            }
-        }
-    }
-
-    /// In each scenario of a space what is made of the greater number of two trees.
-    pub(crate) fn greater_of<U: Copy, V: Copy + Eq, R: Reading<T>, S: Reading<U>, F: Fn(u64) -> V>(
-        &self,
-        alloc: Global,
-        space: &mut Space,
-        other: &TreeNode<U>,
-        how: &Greater<'_, R, S, F>,
-    ) -> Result<TreeNode<V>, OutOfMemory>
-        requires callable { F.IsAlwaysCallable how.now.made.now }
-        requires equal { (x y : V) → V.eq x y ≡ true → x ≡ y }
-        ensures made { IfOk result (IsJoinOf (λ x y z. F.post how.now.made.now (max (R.number how.now.read.now x) (S.number how.now.other_reading.now y)) z)
-            space.old self.now other.now) }
-        ensures back { IfOk result (λ _. space.new ≡ space.old) }
-        ensures fit { IfOk result (IsFit space.old) }
-        ensures pass { IfOk result (λ r. (test : ℕ → Bool) → DoForksPass test self.now → DoForksPass test other.now → DoForksPass test r) }
-    {
-        if let TreeNode::Leaf(value) = self {
-            let number = how.read.number(*value);
-            return other.made_at_least(alloc, space, number, how.other_reading, how.made);
-        }
-        if let TreeNode::Leaf(value) = other {
-            let number = how.other_reading.number(*value);
-            return self.made_at_least(alloc, space, number, how.read, how.made);
-        }
-        // one list for both takes fewer and larger blocks than two
-        let mut bounds = Vec::new(alloc);
-        self.push_bounds(how.read, &mut bounds)?;
-        let forks = bounds.len();
-        other.push_bounds(how.other_reading, &mut bounds)?;
-        let (own, others) = bounds.split_at(forks);
-        let other = BoundedTree {
-            node: other,
-            bounds: others,
-        };
-        let mut rooms = Rooms {
-            asked: *space,
-            walked: *space,
-        };
-        self.greater_by(alloc, &mut rooms, own, other, how)
+        self.greater(&AsIs, other, &Later { delay }, &|number: u64| number)
     }
 }

@@ -1,64 +1,71 @@
 //! What a chooser picks of a tree whose leaves are read as numbers and of a tree of numbers.
-ghost use Rattle.std.specs.Prelude.{◌≡◌, ℕ, Bool, All, IfOk};
-ghost use Rattle.cpg_tree.specs.Decision.{DoForksPass, IsFit};
+ghost use Rattle.std.specs.Prelude.{◌≡◌, ◌≤◌, ℕ, Bool, All, IfOk, vec_len};
+ghost use Rattle.cpg_tree.specs.Added.{Adds, IsPicked};
+ghost use Rattle.cpg_tree.specs.Flat.{IsFlat, flat};
 ghost use Rattle.cpg_tree.specs.Read.{later_by, read_by};
-ghost use Rattle.cpg_tree.specs.Results.{IsPickOf};
 ghost use Rattle.cpg_tree.specs.Tree.{DoPathsPass, HasOnePathEach, IsPick, IsTidyPath};
+ghost use Rattle.cpg_tree.specs.TreeNode.{TreeNode};
 
 use crate::Tree;
-use crate::node::TreeNode;
+use crate::fork::fork;
+use crate::greater::at_least;
+use crate::item::TreeItem;
+use crate::part::part_in;
+use crate::pick::within_items;
 use crate::reading::{Later, Reading};
 use crate::space::Space;
+use crate::top::{Top, top_of};
 use cpg_base::OutOfMemory;
-use std::alloc::Global;
 
-impl TreeNode<bool> {
-    /// In each scenario of a space the number of one of two trees: of the first, as it is read, where this one is true.
-    fn pick_read<T: Copy, R: Reading<T>>(
-        &self,
-        alloc: Global,
-        space: &mut Space,
-        on: &TreeNode<T>,
-        off: &TreeNode<u64>,
-        read: &R,
-    ) -> Result<TreeNode<u64>, OutOfMemory>
-        ensures made { IfOk result (IsPickOf space.old self.now (read_by (R.number read.now) on.now) off.now) }
-        ensures back { IfOk result (λ _. space.new ≡ space.old) }
-        ensures fit { IfOk result (IsFit space.old) }
-        ensures pass { IfOk result (λ r. (test : ℕ → Bool) → DoForksPass test self.now → DoForksPass test on.now →
-            DoForksPass test off.now → DoForksPass test r) }
-    {
-        // so that no leaf goes through them from their tops
-        let on = on.part_in(space);
-        let off = off.part_in(space);
-        match self {
-            TreeNode::Leaf(is_on) => {
-                if *is_on {
-                    on.at_least(alloc, space, 0, read)
-                } else {
-                    off.within(alloc, space)
-                }
+/// Adds the numbers of one of two trees in the scenarios of a space: those of the first, as it is read, where a chooser is true.
+fn pick_read<T: Copy, R: Reading<T>>(
+    items: &[TreeItem<bool>],
+    space: &mut Space,
+    on: &[TreeItem<T>],
+    off: &[TreeItem<u64>],
+    read: &R,
+    out: &mut Vec<TreeItem<u64>>,
+) -> Result<(), OutOfMemory>
+    requires flat { IsFlat items.now }
+    requires on_flat { IsFlat on.now }
+    requires off_flat { IsFlat off.now }
+    ensures long { IfOk result (λ _. vec_len out.old ≤ vec_len out.new) }
+    ensures back { IfOk result (λ _. space.new ≡ space.old) }
+    ensures made { IfOk result (λ _. (c : TreeNode Bool) (n : TreeNode T) (m : TreeNode ℕ) → items.now ≡ flat c → on.now ≡ flat n → off.now ≡ flat m →
+        Adds (IsPicked space.old c (read_by (R.number read.now) n) m) out.old.items out.new.items) }
+{
+    // so that no leaf goes through them from their tops
+    let on = part_in(on, space);
+    let off = part_in(off, space);
+    match top_of(items) {
+        Top::Value(is_on) => {
+            if is_on {
+                at_least(on, space, 0, read, &|number: u64| number, out)
+            } else {
+                within_items(off, space, out)
             }
-            TreeNode::Fork {
-                variable,
-                cut,
-                sides,
-            } => {
-                let (below, above) = &**sides;
-                if !space.is_open_below(*variable, *cut) {
-                    return above.pick_read(alloc, space, on, off, read);
-                }
-                if !space.is_open_above(*variable, *cut) {
-                    return below.pick_read(alloc, space, on, off, read);
-                }
-                let most = space.close_above(*variable, *cut);
-                let low = below.pick_read(alloc, space, on, off, read)?;
-                space.reopen_above(*variable, most);
-                let least = space.close_below(*variable, *cut);
-                let high = above.pick_read(alloc, space, on, off, read)?;
-                space.reopen_below(*variable, least);
-                TreeNode::fork(alloc, *variable, *cut, low, high)
+        }
+        Top::Cut {
+            variable,
+            cut,
+            below,
+            above,
+        } => {
+            if !space.is_open_below(variable, cut) {
+                return pick_read(above, space, on, off, read, out);
             }
+            if !space.is_open_above(variable, cut) {
+                return pick_read(below, space, on, off, read, out);
+            }
+            let start = out.len();
+            let most = space.close_above(variable, cut);
+            pick_read(below, space, on, off, read, out)?;
+            space.reopen_above(variable, most);
+            let middle = out.len();
+            let least = space.close_below(variable, cut);
+            pick_read(above, space, on, off, read, out)?;
+            space.reopen_below(variable, least);
+            fork(out, start, middle, variable, cut)
         }
     }
 }
@@ -80,14 +87,13 @@ impl Tree<bool> {
         ensures pass { IfOk result (λ t. (test : ℕ → Bool) → DoPathsPass test self.now.paths → DoPathsPass test times.now.paths →
             DoPathsPass test no.now.paths → DoPathsPass test t.paths) }
     {
-        let mut space = Space::whole(self.faults);
-        let root = self.root.pick_read(
-            self.alloc,
-            &mut space,
-            &times.root,
-            &no.root,
-            &Later { delay },
-        )?;
-        Tree::of(self.alloc, self.faults, root)
+        let faults = self.faults();
+        let mut space = Space::whole(faults);
+        let read = Later { delay };
+        let on = times.items();
+        let off = no.items();
+        let mut made = Vec::new(self.alloc());
+        pick_read(self.items(), &mut space, on, off, &read, &mut made)?;
+        Ok(Tree::of(self.alloc(), faults, made))
     }
 }

@@ -1,63 +1,48 @@
 //! Trees of values by scenarios.
-ghost use Rattle.std.specs.Prelude.{◌≡◌, ◌≤◌, ◌<◌, ◌^◌, max, ℕ, Bool, List, Some, All, IfNone, IfOk, IfSome, length, true};
+ghost use Rattle.std.specs.Prelude.{◌≡◌, ◌≤◌, ◌<◌, ◌^◌, max, ℕ, Bool, Option, Some, All, IfNone, IfOk, IfSome, length, true};
 ghost use Rattle.std.specs.Bool.{OnTrue};
-ghost use Rattle.cpg_cube.specs.declared.literal.Literal.{Literal};
+ghost use Rattle.cpg_tree.specs.TreeNode.{TreeNode};
 ghost use Rattle.cpg_tree.specs.Decision.{IsGood};
+ghost use Rattle.cpg_tree.specs.Flat.{IsFlat, flat};
 ghost use Rattle.cpg_tree.specs.Later.{IsAtLeast, time_later};
-ghost use Rattle.cpg_tree.specs.Paths.{paths_from, paths_of};
-ghost use Rattle.cpg_tree.specs.Tree.{HasOnePathEach, IsTidyPath, DoPathsPass, IsConstant, IsMap, IsJoin, IsPick, IsValueAt};
+ghost use Rattle.cpg_tree.specs.Paths.{paths_of};
+ghost use Rattle.cpg_tree.specs.ReadBack.{IsGoodList};
+ghost use Rattle.cpg_tree.specs.Tree.{HasOnePathEach, IsTidyPath, DoPathsPass, IsConstant, IsMap, IsJoin, IsValueAt};
 
-use crate::greater::Greater;
-use crate::node::TreeNode;
-use crate::reading::{AsIs, Later, Reading, time_later};
+use crate::at::{at_items, leaf_count};
+use crate::item::TreeItem;
+use crate::join::join_items;
+use crate::map::map_items;
+use crate::reading::time_later;
 use crate::space::Space;
+use crate::top::{Top, top_of};
 use cpg_base::{OutOfMemory, Scenario};
 use std::alloc::Global;
 use std::marker::Model;
-use std::rc::Rc;
 
 /// A value for each scenario of at most `k` faults: seen as its paths, each a cube and the value in the scenarios that
-/// the cube matches. Equal trees may share their nodes.
+/// the cube matches. It is one list: the items of each fork's side below, those of its side above, and then the fork.
 #[derive(Drop)]
 pub struct Tree<T> {
-    pub(crate) alloc: Global,
-    pub(crate) faults: u8,
-    pub(crate) root: Rc<TreeNode<T>>,
+    alloc: Global,
+    faults: u8,
+    items: Vec<TreeItem<T>>,
 }
 
 impl<T> Model for Tree<T> {
     ghost use Rattle.std.specs.Prelude.{◌≡◌, length};
-    ghost use Rattle.cpg_tree.specs.Decision.{IsGood};
-    ghost use Rattle.cpg_tree.specs.Paths.{paths_of};
+    ghost use Rattle.cpg_tree.specs.ReadBack.{IsGoodList, paths_in};
     ghost use Rattle.cpg_tree.specs.Tree.{TreeState};
 
     ghost Value = { TreeState T };
 
-    ghost view = { λ t. record { faults = t.faults; paths = paths_of t.faults t.root.value } };
+    ghost view = { λ t. record { faults = t.faults; paths = paths_in t.faults t.items.items } };
 
-    ghost invariant = { λ t. IsGood t.faults t.root.value };
-}
-
-impl<T> TreeNode<T> {
-    /// How many leaves there are.
-    fn count(&self) -> Option<u64>
-        ensures some { IfSome result (λ n. (k : ℕ) (cube : List Literal) → n ≡ length (paths_from k cube self.now)) }
-        ensures none { IfNone result ((k : ℕ) (cube : List Literal) → 2 ^ 64 ≤ length (paths_from k cube self.now)) }
-    {
-        match self {
-            TreeNode::Leaf(_) => Some(1),
-            TreeNode::Fork { sides, .. } => {
-                let (below, above) = &**sides;
-                let low = below.count()?;
-                let high = above.count()?;
-                low.checked_add(high)
-            }
-        }
-    }
+    ghost invariant = { λ t. IsGoodList t.faults t.items.items };
 }
 
 impl<T> Tree<T> {
-    /// The allocator of its nodes.
+    /// The allocator of its items.
     pub fn alloc(&self) -> Global {
         self.alloc
     }
@@ -69,29 +54,29 @@ impl<T> Tree<T> {
         self.faults
     }
 
-    /// The decision tree whose paths they are.
-    pub fn root(&self) -> &TreeNode<T>
-        ensures good { IsGood self.now.faults result.now }
-        ensures paths { self.now.paths ≡ paths_of self.now.faults result.now }
+    /// The list of the decision tree whose paths they are.
+    pub fn items(&self) -> &[TreeItem<T>]
+        ensures flat { IsFlat result.now }
+        ensures good { (n : TreeNode T) → result.now ≡ flat n → IsGood self.now.faults n }
+        ensures paths { (n : TreeNode T) → result.now ≡ flat n → self.now.paths ≡ paths_of self.now.faults n }
     {
-        &self.root
+        self.items.as_slice()
     }
 }
 
 impl<T: Copy> Tree<T> {
-    /// The tree of a root.
-    pub(crate) fn of(alloc: Global, faults: u8, root: TreeNode<T>) -> Result<Tree<T>, OutOfMemory>
-        requires { IsGood faults root }
-        ensures is { IfOk result (λ t. t ≡ record { faults = faults; paths = paths_of faults root }) }
-        ensures each { IfOk result (λ t. HasOnePathEach t.faults t.paths) }
-        ensures tidy { IfOk result (λ t. All (IsTidyPath t.faults) t.paths) }
+    /// The tree of a list.
+    pub(crate) fn of(alloc: Global, faults: u8, items: Vec<TreeItem<T>>) -> Tree<T>
+        requires { IsGoodList faults items.items }
+        ensures is { (n : TreeNode T) → items.items ≡ flat n → result ≡ record { faults = faults; paths = paths_of faults n } }
+        ensures each { HasOnePathEach result.faults result.paths }
+        ensures tidy { All (IsTidyPath result.faults) result.paths }
     {
-        let root = Rc::new(alloc, root)?;
-        Ok(Tree {
+        Tree {
             alloc,
             faults,
-            root,
-        })
+            items,
+        }
     }
 
     /// One value for all scenarios of at most `k` faults.
@@ -102,28 +87,26 @@ impl<T: Copy> Tree<T> {
         ensures tidy { IfOk result (λ t. All (IsTidyPath t.faults) t.paths) }
         ensures pass { IfOk result (λ t. (test : ℕ → Bool) → DoPathsPass test t.paths) }
     {
-        Tree::of(alloc, k, TreeNode::Leaf(value))
+        let mut items = Vec::with_capacity(alloc, 1)?;
+        items.push(TreeItem::Value(value))?;
+        Ok(Tree::of(alloc, k, items))
     }
 
     /// The value of the path that matches a scenario.
     pub fn at(&self, scenario: &Scenario) -> T
         ensures { IsValueAt self.now scenario.now result }
     {
-        self.root.at(scenario)
+        at_items(self.items(), scenario)
     }
 
-    /// An equal tree that shares the nodes.
-    fn share(&self) -> Result<Tree<T>, OutOfMemory>
+    /// An equal tree.
+    fn copy(&self) -> Result<Tree<T>, OutOfMemory>
         ensures is { IfOk result (λ t. t ≡ self.now) }
         ensures each { IfOk result (λ t. HasOnePathEach t.faults t.paths) }
         ensures tidy { IfOk result (λ t. All (IsTidyPath t.faults) t.paths) }
     {
-        let root = self.root.clone()?;
-        Ok(Tree {
-            alloc: self.alloc,
-            faults: self.faults,
-            root,
-        })
+        let copied = Vec::from_slice(self.alloc, self.items())?;
+        Ok(Tree::of(self.alloc, self.faults(), copied))
     }
 
     /// How many paths there are, and `None` exactly if a number of 64 bits can't tell it.
@@ -131,7 +114,7 @@ impl<T: Copy> Tree<T> {
         ensures some { IfSome result (λ n. n ≡ length self.now.paths) }
         ensures none { IfNone result (2 ^ 64 ≤ length self.now.paths) }
     {
-        self.root.count()
+        Some(leaf_count(self.items()) as u64)
     }
 
     /// The answers of a function to the values of two trees.
@@ -148,39 +131,12 @@ impl<T: Copy> Tree<T> {
         ensures tidy { IfOk result (λ t. All (IsTidyPath t.faults) t.paths) }
         ensures pass { IfOk result (λ t. (test : ℕ → Bool) → DoPathsPass test self.now.paths → DoPathsPass test other.now.paths → DoPathsPass test t.paths) }
     {
-        let mut space = Space::whole(self.faults);
-        let root = self.root.join(self.alloc, &mut space, &other.root, f)?;
-        Tree::of(self.alloc, self.faults, root)
-    }
-
-    /// What a function makes in each scenario of the greater number of two trees whose leaves are read as numbers. If one
-    /// tree's numbers are at least the other's everywhere, nothing of the other is tested, which no clause asks for. The one
-    /// error is `OutOfMemory`.
-    pub fn greater<U: Copy, V: Copy + Eq, R: Reading<T>, S: Reading<U>, F: Fn(u64) -> V>(
-        &self,
-        read: &R,
-        other: &Tree<U>,
-        also: &S,
-        made: &F,
-    ) -> Result<Tree<V>, OutOfMemory>
-        requires callable { F.IsAlwaysCallable made.now }
-        requires equal { (x y : V) → V.eq x y ≡ true → x ≡ y }
-        requires same { self.now.faults ≡ other.now.faults }
-        ensures is { IfOk result (IsJoin (λ x y z. F.post made.now (max (R.number read.now x) (S.number also.now y)) z) self.now other.now) }
-        ensures each { IfOk result (λ t. HasOnePathEach t.faults t.paths) }
-        ensures tidy { IfOk result (λ t. All (IsTidyPath t.faults) t.paths) }
-        ensures pass { IfOk result (λ t. (test : ℕ → Bool) → DoPathsPass test self.now.paths → DoPathsPass test other.now.paths → DoPathsPass test t.paths) }
-    {
-        let mut space = Space::whole(self.faults);
-        let how = Greater {
-            read,
-            other_reading: also,
-            made,
-        };
-        let root = self
-            .root
-            .greater_of(self.alloc, &mut space, &other.root, &how)?;
-        Tree::of(self.alloc, self.faults, root)
+        let faults = self.faults();
+        let mut space = Space::whole(faults);
+        let others = other.items();
+        let mut made = Vec::with_capacity(self.alloc, self.items.len().max(others.len()))?;
+        join_items(self.items(), others, &mut space, f, &mut made)?;
+        Ok(Tree::of(self.alloc, faults, made))
     }
 
     /// The answers of a function to the values.
@@ -192,28 +148,9 @@ impl<T: Copy> Tree<T> {
         ensures tidy { IfOk result (λ t. All (IsTidyPath t.faults) t.paths) }
         ensures pass { IfOk result (λ t. (test : ℕ → Bool) → DoPathsPass test self.now.paths → DoPathsPass test t.paths) }
     {
-        let root = self.root.map(self.alloc, f)?;
-        Tree::of(self.alloc, self.faults, root)
-    }
-}
-
-impl<T: Copy + Eq> Tree<T> {
-    /// In each scenario the value of one of two trees: of the first where the chooser's value is true.
-    pub fn pick(chooser: &Tree<bool>, yes: &Tree<T>, no: &Tree<T>) -> Result<Tree<T>, OutOfMemory>
-        requires equal { (x y : T) → T.eq x y ≡ true → x ≡ y }
-        requires first { chooser.now.faults ≡ yes.now.faults }
-        requires second { chooser.now.faults ≡ no.now.faults }
-        ensures is { IfOk result (IsPick chooser.now yes.now no.now) }
-        ensures each { IfOk result (λ t. HasOnePathEach t.faults t.paths) }
-        ensures tidy { IfOk result (λ t. All (IsTidyPath t.faults) t.paths) }
-        ensures pass { IfOk result (λ t. (test : ℕ → Bool) → DoPathsPass test chooser.now.paths → DoPathsPass test yes.now.paths →
-            DoPathsPass test no.now.paths → DoPathsPass test t.paths) }
-    {
-        let mut space = Space::whole(chooser.faults);
-        let root = chooser
-            .root
-            .pick(chooser.alloc, &mut space, &yes.root, &no.root)?;
-        Tree::of(chooser.alloc, chooser.faults, root)
+        let mut made = Vec::with_capacity(self.alloc, self.items.len())?;
+        map_items(self.items(), f, &mut made)?;
+        Ok(Tree::of(self.alloc, self.faults(), made))
     }
 }
 
@@ -222,9 +159,9 @@ impl Tree<bool> {
     pub fn is_true(&self) -> bool
         ensures { OnTrue result (IsConstant true self.now.faults self.now) }
     {
-        match &*self.root {
-            TreeNode::Leaf(value) => *value,
-            TreeNode::Fork { .. } => false,
+        match top_of(self.items()) {
+            Top::Value(value) => value,
+            Top::Cut { .. } => false,
         }
     }
 }
@@ -239,20 +176,18 @@ fn is_time_from(time: Option<u64>, least: u64) -> bool
     least <= time
 }
 
-impl TreeNode<Option<u64>> {
-    /// Whether each value is a time of at least this.
-    fn is_at_least(&self, least: u64) -> bool
-        ensures { OnTrue result (IsAtLeast least self.now) }
-    {
-        match self {
-            TreeNode::Leaf(time) => is_time_from(*time, least),
-            TreeNode::Fork { sides, .. } => {
-                let (below, above) = &**sides;
-                if !below.is_at_least(least) {
-                    return false;
-                }
-                above.is_at_least(least)
+/// Whether each value of a tree is a time of at least this.
+fn are_at_least(items: &[TreeItem<Option<u64>>], least: u64) -> bool
+    requires { IsFlat items.now }
+    ensures { OnTrue result ((n : TreeNode (Option ℕ)) → items.now ≡ flat n → IsAtLeast least n) }
+{
+    match top_of(items) {
+        Top::Value(time) => is_time_from(time, least),
+        Top::Cut { below, above, .. } => {
+            if !are_at_least(below, least) {
+                return false;
             }
+            are_at_least(above, least)
         }
     }
 }
@@ -269,7 +204,7 @@ impl Tree<Option<u64>> {
     fn is_at_least(&self, least: u64) -> bool
         ensures { OnTrue result (All (λ p. p.1 ≡ Some (max (time_later 0 p.1) least)) self.now.paths) }
     {
-        self.root.is_at_least(least)
+        are_at_least(self.items(), least)
     }
 
     /// The times, 0 if there are none, or another, whichever is later, as times in all scenarios.
@@ -283,7 +218,7 @@ impl Tree<Option<u64>> {
     }
 
     /// The times, 0 if there are none, or another, whichever is later, as times in all scenarios. A tree that has no
-    /// other values is shared.
+    /// other values is copied.
     pub fn no_earlier(&self, least: u64) -> Result<Tree<Option<u64>>, OutOfMemory>
         ensures is { IfOk result (λ t. IsMap (λ x z. z ≡ Some (max (time_later 0 x) least)) self.now t) }
         ensures each { IfOk result (λ t. HasOnePathEach t.faults t.paths) }
@@ -291,33 +226,9 @@ impl Tree<Option<u64>> {
         ensures pass { IfOk result (λ t. (test : ℕ → Bool) → DoPathsPass test self.now.paths → DoPathsPass test t.paths) }
     {
         if self.is_at_least(least) {
-            self.share()
+            self.copy()
         } else {
             self.raised(least)
         }
-    }
-}
-
-impl Tree<u64> {
-    /// In each scenario the greater value of two trees.
-    pub fn max(&self, other: &Tree<u64>) -> Result<Tree<u64>, OutOfMemory>
-        requires same { self.now.faults ≡ other.now.faults }
-        ensures is { IfOk result (IsJoin (λ x y z. z ≡ max x y) self.now other.now) }
-        ensures each { IfOk result (λ t. HasOnePathEach t.faults t.paths) }
-        ensures tidy { IfOk result (λ t. All (IsTidyPath t.faults) t.paths) }
-        ensures pass { IfOk result (λ t. (test : ℕ → Bool) → DoPathsPass test self.now.paths → DoPathsPass test other.now.paths → DoPathsPass test t.paths) }
-    {
-        self.greater(&AsIs, other, &AsIs, &|number: u64| number)
-    }
-
-    /// In each scenario the greater of this tree's number and another's, 0 if that has none, later by a delay.
-    pub fn max_later(&self, other: &Tree<Option<u64>>, delay: u64) -> Result<Tree<u64>, OutOfMemory>
-        requires same { self.now.faults ≡ other.now.faults }
-        ensures is { IfOk result (IsJoin (λ x y z. z ≡ max x (time_later delay y)) self.now other.now) }
-        ensures each { IfOk result (λ t. HasOnePathEach t.faults t.paths) }
-        ensures tidy { IfOk result (λ t. All (IsTidyPath t.faults) t.paths) }
-        ensures pass { IfOk result (λ t. (test : ℕ → Bool) → DoPathsPass test self.now.paths → DoPathsPass test other.now.paths → DoPathsPass test t.paths) }
-    {
-        self.greater(&AsIs, other, &Later { delay }, &|number: u64| number)
     }
 }

@@ -1,46 +1,49 @@
 //! Trees of the numbers of variables.
-ghost use Rattle.std.specs.Prelude.{◌≡◌, ◌≤◌, ◌<◌, ◌+◌, ℕ, Bool, true, All, IfOk};
+ghost use Rattle.std.specs.Prelude.{◌≡◌, ◌≤◌, ◌<◌, ◌+◌, ℕ, Bool, true, All, IfOk, vec_len};
 ghost use Rattle.cpg_base.specs.Scenario.{number_of_value};
-ghost use Rattle.cpg_tree.specs.Decision.{DoForksPass, IsFit};
-ghost use Rattle.cpg_tree.specs.Space.{Space, IsWhole};
+ghost use Rattle.cpg_tree.specs.Added.{Adds};
 ghost use Rattle.cpg_tree.specs.Tree.{HasOnePathEach, IsTidyPath, DoPathsPass, IsNumber};
-ghost use Rattle.cpg_tree.specs.Variables.{AreCountsFrom, LeavesCounts, IsValueNode};
+ghost use Rattle.cpg_tree.specs.Variables.{IsCounted, IsValued};
 
 use crate::Tree;
-use crate::node::TreeNode;
-use crate::space::Space;
+use crate::fork::fork_of;
+use crate::item::TreeItem;
 use cpg_base::{FIRST_VALUE, OutOfMemory};
 use std::alloc::Global;
 
-/// The count of a process, if it is `first` or more.
-fn counts_from(alloc: Global, process: u8, first: u8, k: u8) -> Result<TreeNode<u8>, OutOfMemory>
+/// Adds the tree of the count of a process, if it is `first` or more.
+fn push_counts(
+    process: u8,
+    first: u8,
+    k: u8,
+    out: &mut Vec<TreeItem<u8>>,
+) -> Result<(), OutOfMemory>
     requires process { process < 128 }
     requires first { first ≤ k }
-    ensures counts { IfOk result (AreCountsFrom process first k) }
-    ensures fit { IfOk result (λ r. (room : Space) → LeavesCounts room process first k → IsFit room r) }
-    ensures pass { IfOk result (λ r. (test : ℕ → Bool) → test process ≡ true → DoForksPass test r) }
+    ensures long { IfOk result (λ _. vec_len out.old ≤ vec_len out.new) }
+    ensures made { IfOk result (λ _. Adds (IsCounted process first k) out.old.items out.new.items) }
 {
     if first == k {
-        return Ok(TreeNode::Leaf(k));
+        out.push(TreeItem::Value(k))?;
+        return Ok(());
     }
-    let above = counts_from(alloc, process, first + 1, k)?;
-    TreeNode::fork(alloc, process, first, TreeNode::Leaf(first), above)
+    let start = out.len();
+    out.push(TreeItem::Value(first))?;
+    let middle = out.len();
+    push_counts(process, first + 1, k, out)?;
+    fork_of(out, start, middle, process, first)
 }
 
-/// The value of a condition.
-fn value_node(alloc: Global, condition: u8) -> Result<TreeNode<bool>, OutOfMemory>
+/// Adds the tree of the value of a condition.
+fn push_value(condition: u8, out: &mut Vec<TreeItem<bool>>) -> Result<(), OutOfMemory>
     requires { condition < 32 }
-    ensures value { IfOk result (IsValueNode (128 + condition)) }
-    ensures fit { IfOk result (λ r. (k : ℕ) (room : Space) → IsWhole k room → IsFit room r) }
-    ensures pass { IfOk result (λ r. (test : ℕ → Bool) → test (128 + condition) ≡ true → DoForksPass test r) }
+    ensures { IfOk result (λ _. Adds (IsValued (128 + condition)) out.old.items out.new.items) }
 {
-    TreeNode::fork(
-        alloc,
-        FIRST_VALUE + condition,
-        0,
-        TreeNode::Leaf(false),
-        TreeNode::Leaf(true),
-    )
+    let start = out.len();
+    out.push(TreeItem::Value(false))?;
+    let middle = out.len();
+    out.push(TreeItem::Value(true))?;
+    fork_of(out, start, middle, FIRST_VALUE + condition, 0)
 }
 
 /// How many faults a process has.
@@ -52,8 +55,9 @@ pub fn fault(alloc: Global, process: u32, k: u8) -> Result<Tree<u8>, OutOfMemory
     ensures tidy { IfOk result (λ t. All (IsTidyPath t.faults) t.paths) }
     ensures pass { IfOk result (λ t. (test : ℕ → Bool) → test process ≡ true → DoPathsPass test t.paths) }
 {
-    let root = counts_from(alloc, process as u8, 0, k)?;
-    Tree::of(alloc, k, root)
+    let mut items = Vec::with_capacity(alloc, 2 * k as usize + 1)?;
+    push_counts(process as u8, 0, k, &mut items)?;
+    Ok(Tree::of(alloc, k, items))
 }
 
 /// The value of a condition.
@@ -65,6 +69,7 @@ pub fn value(alloc: Global, condition: u32, k: u8) -> Result<Tree<bool>, OutOfMe
     ensures tidy { IfOk result (λ t. All (IsTidyPath t.faults) t.paths) }
     ensures pass { IfOk result (λ t. (test : ℕ → Bool) → test (128 + condition) ≡ true → DoPathsPass test t.paths) }
 {
-    let root = value_node(alloc, condition as u8)?;
-    Tree::of(alloc, k, root)
+    let mut items = Vec::with_capacity(alloc, 3)?;
+    push_value(condition as u8, &mut items)?;
+    Ok(Tree::of(alloc, k, items))
 }

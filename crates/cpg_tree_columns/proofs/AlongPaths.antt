@@ -16,7 +16,7 @@ use Rattle.cpg_cube.specs.Keys.{AreByLows, ArePlaces, lows_along, variables_alon
 use Rattle.cpg_cube.proofs.KeyPlaces.{first_differ}
 use Rattle.cpg_cube.proofs.Narrow.{rising-narrowed}
 use Rattle.cpg_cube.proofs.Narrowed.{low-other, low-same, high-other, high-same}
-use Rattle.cpg_tree.specs.declared.node.TreeNode.{TreeNode, Leaf, Fork'}
+use Rattle.cpg_tree.specs.TreeNode.{TreeNode, Leaf, Fork}
 use Rattle.cpg_tree_columns.specs.Along.{IsAlong}
 use Rattle.cpg_tree_columns.specs.Columns.{column_of, columns_of_paths}
 use Rattle.cpg_tree.specs.Decision.{HasCuts, IsGood}
@@ -37,7 +37,7 @@ only {T} cube y x c = elim (Contains-cases (cube, y) [] x c) [
 
 rises : {T : Type 0} (k : ℕ) (node : TreeNode T) (cube : List Literal) → IsRising cube → (x : Path T) → Contains (paths_from k cube node) x → (u : ℕ) → low_in cube u ≤ low_in x.0 u
 rises k (Leaf y) cube rising x c u = omega (arith, ap (λ z. low_in z u) (only cube y x c))
-rises k (Fork' v cut p below upper) cube rising x c u = elim (Contains-append_cases (paths_from k (narrowed_by (up_to v cut) cube) below) (paths_from k (narrowed_by (above k v cut) cube) upper) x c) [
+rises k (Fork v cut below upper) cube rising x c u = elim (Contains-append_cases (paths_from k (narrowed_by (up_to v cut) cube) below) (paths_from k (narrowed_by (above k v cut) cube) upper) x c) [
   | inl i ↦ omega (arith, step (up_to v cut), rises k below (narrowed_by (up_to v cut) cube) (rising-narrowed (up_to v cut) cube rising) x i u)
   | inr i ↦ omega (arith, step (above k v cut), rises k upper (narrowed_by (above k v cut) cube) (rising-narrowed (above k v cut) cube rising) x i u)
 ]
@@ -51,7 +51,7 @@ rises k (Fork' v cut p below upper) cube rising x c u = elim (Contains-append_ca
 falls : {T : Type 0} (k : ℕ) (node : TreeNode T) (cube : List Literal) → IsRising cube → HasCuts k node → (x : Path T) → Contains (paths_from k cube node) x → (u : ℕ) →
     high_in k x.0 u ≤ high_in k cube u
 falls k (Leaf y) cube rising cuts x c u = omega (arith, ap (λ z. high_in k z u) (only cube y x c))
-falls k (Fork' v cut p below upper) cube rising cuts x c u =
+falls k (Fork v cut below upper) cube rising cuts x c u =
     elim (Contains-append_cases (paths_from k (narrowed_by (up_to v cut) cube) below) (paths_from k (narrowed_by (above k v cut) cube) upper) x c) [
       | inl i ↦ omega (arith, step (up_to v cut) (omega (arith, cuts.1)), falls k below (narrowed_by (up_to v cut) cube) (rising-narrowed (up_to v cut) cube rising) cuts.2 x i u)
       | inr i ↦ omega (arith, step (above k v cut) (omega arith), falls k upper (narrowed_by (above k v cut) cube) (rising-narrowed (above k v cut) cube rising) cuts.3 x i u)
@@ -69,7 +69,7 @@ module _ (places : List ℕ) where
   stays : {T : Type 0} (k left : ℕ) (node : TreeNode T) (cube : List Literal) → IsAlong places left node → (x : Path T) → Contains (paths_from k cube node) x → (u : ℕ) → left < get_or places u 0 →
       low_in x.0 u ≡ low_in cube u
   stays k left (Leaf y) cube along x c u l = ap (λ z. low_in z u) (only cube y x c)
-  stays k left (Fork' v cut p below upper) cube along x c u l =
+  stays k left (Fork v cut below upper) cube along x c u l =
       let other : v ≢ u = λ e. omega (arith, along.0, l, ap (λ w. get_or places w 0) e) in
       elim (Contains-append_cases (paths_from k (narrowed_by (up_to v cut) cube) below) (paths_from k (narrowed_by (above k v cut) cube) upper) x c) [
         | inl i ↦ stays k (get_or places v 0) below (narrowed_by (up_to v cut) cube) along.2 x i u (omega (arith, along.0, l)) ∙ low-other k (up_to v cut) cube u other
@@ -90,7 +90,7 @@ module _ (g : Graph) (order places : List ℕ) (are : ArePlaces (variables_along
       AllPairs (λ (x y : Path T). Stands x.0 y.0) (paths_from k cube node)
   sorted_paths {T} left (Leaf y) cube rising cuts along numbers = AllPairs-cons_by (λ (x z : Path T). Stands x.0 z.0) (cube, y) [] (λ z c. absurd (Contains-nil z c))
       (AllPairs-nil (λ (x z : Path T). Stands x.0 z.0))
-  sorted_paths {T} left (Fork' v cut p below upper) cube rising cuts along numbers =
+  sorted_paths {T} left (Fork v cut below upper) cube rising cuts along numbers =
       let lower = narrowed_by (up_to v cut) cube in
       let higher = narrowed_by (above k v cut) cube in
       let xs = paths_from k lower below in

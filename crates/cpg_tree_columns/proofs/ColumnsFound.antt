@@ -1,17 +1,24 @@
 -- The columns that are found on the way down a tree that fits are those of its paths.
-use Rattle.std.proofs.Common.{ℕ, ◌<◌, ◌≤◌, ◌≡◌, max, min, ◌==◌, true, List, [], ◌∷◌, ◌++◌, Some, Option, arith, sym, ap, ap₂, ◌∙◌, inl, inr, eq-eqb, ne_eqb}
+use Rattle.std.proofs.Common.{ℕ, ◌+◌, ◌<◌, ◌≤◌, ◌≡◌, max, min, ◌==◌, nat_lt, true, List, [], ◌∷◌, ◌++◌, Some, Option, arith, sym, ap, ap₂, ◌∙◌, subst, inl, inr, eq-eqb, ne_eqb}
+use Rattle.std.proofs.Common.{lt-ltb, le-ltb, append_assoc}
 use Rattle.std.specs.Option.{option_map_or}
-use Rattle.std.proofs.lemmas.Bool.{cases_eq, cond-true, cond-false, le-leb}
+use Rattle.std.proofs.lemmas.Bool.{cases_eq, cases_lt, cond-true, cond-false, le-leb}
 use Rattle.std.proofs.lemmas.List.{append-nil}
 use Rattle.std.proofs.lemmas.Grind.{flat_map-append}
 use Rattle.cpg_base.specs.Variable.{top}
 use Rattle.cpg_cube.specs.declared.literal.Literal.{Literal}
 use Rattle.cpg_cube.specs.Cube.{low_in, high_in}
 use Rattle.cpg_cube.specs.Narrow.{narrowed_by, meet_literal, range_left, with_literal}
-use Rattle.cpg_tree.specs.declared.node.TreeNode.{TreeNode, Leaf, Fork'}
+use Rattle.cpg_tree.specs.TreeNode.{TreeNode, Leaf, Fork}
 use Rattle.cpg_tree.specs.declared.space.Space.{Space}
 use Rattle.cpg_tree.specs.Space.{is_open_below, is_open_above, below_cut, above_cut}
-use Rattle.cpg_tree.specs.Decision.{IsFit, IsGood}
+use Rattle.cpg_tree.specs.declared.item.TreeItem.{TreeItem}
+use Rattle.cpg_tree.specs.Flat.{flat}
+use Rattle.cpg_tree.proofs.Flats.{flat-same}
+use Rattle.cpg_cube.specs.Column.{Column}
+use Rattle.cpg_cube.specs.declared.cube.Narrowing.{Narrowing}
+use Rattle.cpg_cube.specs.Undo.{IsUndo, restored}
+use Rattle.cpg_tree.specs.Decision.{HasCuts, IsFit, IsGood}
 use Rattle.cpg_tree.specs.Paths.{up_to, above, paths_from}
 use Rattle.cpg_tree.specs.Tree.{Path}
 use Rattle.cpg_tree.proofs.Rooms.{IsRoom, IsTold, low_at_most, cut_less, cut_under, room_below, room_above, told_below, told_above, room_whole, told_whole}
@@ -74,7 +81,7 @@ flat_both xs ys = flat_map-append (λ (p : Path (Option ℕ)). column_of p.0 p.1
 pub columns_are : (k : ℕ) (node : TreeNode (Option ℕ)) (room : Space) (cube : List Literal) → IsRoom k room → IsTold k room cube → IsFit room node →
     columns_from k cube node ≡ columns_of_paths (paths_from k cube node)
 columns_are k (Leaf x) room cube is told fit = sym (append-nil (column_of cube x))
-columns_are k (Fork' v cut p below upper) room cube is told fit =
+columns_are k (Fork v cut below upper) room cube is told fit =
     ap₂ ◌++◌
     (ap (λ (o : Option (List Literal)). option_map_or (λ c. columns_from k c below) o []) (some_below k room is v cut fit.0 fit.1 fit.2 cube told)
     ∙ columns_are k below (below_cut room v cut) (narrowed_by (up_to v cut) cube) (room_below k room is v cut fit.0 fit.1 fit.2) (told_below k room is v cut fit.0 fit.1 fit.2 cube told) fit.3)
@@ -89,3 +96,42 @@ all_columns k node good = columns_are k node good.0 [] (room_whole k good.0 good
 pub columns_seen : (k : ℕ) (node : TreeNode (Option ℕ)) → IsGood k node → (paths : List (Path (Option ℕ))) → paths ≡ paths_from k [] node → (faults : ℕ) → faults ≡ k → (whole : List Literal) →
     whole ≡ [] → columns_from faults whole node ≡ columns_of_paths paths
 columns_seen k node good paths seen faults same whole none = ap₂ (λ (m : ℕ) (cube : List Literal). columns_from m cube node) same none ∙ all_columns k node good ∙ ap columns_of_paths (sym seen)
+
+-- ---- on the way down a list
+
+-- a side of a fork whose cuts leave numbers above them
+pub side_cuts : (k : ℕ) (items : List (TreeItem (Option ℕ))) (x n : TreeNode (Option ℕ)) → items ≡ flat x → HasCuts k x → items ≡ flat n → HasCuts k n
+side_cuts k items x n is cuts are = subst (HasCuts k) (flat-same x n (sym is ∙ are)) cuts
+
+pub cut_fits : (k v cut : ℕ) → k < 256 → cut < top k v → cut + 1 < 256
+cut_fits k v cut small less = elim (cases_lt v 128) [
+  | inl count ↦ omega (arith, less, small, cond-true (nat_lt v 128) k 1 (lt-ltb v 128 count))
+  | inr value ↦ omega (arith, less, cond-false (nat_lt v 128) k 1 (le-ltb v 128 value))
+]
+
+-- the column of a leaf
+pub leaf_columns : (k : ℕ) (cube : List Literal) (items : List (TreeItem (Option ℕ))) (n : TreeNode (Option ℕ)) (x : Option ℕ) (old new : List Column) → items ≡ flat (Leaf x) → items ≡ flat n →
+    new ≡ old ++ column_of cube x → new ≡ old ++ columns_from k cube n
+leaf_columns k cube items n x old new is are added = added ∙ ap (λ (m : TreeNode (Option ℕ)). old ++ columns_from k cube m) (flat-same (Leaf x) n (sym is ∙ are))
+
+module _ (k : ℕ) (cube : List Literal) (v cut : ℕ) (x y n : TreeNode (Option ℕ)) (items : List (TreeItem (Option ℕ))) (is : items ≡ flat (Fork v cut x y)) (are : items ≡ flat n) where
+  -- those of the side below, and then those of the side above
+  pub fork_columns : (low high : Option (List Literal)) → with_literal (up_to v cut) cube ≡ low → with_literal (above k v cut) cube ≡ high → (old mid new : List Column) →
+      mid ≡ old ++ option_map_or (λ c. columns_from k c x) low [] → new ≡ mid ++ option_map_or (λ c. columns_from k c y) high [] → new ≡ old ++ columns_from k cube n
+  fork_columns low high below_is above_is old mid new of_below of_above =
+      let lows = option_map_or (λ c. columns_from k c x) low [] in
+      let highs = option_map_or (λ c. columns_from k c y) high [] in
+      of_above ∙ ap (λ (cs : List Column). cs ++ highs) of_below ∙ append_assoc old lows highs
+      ∙ ap₂ (λ (a b : Option (List Literal)). old ++ (option_map_or (λ c. columns_from k c x) a [] ++ option_map_or (λ c. columns_from k c y) b [])) (sym below_is) (sym above_is)
+      ∙ ap (λ (m : TreeNode (Option ℕ)). old ++ columns_from k cube m) (flat-same (Fork v cut x y) n (sym is ∙ are))
+
+-- a cube narrowed above a cut
+pub above_of : (k v cut most : ℕ) (cube old : List Literal) (high : Option (List Literal)) → most ≡ top k v → old ≡ cube →
+    with_literal (record { variable = v; low = cut + 1; high = most }) old ≡ high → with_literal (above k v cut) cube ≡ high
+above_of k v cut most cube old high whole same narrowed =
+    ap₂ (λ (h : ℕ) (ls : List Literal). let l : Literal = record { variable = v; low = cut + 1; high = h } in with_literal l ls) (sym whole) (sym same) ∙ narrowed
+
+-- as it stood before it was narrowed up to the cut
+pub above_again : (k v cut most : ℕ) (n : Narrowing) (cube low after : List Literal) (high : Option (List Literal)) → most ≡ top k v → IsUndo n low cube → after ≡ low →
+    with_literal (record { variable = v; low = cut + 1; high = most }) (restored n after) ≡ high → with_literal (above k v cut) cube ≡ high
+above_again k v cut most n cube low after high whole undo same exchanged = above_of k v cut most cube (restored n after) high whole (ap (restored n) same ∙ undo.back) exchanged

@@ -1,8 +1,9 @@
 -- If the columns of paths stand by their least scenarios, the first with a time has the least scenario with it.
-use Rattle.std.proofs.Common.{ℕ, ◌+◌, ◌≤◌, ◌≡◌, ◌≢◌, ◌==◌, true, false, List, [], ◌∷◌, ◌++◌, get_or, Option, Some, None, unwrap_or, option_map, Box, Global, All, Contains, IsPermutation, refl, sym}
+use Rattle.std.proofs.Common.{ℕ, ◌+◌, ◌≤◌, ◌≡◌, ◌≢◌, ◌==◌, Bool, true, false, List, [], ◌∷◌, ◌++◌, get_or, Option, Some, None, unwrap_or, option_map, All, Contains, IsPermutation, refl, sym}
 use Rattle.std.proofs.Common.{ap, ap₂, ◌∙◌, subst, inl, inr, eq-eqb, ne_eqb}
-use Rattle.std.specs.Option.{IfNone, IfSome, option_map_or}
-use Rattle.std.proofs.lemmas.Bool.{cases_eq, cond-true, cond-false}
+use Rattle.std.specs.Bool.{OnFalse, OnTrue}
+use Rattle.std.specs.Option.{IfNone, IfSome, is_some, option_map_or}
+use Rattle.std.proofs.lemmas.Bool.{both_ways, cases_eq, cond-true, cond-false}
 use Rattle.std.proofs.lemmas.List.Elements.{All-contains, Contains-get_or}
 use Rattle.std.proofs.lemmas.List.Sorted.{IsPermutation-refl}
 use Rattle.std.proofs.lemmas.Option.{none-some}
@@ -24,14 +25,24 @@ use Rattle.cpg_cube.specs.declared.cube.Narrowing.{Narrowing}
 use Rattle.cpg_cube.specs.Undo.{IsUndo, restored}
 use Rattle.cpg_cube.proofs.CubeLows.{lows-least}
 use Rattle.cpg_cube.proofs.KeyLows.{lows_are_key}
-use Rattle.cpg_tree.specs.declared.node.TreeNode.{TreeNode, Fork'}
+use Rattle.cpg_tree.specs.TreeNode.{TreeNode, Leaf, Fork}
 use Rattle.cpg_tree.specs.Decision.{IsGood}
 use Rattle.cpg_tree.specs.Paths.{up_to, above, paths_of}
 use Rattle.cpg_tree.specs.Tree.{Path}
-use Rattle.cpg_tree_columns.specs.Columns.{columns_from, columns_of_paths, first_with, IsTidyColumn}
-use Rattle.cpg_tree_columns.specs.Greatest.{HasValue, IsLeastWhereSorted}
+use Rattle.cpg_tree_columns.proofs.ColumnsFound.{above_again}
+use Rattle.cpg_tree_columns.specs.Columns.{column_of, columns_from, columns_of_paths, first_with, IsTidyColumn}
+use Rattle.cpg_tree_columns.specs.Greatest.{HasValue, IsLeastWhereSorted, kept}
 use Rattle.cpg_tree_columns.proofs.Leasts.{column_there, path_there}
 use Rattle.cpg_tree_columns.proofs.TidyColumns.{tidy_columns}
+
+-- as a call answers it
+pub on_true : {P : Type 0} (b : Bool) → (b ≡ true → P) → OnTrue b P
+on_true true h = h refl
+on_true false h = tt
+
+pub on_false : {P : Type 0} (b : Bool) → (b ≡ false → P) → OnFalse b P
+on_false true h = tt
+on_false false h = h refl
 
 module _ (wanted : ℕ) where
   abbrev With : List Literal → Column
@@ -61,12 +72,9 @@ module _ (wanted : ℕ) where
 
   -- ---- on the way down
 
-  module _ (k : ℕ) (cube : List Literal) (v cut : ℕ) (below upper node : TreeNode (Option ℕ)) {p : Box (Unit {0}) Global} (is : node ≡ Fork' v cut p below upper) where
+  module _ (k : ℕ) (cube : List Literal) (v cut : ℕ) (below upper node : TreeNode (Option ℕ)) (is : node ≡ Fork v cut below upper) where
     of_below : (low : List Literal) → with_literal (up_to v cut) cube ≡ Some low → option_map_or (λ c. columns_from k c below) (with_literal (up_to v cut) cube) [] ≡ columns_from k low below
     of_below low e = ap (λ (o : Option (List Literal)). option_map_or (λ c. columns_from k c below) o []) e
-
-    of_above : (high : List Literal) → with_literal (above k v cut) cube ≡ Some high → option_map_or (λ c. columns_from k c upper) (with_literal (above k v cut) cube) [] ≡ columns_from k high upper
-    of_above high e = ap (λ (o : Option (List Literal)). option_map_or (λ c. columns_from k c upper) o []) e
 
     -- the first is below the cut
     pub fork_below : (low found : List Literal) → with_literal (up_to v cut) cube ≡ Some low → first_with wanted (columns_from k low below) ≡ Some found →
@@ -77,16 +85,48 @@ module _ (wanted : ℕ) where
         (ap (first_with wanted) (of_below low e) ∙ first)
 
     -- none is below the cut: then it is the first above, once the cube is narrowed to that
-    pub fork_above : (n : Narrowing) (most : ℕ) (low after high : List Literal) (found : Option (List Literal)) → most ≡ top k v → with_literal (up_to v cut) cube ≡ Some low → IsUndo n low cube →
+    pub fork_above : (n : Narrowing) (most : ℕ) (low after : List Literal) (high found : Option (List Literal)) → most ≡ top k v → with_literal (up_to v cut) cube ≡ Some low → IsUndo n low cube →
         first_with wanted (columns_from k low below) ≡ None →
-        after ≡ low → with_literal (record { variable = v; low = cut + 1; high = most }) (restored n after) ≡ Some high → first_with wanted (columns_from k high upper) ≡ found →
+        after ≡ low → with_literal (record { variable = v; low = cut + 1; high = most }) (restored n after) ≡ high → first_with wanted (option_map_or (λ c. columns_from k c upper) high []) ≡ found →
         first_with wanted (columns_from k cube node) ≡ found
     fork_above n most low after high found whole e undo none same exchanged first =
-        let i : with_literal (above k v cut) cube ≡ Some high =
-        ap₂ (λ (h : ℕ) (ls : List Literal). let l : Literal = record { variable = v; low = cut + 1; high = h } in with_literal l ls) (sym whole) (sym (ap (restored n) same ∙ undo.back)) ∙ exchanged in
+        let i = above_again k v cut most n cube low after high whole undo same exchanged in
         ap (λ (n : TreeNode (Option ℕ)). first_with wanted (columns_from k cube n)) is
         ∙ first_right (option_map_or (λ c. columns_from k c below) (with_literal (up_to v cut) cube) []) (option_map_or (λ c. columns_from k c upper) (with_literal (above k v cut) cube) [])
-        (ap (first_with wanted) (of_below low e) ∙ none) ∙ ap (first_with wanted) (of_above high i) ∙ first
+        (ap (first_with wanted) (of_below low e) ∙ none) ∙ ap (λ (o : Option (List Literal)). first_with wanted (option_map_or (λ c. columns_from k c upper) o [])) i ∙ first
+
+    -- nor does the cube leave numbers below the cut
+    pub fork_only_above : (high found : Option (List Literal)) → with_literal (up_to v cut) cube ≡ None → with_literal (above k v cut) cube ≡ high →
+        first_with wanted (option_map_or (λ c. columns_from k c upper) high []) ≡ found → first_with wanted (columns_from k cube node) ≡ found
+    fork_only_above high found e i first =
+        ap (λ (n : TreeNode (Option ℕ)). first_with wanted (columns_from k cube n)) is
+        ∙ ap₂ (λ (a b : Option (List Literal)). first_with wanted (option_map_or (λ c. columns_from k c below) a [] ++ option_map_or (λ c. columns_from k c upper) b [])) e i ∙ first
+
+  -- ---- at a leaf
+
+  module _ (k : ℕ) (cube : List Literal) (x : Option ℕ) (node : TreeNode (Option ℕ)) (is : node ≡ Leaf x) where
+    leaf_is : first_with wanted (columns_from k cube node) ≡ first_with wanted (column_of cube x)
+    leaf_is = ap (λ (n : TreeNode (Option ℕ)). first_with wanted (columns_from k cube n)) is
+
+    pub leaf_first : is_some (kept wanted x) ≡ true → first_with wanted (columns_from k cube node) ≡ Some cube
+    leaf_first on = leaf_is ∙ by_value x on
+      where
+        by_value : (o : Option ℕ) → is_some (kept wanted o) ≡ true → first_with wanted (column_of cube o) ≡ Some cube
+        by_value None h = cc
+        by_value (Some time) h = elim (cases_eq time wanted) [
+          | inl same ↦ cond-true (time == wanted) (Some cube) None (eq-eqb _ _ same)
+          | inr differs ↦ absurd (both_ways (is_some (kept wanted (Some time))) (ap is_some (cond-false (time == wanted) (Some time) None (ne_eqb _ _ differs))) h)
+        ]
+
+    pub leaf_none : is_some (kept wanted x) ≡ false → first_with wanted (columns_from k cube node) ≡ None
+    leaf_none off = leaf_is ∙ by_value x off
+      where
+        by_value : (o : Option ℕ) → is_some (kept wanted o) ≡ false → first_with wanted (column_of cube o) ≡ None
+        by_value None h = refl
+        by_value (Some time) h = elim (cases_eq time wanted) [
+          | inl same ↦ absurd (both_ways (is_some (kept wanted (Some time))) h (ap is_some (cond-true (time == wanted) (Some time) None (eq-eqb _ _ same))))
+          | inr differs ↦ cond-false (time == wanted) (Some cube) None (ne_eqb _ _ differs)
+        ]
 
   -- ---- which it is
 

@@ -1,9 +1,9 @@
 -- A scenario that two trees come to in a space, and the greatest number of the one where the other is true.
-use Rattle.std.proofs.Common.{ℕ, ◌+◌, ◌-◌, ◌<◌, ◌≤◌, ◌≡◌, Bool, true, false, nat_lt, Option, Some, None, unwrap_or, get_or, length, sum_by, arith, refl, sym, ap, ◌∙◌, subst, inl, inr, ◌⊎◌, lt-ltb}
-use Rattle.std.proofs.Common.{le-ltb, Box, Global}
+use Rattle.std.proofs.Common.{ℕ, ◌+◌, ◌-◌, ◌<◌, ◌≤◌, ◌≡◌, Bool, true, false, nat_lt, Option, Some, None, List, unwrap_or, get_or, length, sum_by, arith, refl, sym, ap, ◌∙◌, subst, inl, inr, ◌⊎◌}
+use Rattle.std.proofs.Common.{le-ltb, lt-ltb}
 use Rattle.std.specs.Prelude.{nat_le}
 use Rattle.std.specs.Option.{IfNone, IfSome}
-use Rattle.std.specs.Bool.{OnTrue}
+use Rattle.std.specs.Bool.{OnFalse, OnTrue}
 use Rattle.std.proofs.lemmas.Bool.{cases_lt, cases_eq, cond-true, cond-false, leb-true, ltb-true, or_cases, and_parts}
 use Rattle.std.proofs.lemmas.Option.{none-some}
 use Rattle.std.proofs.lemmas.List.{get_or_past}
@@ -15,7 +15,9 @@ use Rattle.cpg_base.proofs.Sums.{sum_changed, same_sum_by, sum_by_zeros}
 use Rattle.cpg_base.specs.Scenario.{Scenario, IsScenario, number_of, fault_of, number_of_value}
 use Rattle.cpg_cube.specs.Fit.{scenario_of}
 use Rattle.cpg_cube.proofs.Boxes.{made_number, made_lawful}
-use Rattle.cpg_tree.specs.declared.node.TreeNode.{TreeNode, Leaf, Fork'}
+use Rattle.cpg_tree.specs.TreeNode.{TreeNode, Leaf, Fork}
+use Rattle.cpg_tree.specs.declared.item.TreeItem.{TreeItem}
+use Rattle.cpg_tree.specs.Flat.{flat}
 use Rattle.cpg_tree.specs.Decision.{value_at, IsGood}
 use Rattle.cpg_tree_columns.specs.Meeting.{AreForksOf, AreOf, ComesTo, HasWhere, IsFoundIn, IsMetIn, IsMostIn, IsMostWhere, IsNowhere, IsReachedWhere, IsRoomOf, IsUpTo}
 use Rattle.cpg_tree.specs.Paths.{paths_of}
@@ -23,6 +25,7 @@ use Rattle.cpg_tree.specs.declared.space.Space.{Space}
 use Rattle.cpg_tree.specs.Space.{Lies, HasFew, IsWhole, beyond, is_open_below, is_open_above, below_cut, above_cut}
 use Rattle.cpg_tree.specs.Tree.{TreeState}
 use Rattle.cpg_tree.specs.Variables.{is_variable}
+use Rattle.cpg_tree.proofs.Flats.{flat-same}
 use Rattle.cpg_tree.proofs.Forks.{value_below, value_above, passes_parts}
 use Rattle.cpg_tree.proofs.OnePath.{scenario_few, the_path}
 use Rattle.cpg_tree.proofs.Passing.{variable_from, forks_of_paths}
@@ -216,16 +219,21 @@ true_leaf room node b is on g forks of_g =
     (r.0, r.1, r.2, ap (λ (n : TreeNode Bool). value_at n r.0) is ∙ on)
 
 -- as a call answers it
-pub leaf_met : (room : Space) (node : TreeNode Bool) (b : Bool) → node ≡ Leaf b → OnTrue b (IsTrueIn room node)
-leaf_met room node true is = true_leaf room node true is refl
-leaf_met room node false is = tt
+module _ (room : Space) where
+  pub leaf_met : (b : Bool) (items : List (TreeItem Bool)) → items ≡ flat (Leaf b) → OnTrue b ((n : TreeNode Bool) → items ≡ flat n → IsTrueIn room n)
+  leaf_met true items is = λ n are. true_leaf room n true (flat-same n (Leaf true) (sym are ∙ is)) refl
+  leaf_met false items is = tt
 
-module _ (v cut : ℕ) (there : v < 256) (low high node : TreeNode Bool) {p : Box (Unit {0}) Global} (is : node ≡ Fork' v cut p low high) (room : Space) where
+  pub leaf_never : (b : Bool) (items : List (TreeItem Bool)) → items ≡ flat (Leaf b) → OnFalse b ((n : TreeNode Bool) → items ≡ flat n → IsNeverIn room n)
+  leaf_never true items is = tt
+  leaf_never false items is = λ n are s lies. ap (λ (m : TreeNode Bool). value_at m s) (flat-same n (Leaf false) (sym are ∙ is))
+
+module _ (v cut : ℕ) (there : v < 256) (low high node : TreeNode Bool) (is : node ≡ Fork v cut low high) (room : Space) where
   low_is : (s : Scenario) → number_of s v ≤ cut → value_at node s ≡ value_at low s
-  low_is s h = ap (λ (n : TreeNode Bool). value_at n s) is ∙ value_below v cut p low high s h
+  low_is s h = ap (λ (n : TreeNode Bool). value_at n s) is ∙ value_below v cut low high s h
 
   high_is : (s : Scenario) → cut < number_of s v → value_at node s ≡ value_at high s
-  high_is s h = ap (λ (n : TreeNode Bool). value_at n s) is ∙ value_above v cut p low high s h
+  high_is s h = ap (λ (n : TreeNode Bool). value_at n s) is ∙ value_above v cut low high s h
 
   low_parts : (g : Graph) → AreForksOf g node node → IsVariable g v × AreForksOf g low low
   low_parts g forks =
@@ -276,6 +284,14 @@ most_never room node wanted best none = record {
   found = inl refl;
 }
 
+-- a leaf whose number is no greater than the best
+pub most_least : (room : Space) (node : TreeNode (Option ℕ)) (wanted : TreeNode Bool) (x best : Option ℕ) → node ≡ Leaf x → ((n : ℕ) → x ≡ Some n → IsUpTo best n) → IsMostIn room node wanted best best
+most_least room node wanted x best is none = record {
+  above = λ s n lies comes. none n (sym (ap (λ (m : TreeNode (Option ℕ)). value_at m s) is) ∙ comes.0);
+  from = λ n h. h;
+  found = inl refl;
+}
+
 -- a leaf whose number is greater than the best
 pub most_leaf : (room : Space) (node : TreeNode (Option ℕ)) (wanted : TreeNode Bool) (x best : Option ℕ) → node ≡ Leaf x → ((n : ℕ) → IsUpTo best n → IsUpTo x n) → IsTrueIn room wanted →
     IsMostIn room node wanted best x
@@ -296,12 +312,12 @@ most_leaf room node wanted (Some number) best is some met = record {
     same_up : (m n : ℕ) → Some m ≡ Some n → n ≤ m
     same_up m n e = omega (arith, ap (λ o. unwrap_or o 0) e)
 
-module _ (v cut : ℕ) (there : v < 256) (low high node : TreeNode (Option ℕ)) {p : Box (Unit {0}) Global} (is : node ≡ Fork' v cut p low high) (wanted : TreeNode Bool) (room : Space) where
+module _ (v cut : ℕ) (there : v < 256) (low high node : TreeNode (Option ℕ)) (is : node ≡ Fork v cut low high) (wanted : TreeNode Bool) (room : Space) where
   low_value : (s : Scenario) → number_of s v ≤ cut → value_at node s ≡ value_at low s
-  low_value s h = ap (λ (n : TreeNode (Option ℕ)). value_at n s) is ∙ value_below v cut p low high s h
+  low_value s h = ap (λ (n : TreeNode (Option ℕ)). value_at n s) is ∙ value_below v cut low high s h
 
   high_value : (s : Scenario) → cut < number_of s v → value_at node s ≡ value_at high s
-  high_value s h = ap (λ (n : TreeNode (Option ℕ)). value_at n s) is ∙ value_above v cut p low high s h
+  high_value s h = ap (λ (n : TreeNode (Option ℕ)). value_at n s) is ∙ value_above v cut low high s h
 
   low_forks : (g : Graph) → AreForksOf g node wanted → IsVariable g v × AreForksOf g low wanted
   low_forks g forks =

@@ -13,7 +13,7 @@ use Rattle.cpg_cube.specs.declared.literal.Literal.{Literal}
 use Rattle.cpg_cube.specs.Narrow.{narrowed_by}
 use Rattle.cpg_cube.specs.Fit.{IsKnown, lows}
 use Rattle.cpg_cube.proofs.CubeLows.{lows-least}
-use Rattle.cpg_tree.specs.declared.node.TreeNode.{TreeNode, Leaf, Fork'}
+use Rattle.cpg_tree.specs.TreeNode.{TreeNode, Leaf, Fork}
 use Rattle.cpg_tree.specs.Decision.{IsGood}
 use Rattle.cpg_tree.specs.Paths.{up_to, above, paths_from, paths_of}
 use Rattle.cpg_tree_columns.specs.Columns.{column_of, columns_of_paths, IsTidyColumn}
@@ -57,7 +57,7 @@ under_most k (Leaf x) cube p n c e = elim (Contains-cases (cube, x) [] p c) [
   | inl same ↦ subst (λ o. IsUnder o n) (sym (ap (λ (q : Path (Option ℕ)). q.1) same ∙ e)) (omega arith)
   | inr none ↦ absurd (Contains-nil p none)
 ]
-under_most k (Fork' v cut a below upper) cube p n c e = elim (Contains-append_cases (paths_from k (narrowed_by (up_to v cut) cube) below) (paths_from k (narrowed_by (above k v cut) cube) upper) p c) [
+under_most k (Fork v cut below upper) cube p n c e = elim (Contains-append_cases (paths_from k (narrowed_by (up_to v cut) cube) below) (paths_from k (narrowed_by (above k v cut) cube) upper) p c) [
   | inl i ↦ under_left (most_of below) (most_of upper) n (under_most k below (narrowed_by (up_to v cut) cube) p n i e)
   | inr i ↦ under_right (most_of below) (most_of upper) n (under_most k upper (narrowed_by (above k v cut) cube) p n i e)
 ]
@@ -65,7 +65,7 @@ under_most k (Fork' v cut a below upper) cube p n c e = elim (Contains-append_ca
 -- some path has the greatest
 most_there : (k : ℕ) (node : TreeNode (Option ℕ)) (cube : List Literal) (m : ℕ) → most_of node ≡ Some m → (p : Path (Option ℕ)) × Contains (paths_from k cube node) p × (p.1 ≡ Some m)
 most_there k (Leaf x) cube m e = ((cube, x), Contains-first (cube, x) [], e)
-most_there k (Fork' v cut a below upper) cube m e =
+most_there k (Fork v cut below upper) cube m e =
     let lower = paths_from k (narrowed_by (up_to v cut) cube) below in
     let higher = paths_from k (narrowed_by (above k v cut) cube) upper in
     elim (greater_cases (most_of below) (most_of upper) m e) [

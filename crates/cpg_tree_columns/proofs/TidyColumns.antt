@@ -14,7 +14,7 @@ use Rattle.cpg_cube.specs.Column.{Column}
 use Rattle.cpg_cube.specs.Cube.{low_in, is_whole}
 use Rattle.cpg_cube.specs.Fit.{IsCube, IsKnown, is_open, is_met, asked_faults}
 use Rattle.cpg_cube.proofs.CubeLows.{budget_of_cube}
-use Rattle.cpg_tree.specs.declared.node.TreeNode.{TreeNode}
+use Rattle.cpg_tree.specs.TreeNode.{TreeNode}
 use Rattle.cpg_tree.specs.Decision.{IsGood}
 use Rattle.cpg_tree.specs.Paths.{paths_of}
 use Rattle.cpg_tree.specs.Tree.{Path}

@@ -9,7 +9,7 @@ use Rattle.cpg_cube.specs.Cube.{is_whole}
 use Rattle.cpg_base.specs.Variable.{top}
 use Rattle.cpg_cube.specs.Fit.{IsCube, is_met}
 use Rattle.cpg_cube.specs.Narrow.{with_literal}
-use Rattle.cpg_tree.specs.declared.node.TreeNode.{TreeNode, Leaf, Fork'}
+use Rattle.cpg_tree.specs.TreeNode.{TreeNode, Leaf, Fork}
 use Rattle.cpg_tree.specs.Paths.{up_to, above}
 use Rattle.cpg_tree.specs.Tree.{Path}
 
@@ -25,7 +25,7 @@ columns_of_paths paths = flat_map (λ (p : Path (Option ℕ)). column_of p.0 p.1
 -- the columns on from a cube, as they are found: none if a range is empty
 abbrev pub columns_from : ℕ → List Literal → TreeNode (Option ℕ) → List Column
 columns_from k cube (Leaf x) = column_of cube x
-columns_from k cube (Fork' v cut p below upper) =
+columns_from k cube (Fork v cut below upper) =
     option_map_or (λ c. columns_from k c below) (with_literal (up_to v cut) cube) []
     ++ option_map_or (λ c. columns_from k c upper) (with_literal (above k v cut) cube) []
 

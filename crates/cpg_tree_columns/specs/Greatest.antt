@@ -7,7 +7,7 @@ use Rattle.cpg_cube.specs.Column.{Column}
 use Rattle.cpg_cube.specs.Fit.{IsKnown}
 use Rattle.cpg_cube.specs.Keys.{AreByLows}
 use Rattle.cpg_tree_columns.specs.Columns.{columns_of_paths}
-use Rattle.cpg_tree.specs.declared.node.TreeNode.{TreeNode, Leaf, Fork'}
+use Rattle.cpg_tree.specs.TreeNode.{TreeNode, Leaf, Fork}
 use Rattle.cpg_tree.specs.Tree.{Path, TreeState, IsOn}
 
 -- the scenario's path has the value
@@ -52,7 +52,7 @@ greater (Some a) (Some b) = Some (max a b)
 -- the greatest number of a leaf
 abbrev pub most_of : TreeNode (Option ℕ) → Option ℕ
 most_of (Leaf x) = x
-most_of (Fork' v cut p below upper) = greater (most_of below) (most_of upper)
+most_of (Fork v cut below upper) = greater (most_of below) (most_of upper)
 
 -- a time, if it is this one
 abbrev pub kept : ℕ → Option ℕ → Option ℕ

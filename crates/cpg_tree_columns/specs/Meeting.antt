@@ -4,7 +4,7 @@ use Rattle.cpg_base.specs.Graph.{Graph, process_count, IsVariable}
 use Rattle.cpg_base.specs.Numbers.{numbers_below}
 use Rattle.cpg_base.specs.Scenario.{Scenario, IsScenario}
 use Rattle.cpg_base.specs.Variable.{top}
-use Rattle.cpg_tree.specs.declared.node.TreeNode.{TreeNode}
+use Rattle.cpg_tree.specs.TreeNode.{TreeNode}
 use Rattle.cpg_tree.specs.Decision.{value_at, DoForksPass}
 use Rattle.cpg_tree_columns.specs.Greatest.{HasValue}
 use Rattle.cpg_tree.specs.declared.space.Space.{Space}

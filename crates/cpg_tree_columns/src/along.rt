@@ -1,33 +1,40 @@
 //! Whether the columns of a tree stand by their least scenarios as they are found.
-ghost use Rattle.std.specs.Prelude.{IfOk, IfSome, IsPermutation};
+ghost use Rattle.std.specs.Prelude.{◌≡◌, IfOk, IfSome, IsPermutation};
 ghost use Rattle.std.specs.Bool.{OnTrue};
 ghost use Rattle.cpg_base.specs.Graph.{process_count};
 ghost use Rattle.cpg_base.specs.Numbers.{numbers_below};
 ghost use Rattle.cpg_cube.specs.Keys.{AreByLows};
+ghost use Rattle.cpg_tree.specs.Flat.{IsFlat, flat};
+ghost use Rattle.cpg_tree.specs.TreeNode.{TreeNode};
 ghost use Rattle.cpg_tree_columns.specs.Along.{IsAlong};
 ghost use Rattle.cpg_tree_columns.specs.Columns.{columns_of_paths};
 
 use cpg_base::{Order, OutOfMemory, Problem};
 use cpg_cube::{VARIABLES, places_along};
-use cpg_tree::{Tree, TreeNode};
+use cpg_tree::{Top, Tree, TreeItem, top_of};
 
 /// How many places are left at the first variable along an order.
 const FIRST: u16 = 256;
 
 /// How many leaves a tree has, if the variables of the forks on each way down it stand along an order, by how many places are
 /// left at each: none at more than `left`, and none at 0. Both in one walk, since a large tree isn't near when it is looked at.
-fn leaves_along<T>(node: &TreeNode<T>, places: &[u16; VARIABLES], left: u16) -> Option<usize>
-    ensures { IfSome result (λ _. IsAlong places.now left node.now) }
+fn leaves_along<T: Copy>(
+    items: &[TreeItem<T>],
+    places: &[u16; VARIABLES],
+    left: u16,
+) -> Option<usize>
+    requires { IsFlat items.now }
+    ensures { IfSome result (λ _. (n : TreeNode T) → items.now ≡ flat n → IsAlong places.now left n) }
 {
-    match node {
-        TreeNode::Leaf(_) => Some(1),
-        TreeNode::Fork {
+    match top_of(items) {
+        Top::Value(_) => Some(1),
+        Top::Cut {
             variable,
-            sides,
+            below,
+            above,
             ..
         } => {
-            let own = places[*variable as usize];
-            let (below, above) = &**sides;
+            let own = places[variable as usize];
             if own == 0 {
                 return None;
             }
@@ -52,7 +59,7 @@ pub(crate) fn count_along(
     ensures { IfOk result (λ r. IfSome r (λ _. AreByLows (λ c. c.cube) problem.now order.now (columns_of_paths tree.now.paths))) }
 {
     let places = places_along(tree.alloc(), problem, order)?;
-    let count = leaves_along(tree.root(), &places, FIRST);
+    let count = leaves_along(tree.items(), &places, FIRST);
     Ok(count)
 }
 

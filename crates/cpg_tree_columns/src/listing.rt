@@ -1,5 +1,5 @@
 //! The columns of trees of times.
-ghost use Rattle.std.specs.Prelude.{◌≡◌, ◌++◌, All, IfOk, IsPermutation, OnOk};
+ghost use Rattle.std.specs.Prelude.{◌≡◌, ◌++◌, ℕ, Option, All, IfOk, IsPermutation, OnOk};
 ghost use Rattle.std.specs.Bool.{OnTrue};
 ghost use Rattle.cpg_base.specs.Graph.{process_count};
 ghost use Rattle.cpg_base.specs.Numbers.{numbers_below};
@@ -7,48 +7,51 @@ ghost use Rattle.cpg_cube.specs.Fit.{IsKnown};
 ghost use Rattle.cpg_cube.specs.Keys.{AreByLows};
 ghost use Rattle.cpg_tree_columns.specs.Columns.{columns_from, columns_of_paths, IsTidyColumn};
 ghost use Rattle.cpg_tree.specs.Decision.{HasCuts};
+ghost use Rattle.cpg_tree.specs.Flat.{IsFlat, flat};
+ghost use Rattle.cpg_tree.specs.TreeNode.{TreeNode};
 
 use crate::along::count_along;
 use cpg_base::{Order, OutOfMemory, Problem, top};
 use cpg_cube::{Cube, Entry, Listing, Literal};
-use cpg_tree::{Tree, TreeNode};
+use cpg_tree::{Top, Tree, TreeItem, top_of};
 
 /// Adds the columns on from a cube, which is narrowed on the way down and restored on the way up.
 fn push_columns(
-    node: &TreeNode<Option<u64>>,
+    items: &[TreeItem<Option<u64>>],
     k: u8,
     cube: &mut Cube,
     columns: &mut Vec<Entry>,
 ) -> Result<(), OutOfMemory>
-    requires { HasCuts k node.now }
-    ensures columns { OnOk result (columns.new.items ≡ columns.old.items ++ columns_from k cube.old node.now) }
+    requires flat { IsFlat items.now }
+    requires cuts { (n : TreeNode (Option ℕ)) → items.now ≡ flat n → HasCuts k n }
+    ensures columns { OnOk result ((n : TreeNode (Option ℕ)) → items.now ≡ flat n → columns.new.items ≡ columns.old.items ++ columns_from k cube.old n) }
     ensures cube { OnOk result (cube.new ≡ cube.old) }
 {
-    match node {
-        TreeNode::Leaf(time) => {
+    match top_of(items) {
+        Top::Value(time) => {
             if let Some(time) = time {
                 columns.push(Entry {
-                    time: *time,
+                    time,
                     cube: cube.copy()?,
                 })?;
             }
             Ok(())
         }
-        TreeNode::Fork {
+        Top::Cut {
             variable,
             cut,
-            sides,
+            below,
+            above,
         } => {
-            let (below, above) = &**sides;
             let upper = Literal {
-                variable: *variable,
-                low: *cut + 1,
-                high: top(k, *variable),
+                variable,
+                low: cut + 1,
+                high: top(k, variable),
             };
             let low = cube.narrow(Literal {
-                variable: *variable,
+                variable,
                 low: 0,
-                high: *cut,
+                high: cut,
             })?;
             match low {
                 Some(low) => {
@@ -93,7 +96,7 @@ pub(crate) fn listed(
     let mut whole = Cube::whole(tree.alloc());
     let mut columns = Vec::new(tree.alloc());
     columns.reserve(room)?;
-    push_columns(tree.root(), tree.faults(), &mut whole, &mut columns)?;
+    push_columns(tree.items(), tree.faults(), &mut whole, &mut columns)?;
     Ok(columns)
 }
 

@@ -1,42 +1,45 @@
 //! The greatest number of a tree where another one is true, without a tree of both.
-ghost use Rattle.std.specs.Prelude.{◌≡◌, ℕ, Some, false, true, IfNone, IfSome};
+ghost use Rattle.std.specs.Prelude.{◌≡◌, ℕ, Bool, Option, Some, false, true, IfNone, IfSome};
 ghost use Rattle.std.specs.Bool.{OnFalse, OnTrue};
 ghost use Rattle.cpg_base.specs.Scenario.{Scenario};
 ghost use Rattle.cpg_tree.specs.Space.{Lies};
 ghost use Rattle.cpg_tree.specs.Decision.{value_at};
+ghost use Rattle.cpg_tree.specs.Flat.{IsFlat, flat};
+ghost use Rattle.cpg_tree.specs.TreeNode.{TreeNode};
 ghost use Rattle.cpg_tree_columns.specs.Meeting.{IsMetIn, IsMostIn, IsUpTo, IsMostWhere, IsNowhere};
 
-use cpg_tree::{Space, Tree, TreeNode};
+use cpg_tree::{Space, Top, Tree, TreeItem, top_of};
 
 /// Whether a tree is true in some scenario of a space.
-fn holds_in(node: &TreeNode<bool>, space: &mut Space) -> bool
+fn holds_in(items: &[TreeItem<bool>], space: &mut Space) -> bool
+    requires { IsFlat items.now }
     ensures back { space.new ≡ space.old }
-    ensures met { OnTrue result (IsMetIn space.old node.now node.now (λ s. value_at node.now s ≡ true)) }
-    ensures never { OnFalse result ((s : Scenario) → Lies space.old s → value_at node.now s ≡ false) }
+    ensures met { OnTrue result ((n : TreeNode Bool) → items.now ≡ flat n → IsMetIn space.old n n (λ s. value_at n s ≡ true)) }
+    ensures never { OnFalse result ((n : TreeNode Bool) → items.now ≡ flat n → (s : Scenario) → Lies space.old s → value_at n s ≡ false) }
 {
-    match node {
-        TreeNode::Leaf(is) => *is,
-        TreeNode::Fork {
+    match top_of(items) {
+        Top::Value(is) => is,
+        Top::Cut {
             variable,
             cut,
-            sides,
+            below,
+            above,
         } => {
-            let (below, above) = &**sides;
-            if !space.is_open_below(*variable, *cut) {
+            if !space.is_open_below(variable, cut) {
                 return holds_in(above, space);
             }
-            if !space.is_open_above(*variable, *cut) {
+            if !space.is_open_above(variable, cut) {
                 return holds_in(below, space);
             }
-            let most = space.close_above(*variable, *cut);
+            let most = space.close_above(variable, cut);
             let low = holds_in(below, space);
-            space.reopen_above(*variable, most);
+            space.reopen_above(variable, most);
             if low {
                 return true;
             }
-            let least = space.close_below(*variable, *cut);
+            let least = space.close_below(variable, cut);
             let high = holds_in(above, space);
-            space.reopen_below(*variable, least);
+            space.reopen_below(variable, least);
             high
         }
     }
@@ -58,43 +61,45 @@ fn is_greater(number: Option<u64>, best: Option<u64>) -> bool
 
 /// The greatest of a number and of those in a space where another tree is true.
 fn most_in(
-    node: &TreeNode<Option<u64>>,
+    items: &[TreeItem<Option<u64>>],
     space: &mut Space,
-    wanted: &TreeNode<bool>,
+    wanted: &[TreeItem<bool>],
     best: Option<u64>,
 ) -> Option<u64>
+    requires flat { IsFlat items.now }
+    requires wanted { IsFlat wanted.now }
     ensures back { space.new ≡ space.old }
-    ensures most { IsMostIn space.old node.now wanted.now best result }
+    ensures most { (n : TreeNode (Option ℕ)) (w : TreeNode Bool) → items.now ≡ flat n → wanted.now ≡ flat w → IsMostIn space.old n w best result }
 {
-    match node {
-        TreeNode::Leaf(number) => {
-            if !is_greater(*number, best) {
+    match top_of(items) {
+        Top::Value(number) => {
+            if !is_greater(number, best) {
                 return best;
             }
             if holds_in(wanted, space) {
-                *number
+                number
             } else {
                 best
             }
         }
-        TreeNode::Fork {
+        Top::Cut {
             variable,
             cut,
-            sides,
+            below,
+            above,
         } => {
-            let (below, above) = &**sides;
-            if !space.is_open_below(*variable, *cut) {
+            if !space.is_open_below(variable, cut) {
                 return most_in(above, space, wanted, best);
             }
-            if !space.is_open_above(*variable, *cut) {
+            if !space.is_open_above(variable, cut) {
                 return most_in(below, space, wanted, best);
             }
-            let most = space.close_above(*variable, *cut);
+            let most = space.close_above(variable, cut);
             let low = most_in(below, space, wanted, best);
-            space.reopen_above(*variable, most);
-            let least = space.close_below(*variable, *cut);
+            space.reopen_above(variable, most);
+            let least = space.close_below(variable, cut);
             let high = most_in(above, space, wanted, low);
-            space.reopen_below(*variable, least);
+            space.reopen_below(variable, least);
             high
         }
     }
@@ -107,5 +112,5 @@ pub fn most_where(tree: &Tree<Option<u64>>, wanted: &Tree<bool>) -> Option<u64>
     ensures some { IfSome result (IsMostWhere tree.now wanted.now) }
 {
     let mut space = Space::whole(tree.faults());
-    most_in(tree.root(), &mut space, wanted.root(), None)
+    most_in(tree.items(), &mut space, wanted.items(), None)
 }

@@ -1,5 +1,5 @@
 //! The greatest number of a tree of times.
-ghost use Rattle.std.specs.Prelude.{◌≡◌, ◌≢◌, ℕ, Bool, None, Some, All, IfNone, IfOk, IfSome, IsPermutation};
+ghost use Rattle.std.specs.Prelude.{◌≡◌, ◌≢◌, ℕ, Bool, Option, None, Some, All, IfNone, IfOk, IfSome, IsPermutation};
 ghost use Rattle.std.specs.Bool.{OnFalse, OnTrue};
 ghost use Rattle.std.specs.Option.{option_map};
 ghost use Rattle.cpg_base.specs.Graph.{process_count};
@@ -9,13 +9,15 @@ ghost use Rattle.cpg_base.specs.Scenario.{IsLeast};
 ghost use Rattle.cpg_tree_columns.specs.Columns.{columns_from, columns_of_paths, first_with};
 ghost use Rattle.cpg_tree_columns.specs.Greatest.{HasNumber, HasValue, IsGreatestOf, IsLeastWhereSorted, IsMost, greater, kept, most_of};
 ghost use Rattle.cpg_tree.specs.Decision.{HasCuts};
+ghost use Rattle.cpg_tree.specs.Flat.{IsFlat, flat};
+ghost use Rattle.cpg_tree.specs.TreeNode.{TreeNode};
 ghost use Rattle.cpg_tree.specs.Tree.{HasOnePathEach, DoPathsPass, IsMap};
 
 use crate::along::stand_along;
 use crate::listing::{listed, room_for};
 use cpg_base::{Order, OutOfMemory, Problem, Scenario, top};
 use cpg_cube::{Cube, Literal, first_by_least_scenario};
-use cpg_tree::{Tree, TreeNode};
+use cpg_tree::{Top, Tree, TreeItem, top_of};
 
 /// The greater of two numbers, if there are two.
 fn greater(first: Option<u64>, second: Option<u64>) -> Option<u64>
@@ -39,15 +41,13 @@ fn kept(wanted: u64, time: Option<u64>) -> Option<u64>
 }
 
 /// The greatest number of a leaf.
-fn most_of(node: &TreeNode<Option<u64>>) -> Option<u64>
-    ensures { result ≡ most_of node.now }
+fn most_of(items: &[TreeItem<Option<u64>>]) -> Option<u64>
+    requires { IsFlat items.now }
+    ensures { (n : TreeNode (Option ℕ)) → items.now ≡ flat n → result ≡ most_of n }
 {
-    match node {
-        TreeNode::Leaf(time) => *time,
-        TreeNode::Fork { sides, .. } => {
-            let (below, above) = &**sides;
-            greater(most_of(below), most_of(above))
-        }
+    match top_of(items) {
+        Top::Value(time) => time,
+        Top::Cut { below, above, .. } => greater(most_of(below), most_of(above)),
     }
 }
 
@@ -101,7 +101,7 @@ fn least_listed(
     // its clause tells that the graph is within its limits
     let _processes = problem.processes();
     // and this one's that the tree fits, so that each scenario has its path
-    let _root = tree.root();
+    let _items = tree.items();
     // a tree of this number alone has few columns
     let alone = with_alone(tree, wanted)?;
     first_with_number(&alone, problem, order)
@@ -110,33 +110,34 @@ fn least_listed(
 /// Narrows a cube by the way to the first leaf from the left with a number. False exactly if no leaf has it: then the cube is
 /// what it was.
 fn narrow_to_first(
-    node: &TreeNode<Option<u64>>,
+    items: &[TreeItem<Option<u64>>],
     k: u8,
     cube: &mut Cube,
     wanted: u64,
 ) -> Result<bool, OutOfMemory>
-    requires { HasCuts k node.now }
-    ensures some { IfOk result (λ r. OnTrue r (first_with wanted (columns_from k cube.old node.now) ≡ Some cube.new)) }
-    ensures none { IfOk result (λ r. OnFalse r (first_with wanted (columns_from k cube.old node.now) ≡ None)) }
+    requires flat { IsFlat items.now }
+    requires cuts { (n : TreeNode (Option ℕ)) → items.now ≡ flat n → HasCuts k n }
+    ensures some { IfOk result (λ r. OnTrue r ((n : TreeNode (Option ℕ)) → items.now ≡ flat n → first_with wanted (columns_from k cube.old n) ≡ Some cube.new)) }
+    ensures none { IfOk result (λ r. OnFalse r ((n : TreeNode (Option ℕ)) → items.now ≡ flat n → first_with wanted (columns_from k cube.old n) ≡ None)) }
     ensures same { IfOk result (λ r. OnFalse r (cube.new ≡ cube.old)) }
 {
-    match node {
-        TreeNode::Leaf(time) => Ok(kept(wanted, *time).is_some()),
-        TreeNode::Fork {
+    match top_of(items) {
+        Top::Value(time) => Ok(kept(wanted, time).is_some()),
+        Top::Cut {
             variable,
             cut,
-            sides,
+            below,
+            above,
         } => {
-            let (below, above) = &**sides;
             let upper = Literal {
-                variable: *variable,
-                low: *cut + 1,
-                high: top(k, *variable),
+                variable,
+                low: cut + 1,
+                high: top(k, variable),
             };
             let low = cube.narrow(Literal {
-                variable: *variable,
+                variable,
                 low: 0,
-                high: *cut,
+                high: cut,
             })?;
             match low {
                 Some(low) => {
@@ -180,7 +181,7 @@ fn least_found(
     // its clause tells that the graph is within its limits
     let _processes = problem.processes();
     let mut cube = Cube::whole(tree.alloc());
-    if !narrow_to_first(tree.root(), tree.faults(), &mut cube, wanted)? {
+    if !narrow_to_first(tree.items(), tree.faults(), &mut cube, wanted)? {
         return Ok(None);
     }
     let least = cube.least(tree.alloc(), problem)?;
@@ -212,7 +213,7 @@ pub fn most(tree: &Tree<Option<u64>>) -> Option<u64>
     ensures none { IfNone result (All (λ p. p.1 ≡ None) tree.now.paths) }
     ensures some { IfSome result (IsMost tree.now) }
 {
-    most_of(tree.root())
+    most_of(tree.items())
 }
 
 /// The greatest number, with its least scenario; `None` exactly if no scenario has a number. The one error is `OutOfMemory`.
@@ -227,7 +228,7 @@ pub fn greatest(
     ensures none { IfOk result (λ r. IfNone r (All (λ p. p.1 ≡ None) tree.now.paths)) }
     ensures some { IfOk result (λ r. IfSome r (λ x. IsGreatestOf problem.now order.now tree.now.paths x.0 x.1)) }
 {
-    let Some(most) = most_of(tree.root()) else {
+    let Some(most) = most_of(tree.items()) else {
         return Ok(None);
     };
     match least_with(tree, problem, order, most)? {

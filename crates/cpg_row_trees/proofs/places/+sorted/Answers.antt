@@ -1,15 +1,29 @@
-use Rattle.std.proofs.Common.{map, Bor, List, Option, subst, sym, ◌≡◌, ◌≤◌, ◌<◌, ◌∙◌}
+use Rattle.std.proofs.Common.{ℕ, map, Bor, List, Option, subst, sym, ap, refl, arith, ◌≡◌, ◌≤◌, ◌<◌, ◌++◌, ◌∙◌}
+use Rattle.std.proofs.lemmas.Bool.{OnTrue_at}
 use Rattle.cpg_base.specs.Scenario.{number_of}
-use Rattle.std.specs.Prelude.{IfSome}
 use Rattle.cpg_cube.specs.declared.literal.Literal.{Literal}
-use Rattle.cpg_row_trees.specs.declared.places.Sorted.{Sorted}
+use Rattle.cpg_tree.specs.TreeNode.{TreeNode, Leaf}
+use Rattle.cpg_tree.specs.Flat.{flat}
+use Rattle.cpg_tree.specs.declared.item.TreeItem.{TreeItem}
 use Rattle.cpg_tree.specs.declared.space.Space.{Space}
 use Rattle.cpg_tree.specs.Space.{Lies}
 use Rattle.cpg_row_trees.specs.declared.places.PlaceCut.{PlaceCut}
-use Rattle.cpg_row_trees.specs.Spots.{AreOpen, IsSorted, KeepsWhere, places_of}
+use Rattle.cpg_row_trees.specs.declared.places.TreeGrowth.{TreeGrowth}
+use Rattle.cpg_row_trees.specs.Spots.{AreOpen, KeepsWhere, places_of}
 use Rattle.cpg_row_trees.proofs.SliceLaws.{above_again, below_again, goes_again}
-use Rattle.cpg_row_trees.proofs.SpotLaws.{sorted_parted, sorted_fewer}
+use Rattle.cpg_row_trees.proofs.SpotLaws.{sorted_parted, sorted_leaf}
 use Rattle.cpg_row_trees.proofs.places.+sorted.Goals as goal
+
+pub forked-parted-requires : goal.forked-parted-requires
+forked-parted-requires t c = subst (λ (x : PlaceCut). AreOpen c.args.space.now x.variable x.most) (sym c.span_of-span.ensures) c.requires
+
+pub forked-sorted_out-requires : goal.forked-sorted_out-requires
+forked-sorted_out-requires t c = omega (arith, c.decreases, c.left_after-growth.ensures)
+
+pub forked-sorted_out-requires-2 : goal.forked-sorted_out-requires-2
+forked-sorted_out-requires-2 t c =
+    let below = OnTrue_at c.if-not-has_below.false c.in_ok-has_below.ensures.sorted in
+    omega (arith, c.decreases, c.left_after-growth.ensures, below.fewer)
 
 pub forked-returns : goal.forked-returns
 forked-returns t c =
@@ -20,28 +34,33 @@ forked-returns t c =
     let under : Space = c.close_above-most.new.self in
     let over : Space = c.close_below-was.new.self in
     let again : Space = c.reopen_above.new.self in
-    let same : c.sorted_out.new.space ≡ under = subst (λ (o : Option Sorted). IfSome o (λ (r : Sorted). c.sorted_out.new.space ≡ under)) c.in-Some.is c.in_ok-below.ensures.same in
+    let same : c.sorted_out.new.space ≡ under = OnTrue_at c.if-not-has_below.false c.in_ok-has_below.ensures.same in
     let back : again ≡ room = above_again room under c.sorted_out.new.space again v same c.close_above-most.result c.reopen_above.ensures (c.close_above-most.ensures.back ∙ kept) in
     let goes_over = goes_again room again over v cut back c.close_below-was.ensures.lies in
     let cubes : List (List Literal) = map (λ (b : Bor (List Literal)). b.now) c.args.cubes.now in
     let low = places_of c.in_ok-sides.sides.low.items in
     let high = places_of c.in_ok-sides.sides.high.items in
     let all = places_of c.args.spots.items in
-    let rest = c.left_after-rest.result in
-    let below : IsSorted cubes under low rest c.in-Some.below = subst (λ (o : Option Sorted). IfSome o (IsSorted cubes under low rest)) c.in-Some.is c.in_ok-below.ensures.sorted in
-    let above : IsSorted cubes over high c.in-Some.below.left c.in-Some-2.above = subst (λ (o : Option Sorted). IfSome o (IsSorted cubes over high c.in-Some.below.left)) c.in-Some-2.is
-    c.in_ok-above.ensures.sorted in
-    let same_over : c.sorted_out-2.new.space ≡ over = subst (λ (o : Option Sorted). IfSome o (λ (r : Sorted). c.sorted_out-2.new.space ≡ over)) c.in-Some-2.is c.in_ok-above.ensures.same in
+    let rest : TreeGrowth = record { items = c.args.growth.now.items; left = c.left_after-growth.result } in
+    let new : TreeGrowth = record { items = c.fork_of.new.out; left = c.sorted_out-2.new.growth.left } in
+    let same_over : c.sorted_out-2.new.space ≡ over = OnTrue_at c.if-not-has_above.false c.in_ok-has_above.ensures.same in
     let keeps_below : KeepsWhere cubes (λ s. number_of s v ≤ cut) all low =
     subst (λ (x : PlaceCut). KeepsWhere cubes (λ s. number_of s x.variable ≤ x.most) all low) c.span_of-span.ensures (rw c.as_slice.ensures.value at c.in_ok-sides.ensures.low) in
     let keeps_above : KeepsWhere cubes (λ s. Lies room s × (cut < number_of s v)) all high =
     subst (λ (x : PlaceCut). KeepsWhere cubes (λ s. Lies room s × (x.most < number_of s x.variable)) all high) c.span_of-span.ensures (rw c.as_slice.ensures.value at c.in_ok-sides.ensures.high) in
     record {
-      sorted = sorted_fewer cubes room all rest c.args.left _ c.left_after-rest.ensures
-          (sorted_parted cubes room under over all low high v cut rest c.in-Some.below c.in-Some-2.above c.in_ok-node.node c.in_ok-node.ensures.made
-          keeps_below keeps_above below above (λ s lies. c.close_above-most.ensures.lies s (subst (λ (r : Space). Lies r s) (sym kept) lies)) goes_over);
+      sorted = sorted_parted cubes room under over all low high v cut c.len-start.result c.len-middle.result c.args.growth.now rest c.sorted_out.new.growth c.sorted_out-2.new.growth new
+          c.in_ok-fork_of.ensures.made refl c.left_after-growth.ensures refl
+          (c.len-start.ensures ∙ c.args.growth.now.items.ok.0) (c.len-middle.ensures ∙ c.sorted_out.new.growth.items.ok.0) keeps_below keeps_above
+          (OnTrue_at c.if-not-has_below.false c.in_ok-has_below.ensures.sorted) (OnTrue_at c.if-not-has_above.false c.in_ok-has_above.ensures.sorted)
+          (λ s lies. c.close_above-most.ensures.lies s (subst (λ (r : Space). Lies r s) (sym kept) lies)) goes_over;
       same = below_again again over c.sorted_out-2.new.space c.reopen_below.new.self v same_over c.close_below-was.result c.reopen_below.ensures c.close_below-was.ensures.back ∙ back;
     }
 
-pub forked-parted-requires : goal.forked-parted-requires
-forked-parted-requires t c = subst (λ (x : PlaceCut). AreOpen c.args.space.now x.variable x.most) (sym c.span_of-span.ensures) c.requires
+pub sorted_out-returns-in_ok-add_leaf-in-Leaf-clause-sorted : goal.sorted_out-returns-in_ok-add_leaf-in-Leaf-clause-sorted
+sorted_out-returns-in_ok-add_leaf-in-Leaf-clause-sorted t c =
+    let cubes : List (List Literal) = map (λ (b : Bor (List Literal)). b.now) c.args.cubes.now in
+    let leaf : TreeNode (Option ℕ) = Leaf c.in-Leaf.place in
+    sorted_leaf cubes c.args.space.now (places_of c.args.spots.items) c.in-Leaf.place c.args.growth.now c.add_leaf.new.self (rw c.as_slice.ensures.value at c.in-Leaf.ensures)
+    (c.in_ok-add_leaf-in-Leaf.ensures.items ∙ ap (λ (xs : List (TreeItem (Option ℕ))). xs ++ flat leaf) c.may_grow.ensures.items)
+    (omega (arith, c.in_ok-add_leaf-in-Leaf.ensures.left, OnTrue_at c.if-not-may_grow.false c.may_grow.ensures.left))

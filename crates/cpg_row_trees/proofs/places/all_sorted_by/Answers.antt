@@ -1,16 +1,25 @@
-use Rattle.std.proofs.Common.{map, Bor, List, Option, subst}
-use Rattle.std.specs.Prelude.{IfSome}
+use Rattle.std.proofs.Common.{ℕ, ◌≡◌, ◌∙◌, map, Bor, List, Option, sym, subst, ap}
+use Rattle.std.proofs.lemmas.Bool.{OnTrue_at}
 use Rattle.cpg_cube.specs.declared.literal.Literal.{Literal}
-use Rattle.cpg_row_trees.specs.declared.places.Sorted.{Sorted}
 use Rattle.cpg_tree.specs.Decision.{value_at}
-use Rattle.cpg_row_trees.specs.Spots.{IsSorted, places_of}
+use Rattle.cpg_tree.proofs.Flats.{all_added}
+use Rattle.cpg_row_trees.specs.PlacesState.{PlacesState}
+use Rattle.cpg_row_trees.specs.Places.{place_at, tells_cube}
+use Rattle.cpg_row_trees.specs.Spots.{places_of}
 use Rattle.cpg_row_trees.proofs.SpotLaws.{told_of_all}
+use Rattle.cpg_row_trees.proofs.PlacesSeen.{place_is}
 use Rattle.cpg_row_trees.proofs.places.all_sorted_by.Goals as goal
 
-pub returns-in-Some : goal.returns-in-Some
-returns-in-Some c s few =
+pub grown-requires : goal.grown-requires
+grown-requires c =
+    let told = (OnTrue_at c.if-not-has_tree.false c.in_ok-has_tree.ensures.sorted).told in
+    (told.0, all_added c.in_ok-growth.growth.items.items c.sorted_out.new.growth.items.items told.0 c.in_ok-growth.ensures.items told.1)
+
+pub returns : goal.returns
+returns c s few =
     let cubes : List (List Literal) = map (λ (b : Bor (List Literal)). b.now) c.args.cubes.now in
+    let told = (OnTrue_at c.if-not-has_tree.false c.in_ok-has_tree.ensures.sorted).told in
+    let is = all_added c.in_ok-growth.growth.items.items c.sorted_out.new.growth.items.items told.0 c.in_ok-growth.ensures.items told.1 in
     let lies = c.whole-space.ensures.lies s few in
-    let is : IsSorted cubes c.whole-space.result (places_of c.in_ok-spots.spots.items) c.args.nodes c.in-Some.sorted =
-    subst (λ (o : Option Sorted). IfSome o (IsSorted cubes c.whole-space.result (places_of c.in_ok-spots.spots.items) c.args.nodes)) c.in-Some.is c.in_ok-sorted.ensures.sorted in
-    told_of_all cubes (places_of c.in_ok-spots.spots.items) s (λ i m. c.in_ok-spots.ensures s i lies m) (value_at c.in-Some.sorted.node s) (is.told s lies)
+    subst (λ (x : Option ℕ). tells_cube cubes x s) (sym (ap (λ (p : PlacesState). place_at p s) c.grown.ensures ∙ place_is c.sorted_out.new.growth.items.items told.0 s is))
+    (told_of_all cubes (places_of c.in_ok-spots.spots.items) s (λ i m. c.in_ok-spots.ensures s i lies m) (value_at told.0 s) (told.2 s lies))

@@ -1,11 +1,14 @@
-use Rattle.std.proofs.Common.{arith, rules, map, ap, length, Bor, List, Option, subst, ◌≡◌, ◌∙◌, ◌&&◌}
-use Rattle.std.specs.Prelude.{IfSome}
+use Rattle.std.proofs.Common.{ℕ, arith, rules, refl, map, ap, length, Bor, List, Option, ◌≡◌, ◌++◌, ◌∙◌, ◌&&◌}
+use Rattle.std.proofs.lemmas.Bool.{OnTrue_at}
 use Rattle.cpg_cube.specs.declared.literal.Literal.{Literal}
-use Rattle.cpg_row_trees.specs.declared.places.Sorted.{Sorted}
+use Rattle.cpg_tree.specs.TreeNode.{TreeNode, Leaf}
+use Rattle.cpg_tree.specs.Flat.{flat}
+use Rattle.cpg_tree.specs.declared.item.TreeItem.{TreeItem}
 use Rattle.cpg_tree.specs.declared.space.Space.{Space}
 use Rattle.cpg_cube.specs.Cube.{holds, matches}
-use Rattle.cpg_row_trees.specs.Slices.{IsLed, left_by}
-use Rattle.cpg_row_trees.proofs.SliceLaws.{under_reached, over_reached, own_under, own_over, led_parted, above_again, below_again, over_again, goes_again}
+use Rattle.cpg_row_trees.specs.declared.places.TreeGrowth.{TreeGrowth}
+use Rattle.cpg_row_trees.specs.Slices.{left_by}
+use Rattle.cpg_row_trees.proofs.SliceLaws.{under_reached, over_reached, own_under, own_over, led_leaf, led_parted, above_again, below_again, over_again, goes_again}
 use Rattle.cpg_row_trees.proofs.slices.+led.Goals as goal
 
 pub led_apart-led-requires : goal.led_apart-led-requires
@@ -29,15 +32,12 @@ led_apart-led-requires-2 t c =
     let under : Space = c.close_above-most.new.self in
     let over : Space = c.close_below-was.new.self in
     let again : Space = c.reopen_above.new.self in
-    let same : c.led.new.space ≡ under = subst (λ (o : Option Sorted). IfSome o (λ (r : Sorted). c.led.new.space ≡ under)) c.in-Some-2.is c.in_ok-below.ensures.same in
+    let same : c.led.new.space ≡ under = OnTrue_at c.if-not-has_below.false c.in_ok-has_below.ensures.same in
     let back : again ≡ room = above_again room under c.led.new.space again v same c.close_above-most.result c.reopen_above.ensures c.close_above-most.ensures.back in
     let is_over = over_again room again over v cut back c.close_below-was.ensures.is in
     let goes_over = goes_again room again over v cut back c.close_below-was.ensures.lies in
-    let cubes : List (List Literal) = map (λ (b : Bor (List Literal)). b.now) c.args.cubes.now in
-    let below : IsLed cubes c.args.k under c.args.slice.from c.border_of-border.result c.args.left c.in-Some-2.below =
-    subst (λ (o : Option Sorted). IfSome o (IsLed cubes c.args.k under c.args.slice.from c.border_of-border.result c.args.left)) c.in-Some-2.is c.in_ok-below.ensures.led in
-    let same_path : c.led.new.path.items ≡ c.enter.new.path.items = subst (λ (o : Option Sorted). IfSome o (λ (r : Sorted). c.led.new.path.items ≡ c.enter.new.path.items)) c.in-Some-2.is
-    c.in_ok-below.ensures.path in
+    let below = OnTrue_at c.if-not-has_below.false c.in_ok-has_below.ensures.led in
+    let same_path : c.led.new.path.items ≡ c.enter.new.path.items = OnTrue_at c.if-not-has_below.false c.in_ok-has_below.ensures.path in
     let left : c.leave.new.path.items ≡ c.args.path.now.items = c.leave.ensures ∙ ap (left_by c.in_ok-under.under) same_path ∙ c.in_ok-under.ensures.back in (
       omega (arith, c.decreases, below.fewer),
       (
@@ -56,38 +56,41 @@ led_apart-returns t c =
     let under : Space = c.close_above-most.new.self in
     let over : Space = c.close_below-was.new.self in
     let again : Space = c.reopen_above.new.self in
-    let same : c.led.new.space ≡ under = subst (λ (o : Option Sorted). IfSome o (λ (r : Sorted). c.led.new.space ≡ under)) c.in-Some-2.is c.in_ok-below.ensures.same in
+    let same : c.led.new.space ≡ under = OnTrue_at c.if-not-has_below.false c.in_ok-has_below.ensures.same in
     let back : again ≡ room = above_again room under c.led.new.space again v same c.close_above-most.result c.reopen_above.ensures c.close_above-most.ensures.back in
     let is_over = over_again room again over v cut back c.close_below-was.ensures.is in
     let goes_over = goes_again room again over v cut back c.close_below-was.ensures.lies in
     let cubes : List (List Literal) = map (λ (b : Bor (List Literal)). b.now) c.args.cubes.now in
-    let below : IsLed cubes c.args.k under c.args.slice.from c.border_of-border.result c.args.left c.in-Some-2.below =
-    subst (λ (o : Option Sorted). IfSome o (IsLed cubes c.args.k under c.args.slice.from c.border_of-border.result c.args.left)) c.in-Some-2.is c.in_ok-below.ensures.led in
-    let above : IsLed cubes c.args.k over c.border_of-border.result c.args.slice.to c.in-Some-2.below.left c.in-Some-3.above =
-    subst (λ (o : Option Sorted). IfSome o (IsLed cubes c.args.k over c.border_of-border.result c.args.slice.to c.in-Some-2.below.left)) c.in-Some-3.is c.in_ok-above.ensures.led in
-    let same_over : c.led-2.new.space ≡ over = subst (λ (o : Option Sorted). IfSome o (λ (r : Sorted). c.led-2.new.space ≡ over)) c.in-Some-3.is c.in_ok-above.ensures.same in
-    let same_path : c.led.new.path.items ≡ c.enter.new.path.items = subst (λ (o : Option Sorted). IfSome o (λ (r : Sorted). c.led.new.path.items ≡ c.enter.new.path.items)) c.in-Some-2.is
-    c.in_ok-below.ensures.path in
+    let new : TreeGrowth = record { items = c.fork_of.new.out; left = c.led-2.new.growth.left } in
+    let same_over : c.led-2.new.space ≡ over = OnTrue_at c.if-not-has_above.false c.in_ok-has_above.ensures.same in
+    let same_path : c.led.new.path.items ≡ c.enter.new.path.items = OnTrue_at c.if-not-has_below.false c.in_ok-has_below.ensures.path in
     let left : c.leave.new.path.items ≡ c.args.path.now.items = c.leave.ensures ∙ ap (left_by c.in_ok-under.under) same_path ∙ c.in_ok-under.ensures.back in
-    let same_above : c.led-2.new.path.items ≡ c.enter-2.new.path.items = subst (λ (o : Option Sorted). IfSome o (λ (r : Sorted). c.led-2.new.path.items ≡ c.enter-2.new.path.items)) c.in-Some-3.is
-    c.in_ok-above.ensures.path in
+    let same_above : c.led-2.new.path.items ≡ c.enter-2.new.path.items = OnTrue_at c.if-not-has_above.false c.in_ok-has_above.ensures.path in
     record {
-      led = led_parted cubes c.args.k room under over c.args.slice.from c.border_of-border.result c.args.slice.to v cut c.args.slice.narrow c.in-Some.narrow c.args.left
+      led = led_parted cubes c.args.k room under over c.args.slice.from c.border_of-border.result c.args.slice.to v cut c.args.slice.narrow c.in-Some.narrow
           (search rules) c.sides_of-sides.ensures.lows c.sides_of-sides.ensures.highs c.requires.reached c.requires.open c.in-Some.ensures c.close_above-most.ensures.is is_over
           c.close_above-most.ensures.lies goes_over
-          c.in-Some-2.below c.in-Some-3.above c.in_ok-node.node c.in_ok-node.ensures.made below above;
+          c.len-start.result c.len-middle.result c.args.growth.now c.led.new.growth c.led-2.new.growth new c.in_ok-fork_of.ensures.made refl
+          (c.len-start.ensures ∙ c.args.growth.now.items.ok.0) (c.len-middle.ensures ∙ c.led.new.growth.items.ok.0)
+          (OnTrue_at c.if-not-has_below.false c.in_ok-has_below.ensures.led) (OnTrue_at c.if-not-has_above.false c.in_ok-has_above.ensures.led);
       path = c.leave-2.ensures ∙ ap (left_by c.in_ok-over.over) same_above ∙ c.in_ok-over.ensures.back ∙ left;
       same = below_again again over c.led-2.new.space c.reopen_below.new.self v same_over c.close_below-was.result c.reopen_below.ensures c.close_below-was.ensures.back ∙ back;
     }
 
 pub led_apart-leave-requires : goal.led_apart-leave-requires
 led_apart-leave-requires t c =
-    let same_path : c.led.new.path.items ≡ c.enter.new.path.items = subst (λ (o : Option Sorted). IfSome o (λ (r : Sorted). c.led.new.path.items ≡ c.enter.new.path.items)) c.in-Some-2.is
-    c.in_ok-below.ensures.path in
+    let same_path : c.led.new.path.items ≡ c.enter.new.path.items = OnTrue_at c.if-not-has_below.false c.in_ok-has_below.ensures.path in
     omega (arith, ap (λ (ls : List Literal). length ls) same_path, c.in_ok-under.ensures.some)
 
 pub led_apart-leave-requires-2 : goal.led_apart-leave-requires-2
 led_apart-leave-requires-2 t c =
-    let same_above : c.led-2.new.path.items ≡ c.enter-2.new.path.items = subst (λ (o : Option Sorted). IfSome o (λ (r : Sorted). c.led-2.new.path.items ≡ c.enter-2.new.path.items)) c.in-Some-3.is
-    c.in_ok-above.ensures.path in
+    let same_above : c.led-2.new.path.items ≡ c.enter-2.new.path.items = OnTrue_at c.if-not-has_above.false c.in_ok-has_above.ensures.path in
     omega (arith, ap (λ (ls : List Literal). length ls) same_above, c.in_ok-over.ensures.some)
+
+pub led-returns-in_ok-add_leaf-in-Leaf-clause-led : goal.led-returns-in_ok-add_leaf-in-Leaf-clause-led
+led-returns-in_ok-add_leaf-in-Leaf-clause-led t c =
+    let cubes : List (List Literal) = map (λ (b : Bor (List Literal)). b.now) c.args.cubes.now in
+    let leaf : TreeNode (Option ℕ) = Leaf c.in-Leaf.place in
+    led_leaf cubes c.args.k c.args.space.now c.args.slice.from c.args.slice.to c.in-Leaf.place c.args.growth.now c.add_leaf.new.self c.in-Leaf.ensures
+    (c.in_ok-add_leaf-in-Leaf.ensures.items ∙ ap (λ (xs : List (TreeItem (Option ℕ))). xs ++ flat leaf) c.may_grow.ensures.items)
+    (omega (arith, c.in_ok-add_leaf-in-Leaf.ensures.left, OnTrue_at c.if-not-may_grow.false c.may_grow.ensures.left))

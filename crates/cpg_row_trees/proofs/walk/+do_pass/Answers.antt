@@ -1,29 +1,30 @@
-use Rattle.std.proofs.Common.{ℕ, Option, subst}
-use Rattle.std.specs.Bool.{OnTrue}
+use Rattle.std.proofs.Common.{ℕ, ◌∙◌, Option, sym}
 use Rattle.cpg_base.specs.Scenario.{Scenario}
-use Rattle.cpg_tree.specs.declared.node.TreeNode.{TreeNode}
-use Rattle.cpg_tree.specs.declared.space.Space.{Space}
-use Rattle.cpg_row_trees.specs.Places.{IsToldAll}
-use Rattle.cpg_tree.proofs.Forks.{from_false, same_below, same_above}
+use Rattle.cpg_tree.specs.TreeNode.{Leaf, Fork}
+use Rattle.cpg_tree.proofs.Flats.{flat-same}
+use Rattle.cpg_tree.proofs.Forks.{from_false}
 use Rattle.cpg_tree.proofs.Passes.{of_true}
-use Rattle.cpg_row_trees.proofs.Passes.{told_above, told_below}
+use Rattle.cpg_row_trees.proofs.Passes.{told_leaf, told_above, told_below}
 use Rattle.cpg_row_trees.proofs.walk.+do_pass.Goals as goal
+
+pub returns-in-Value : goal.returns-in-Value
+returns-in-Value g t c =
+    of_true c.passes.result c.passes.ensures
+    (λ all n are. told_leaf (λ (x : Option ℕ) (s : Scenario). g.J.Test.tells c.args.test.now x s) c.args.space.now c.in-Value.place n
+    (flat-same n (Leaf c.in-Value.place) (sym are ∙ c.in-Value.ensures.shows)) all)
 
 pub returns-then-not-is_open_below : goal.returns-then-not-is_open_below
 returns-then-not-is_open_below g t c =
-    let room : Space = c.args.space.now in
-    of_true c.do_pass.result (subst (λ (n : TreeNode (Option ℕ)). OnTrue c.do_pass.result (IsToldAll (λ (x : Option ℕ) (s : Scenario). g.J.Test.tells c.args.test.now x s) room n))
-    (same_above c.deref.ensures) c.do_pass.ensures)
-    (λ all. told_above (λ (x : Option ℕ) (s : Scenario). g.J.Test.tells c.args.test.now x s) room c.in-Fork.variable c.in-Fork.cut c.in-Fork.sides.value.0 c.in-Fork.sides.value.1 c.args.node.now
-    c.in-Fork.is all
+    let shows = c.in-Cut.ensures.shows in
+    of_true c.do_pass.result c.do_pass.ensures
+    (λ all n are. told_above (λ (x : Option ℕ) (s : Scenario). g.J.Test.tells c.args.test.now x s) c.args.space.now c.in-Cut.variable c.in-Cut.cut shows.0 shows.1 n
+    (flat-same n (Fork c.in-Cut.variable c.in-Cut.cut shows.0 shows.1) (sym are ∙ shows.4)) (all shows.1 shows.3)
     (from_false c.is_open_below.result c.if-not-is_open_below.true c.is_open_below.ensures.none))
 
 pub returns-then-not-is_open_above : goal.returns-then-not-is_open_above
 returns-then-not-is_open_above g t c =
-    let room : Space = c.args.space.now in
-    of_true c.do_pass-then-not-is_open_above.result
-    (subst (λ (n : TreeNode (Option ℕ)). OnTrue c.do_pass-then-not-is_open_above.result (IsToldAll (λ (x : Option ℕ) (s : Scenario). g.J.Test.tells c.args.test.now x s) room n))
-    (same_below c.deref.ensures) c.do_pass-then-not-is_open_above.ensures)
-    (λ all. told_below (λ (x : Option ℕ) (s : Scenario). g.J.Test.tells c.args.test.now x s) room c.in-Fork.variable c.in-Fork.cut c.in-Fork.sides.value.0 c.in-Fork.sides.value.1 c.args.node.now
-    c.in-Fork.is all
+    let shows = c.in-Cut.ensures.shows in
+    of_true c.do_pass-then-not-is_open_above.result c.do_pass-then-not-is_open_above.ensures
+    (λ all n are. told_below (λ (x : Option ℕ) (s : Scenario). g.J.Test.tells c.args.test.now x s) c.args.space.now c.in-Cut.variable c.in-Cut.cut shows.0 shows.1 n
+    (flat-same n (Fork c.in-Cut.variable c.in-Cut.cut shows.0 shows.1) (sym are ∙ shows.4)) (all shows.0 shows.2)
     (from_false c.is_open_above.result c.if-not-is_open_above.true c.is_open_above.ensures.none))

@@ -1,18 +1,37 @@
-use Rattle.std.proofs.Common.{ℕ, sym, subst}
+use Rattle.std.proofs.Common.{ℕ, Bool, Option, sym, subst}
 use Rattle.cpg_tree.specs.Space.{HasFew, IsWhole}
+use Rattle.cpg_tree.specs.TreeNode.{TreeNode}
 use Rattle.cpg_tree_columns.proofs.Meetings.{none_where, some_where}
 use Rattle.cpg_tree_columns.proofs.meeting.most_where.Goals as goal
 
 pub returns-clause-none : goal.returns-clause-none
-returns-clause-none c = none_where c.args.tree.now c.args.wanted.now c.root.result.now c.root-2.result.now c.root.ensures.good c.root.ensures.paths c.root-2.ensures.good c.root-2.ensures.paths
+returns-clause-none c =
+    let root : TreeNode (Option ℕ) = c.items.ensures.flat.0 in
+    let are = c.items.ensures.flat.1 in
+    let other : TreeNode Bool = c.items-2.ensures.flat.0 in
+    let also = c.items-2.ensures.flat.1 in
+    let good = c.items.ensures.good root are in
+    let seen_paths = c.items.ensures.paths root are in
+    let good_too = c.items-2.ensures.good other also in
+    let seen_too = c.items-2.ensures.paths other also in
+    none_where c.args.tree.now c.args.wanted.now root other good seen_paths good_too seen_too
     c.requires.same
     c.whole-space.result (subst (λ (k : ℕ). IsWhole k c.whole-space.result) c.faults.ensures c.whole-space.ensures.is)
     (λ s few. c.whole-space.ensures.lies s (subst (λ (k : ℕ). HasFew k s) (sym c.faults.ensures) few))
-    c.most_in.result c.most_in.ensures.most
+    c.most_in.result (c.most_in.ensures.most root other are also)
 
 pub returns-clause-some : goal.returns-clause-some
-returns-clause-some c = some_where c.args.tree.now c.args.wanted.now c.root.result.now c.root-2.result.now c.root.ensures.good c.root.ensures.paths c.root-2.ensures.good c.root-2.ensures.paths
+returns-clause-some c =
+    let root : TreeNode (Option ℕ) = c.items.ensures.flat.0 in
+    let are = c.items.ensures.flat.1 in
+    let other : TreeNode Bool = c.items-2.ensures.flat.0 in
+    let also = c.items-2.ensures.flat.1 in
+    let good = c.items.ensures.good root are in
+    let seen_paths = c.items.ensures.paths root are in
+    let good_too = c.items-2.ensures.good other also in
+    let seen_too = c.items-2.ensures.paths other also in
+    some_where c.args.tree.now c.args.wanted.now root other good seen_paths good_too seen_too
     c.requires.same
     c.whole-space.result (subst (λ (k : ℕ). IsWhole k c.whole-space.result) c.faults.ensures c.whole-space.ensures.is)
     (λ s few. c.whole-space.ensures.lies s (subst (λ (k : ℕ). HasFew k s) (sym c.faults.ensures) few))
-    c.most_in.result c.most_in.ensures.most
+    c.most_in.result (c.most_in.ensures.most root other are also)

@@ -1,51 +1,111 @@
-use Rattle.std.proofs.Common.{ℕ, ◌≡◌, None, Option, Some, List, subst}
-use Rattle.cpg_cube.specs.declared.literal.Literal.{Literal}
-use Rattle.cpg_tree.specs.declared.node.TreeNode.{TreeNode}
-use Rattle.cpg_tree.proofs.Forks.{from_false, from_true, same_below, same_above}
-use Rattle.cpg_tree_columns.specs.Columns.{columns_from, first_with}
-use Rattle.cpg_tree_columns.proofs.FirstColumns.{fork_below, fork_above}
+use Rattle.std.proofs.Common.{◌≡◌, ◌∙◌, None, Some, arith, sym, ap, refl}
+use Rattle.std.specs.Option.{is_some}
+use Rattle.cpg_tree.specs.TreeNode.{Leaf, Fork}
+use Rattle.cpg_tree.proofs.Flats.{flat-same}
+use Rattle.cpg_tree.proofs.Forks.{from_false, from_true}
+use Rattle.cpg_tree_columns.proofs.ColumnsFound.{side_cuts, cut_fits, above_of}
+use Rattle.cpg_tree_columns.proofs.FirstColumns.{on_true, on_false, fork_below, fork_above, fork_only_above, leaf_first, leaf_none}
 use Rattle.cpg_tree_columns.proofs.peaks.+narrow_to_first.Goals as goal
 
+pub overflow_add-upper : goal.overflow_add-upper
+overflow_add-upper t c =
+    let shows = c.in-Cut.ensures.shows in
+    let cuts = c.requires.cuts (Fork c.in-Cut.variable c.in-Cut.cut shows.0 shows.1) shows.4 in
+    omega (arith, cut_fits c.args.k c.in-Cut.variable c.in-Cut.cut c.ranges.k.fits cuts.1)
+
+pub narrow_to_first-requires : goal.narrow_to_first-requires
+narrow_to_first-requires t c =
+    let shows = c.in-Cut.ensures.shows in
+    let cuts = c.requires.cuts (Fork c.in-Cut.variable c.in-Cut.cut shows.0 shows.1) shows.4 in
+    (omega (arith, c.decreases, c.in-Cut.ensures.less.0), ((shows.0, shows.2), λ n are. side_cuts c.args.k c.in-Cut.below.now shows.0 n shows.2 cuts.2 are))
+
+pub narrow_to_first-requires-then-exchange : goal.narrow_to_first-requires-then-exchange
+narrow_to_first-requires-then-exchange t c =
+    let shows = c.in-Cut.ensures.shows in
+    let cuts = c.requires.cuts (Fork c.in-Cut.variable c.in-Cut.cut shows.0 shows.1) shows.4 in
+    (omega (arith, c.decreases, c.in-Cut.ensures.less.1), ((shows.1, shows.3), λ n are. side_cuts c.args.k c.in-Cut.above.now shows.1 n shows.3 cuts.3 are))
+
+pub narrow_to_first-requires-in-Some-high : goal.narrow_to_first-requires-in-Some-high
+narrow_to_first-requires-in-Some-high t c =
+    let shows = c.in-Cut.ensures.shows in
+    let cuts = c.requires.cuts (Fork c.in-Cut.variable c.in-Cut.cut shows.0 shows.1) shows.4 in
+    (omega (arith, c.decreases, c.in-Cut.ensures.less.1), ((shows.1, shows.3), λ n are. side_cuts c.args.k c.in-Cut.above.now shows.1 n shows.3 cuts.3 are))
+
+pub returns-in-Value-clause-some : goal.returns-in-Value-clause-some
+returns-in-Value-clause-some t c = on_true c.is_some.result (λ on n are.
+    leaf_first c.args.wanted c.args.k c.args.cube.now c.in-Value.time n (flat-same n (Leaf c.in-Value.time) (sym are ∙ c.in-Value.ensures.shows))
+    (sym (c.is_some.ensures ∙ ap is_some c.kept.ensures) ∙ on))
+
+pub returns-in-Value-clause-none : goal.returns-in-Value-clause-none
+returns-in-Value-clause-none t c = on_false c.is_some.result (λ off n are.
+    leaf_none c.args.wanted c.args.k c.args.cube.now c.in-Value.time n (flat-same n (Leaf c.in-Value.time) (sym are ∙ c.in-Value.ensures.shows))
+    (sym (c.is_some.ensures ∙ ap is_some c.kept.ensures) ∙ off))
+
 pub returns-then-branch-clause-some : goal.returns-then-branch-clause-some
-returns-then-branch-clause-some t c =
-    let wanted : ℕ = c.args.wanted in
-    let k : ℕ = c.args.k in
-    let low : List Literal = c.narrow.new.self in
-    let found : List Literal = c.narrow_to_first.new.cube in
-    fork_below wanted k c.args.cube.now c.in-Fork.variable c.in-Fork.cut c.in-Fork.sides.value.0 c.in-Fork.sides.value.1 c.args.node.now c.in-Fork.is low found
-    (rw c.in-Some.is at c.in_ok-low-in-Fork.ensures.narrowed)
-    (subst (λ (n : TreeNode (Option ℕ)). first_with wanted (columns_from k low n) ≡ Some found) (same_below c.deref.ensures)
-    (from_true c.in_ok-narrow_to_first-in-Some.field-0 c.if-branch.true c.in_ok-narrow_to_first-in-Some.ensures.some))
+returns-then-branch-clause-some t c n are =
+    let shows = c.in-Cut.ensures.shows in
+    fork_below c.args.wanted c.args.k c.args.cube.now c.in-Cut.variable c.in-Cut.cut shows.0 shows.1 n (flat-same n (Fork c.in-Cut.variable c.in-Cut.cut shows.0 shows.1) (sym are ∙ shows.4))
+    c.narrow.new.self c.narrow_to_first.new.cube (rw c.in-Some.is at c.in_ok-low-in-Cut.ensures.narrowed)
+    (from_true c.in_ok-narrow_to_first-in-Some.field-0 c.if-branch.true c.in_ok-narrow_to_first-in-Some.ensures.some shows.0 shows.2)
 
 pub returns-then-branch-2-clause-some : goal.returns-then-branch-2-clause-some
-returns-then-branch-2-clause-some t c =
-    let wanted : ℕ = c.args.wanted in
-    let k : ℕ = c.args.k in
-    let low : List Literal = c.narrow.new.self in
-    let high : List Literal = c.exchange.new.self in
-    let found : List Literal = c.narrow_to_first-then-exchange.new.cube in
-    fork_above wanted k c.args.cube.now c.in-Fork.variable c.in-Fork.cut c.in-Fork.sides.value.0 c.in-Fork.sides.value.1 c.args.node.now c.in-Fork.is
-    c.in-Some.low c.top.result low c.narrow_to_first.new.cube high (Some found) c.top.ensures
-    (rw c.in-Some.is at c.in_ok-low-in-Fork.ensures.narrowed) (rw c.in-Some.is at c.in_ok-low-in-Fork.ensures.undo)
-    (subst (λ (n : TreeNode (Option ℕ)). first_with wanted (columns_from k low n) ≡ None) (same_below c.deref.ensures)
-    (from_false c.in_ok-narrow_to_first-in-Some.field-0 c.if-branch.false c.in_ok-narrow_to_first-in-Some.ensures.none))
+returns-then-branch-2-clause-some t c n are =
+    let shows = c.in-Cut.ensures.shows in
+    fork_above c.args.wanted c.args.k c.args.cube.now c.in-Cut.variable c.in-Cut.cut shows.0 shows.1 n (flat-same n (Fork c.in-Cut.variable c.in-Cut.cut shows.0 shows.1) (sym are ∙ shows.4))
+    c.in-Some.low c.top.result c.narrow.new.self c.narrow_to_first.new.cube (Some c.exchange.new.self) (Some c.narrow_to_first-then-exchange.new.cube) c.top.ensures
+    (rw c.in-Some.is at c.in_ok-low-in-Cut.ensures.narrowed) (rw c.in-Some.is at c.in_ok-low-in-Cut.ensures.undo)
+    (from_false c.in_ok-narrow_to_first-in-Some.field-0 c.if-branch.false c.in_ok-narrow_to_first-in-Some.ensures.none shows.0 shows.2)
     (from_false c.in_ok-narrow_to_first-in-Some.field-0 c.if-branch.false c.in_ok-narrow_to_first-in-Some.ensures.same)
     c.if-exchange.ensures.narrowed
-    (subst (λ (n : TreeNode (Option ℕ)). first_with wanted (columns_from k high n) ≡ Some found) (same_above c.deref.ensures)
-    (from_true c.in_ok-narrow_to_first-in-Some-2.field-0 c.if-branch-2.true c.in_ok-narrow_to_first-in-Some-2.ensures.some))
+    (from_true c.in_ok-narrow_to_first-in-Some-2.field-0 c.if-branch-2.true c.in_ok-narrow_to_first-in-Some-2.ensures.some shows.1 shows.3)
 
 pub returns-else-branch-2-clause-none : goal.returns-else-branch-2-clause-none
-returns-else-branch-2-clause-none t c =
-    let wanted : ℕ = c.args.wanted in
-    let k : ℕ = c.args.k in
-    let low : List Literal = c.narrow.new.self in
-    let high : List Literal = c.exchange.new.self in
-    fork_above wanted k c.args.cube.now c.in-Fork.variable c.in-Fork.cut c.in-Fork.sides.value.0 c.in-Fork.sides.value.1 c.args.node.now c.in-Fork.is
-    c.in-Some.low c.top.result low c.narrow_to_first.new.cube high None c.top.ensures
-    (rw c.in-Some.is at c.in_ok-low-in-Fork.ensures.narrowed) (rw c.in-Some.is at c.in_ok-low-in-Fork.ensures.undo)
-    (subst (λ (n : TreeNode (Option ℕ)). first_with wanted (columns_from k low n) ≡ None) (same_below c.deref.ensures)
-    (from_false c.in_ok-narrow_to_first-in-Some.field-0 c.if-branch.false c.in_ok-narrow_to_first-in-Some.ensures.none))
+returns-else-branch-2-clause-none t c n are =
+    let shows = c.in-Cut.ensures.shows in
+    fork_above c.args.wanted c.args.k c.args.cube.now c.in-Cut.variable c.in-Cut.cut shows.0 shows.1 n (flat-same n (Fork c.in-Cut.variable c.in-Cut.cut shows.0 shows.1) (sym are ∙ shows.4))
+    c.in-Some.low c.top.result c.narrow.new.self c.narrow_to_first.new.cube (Some c.exchange.new.self) None c.top.ensures
+    (rw c.in-Some.is at c.in_ok-low-in-Cut.ensures.narrowed) (rw c.in-Some.is at c.in_ok-low-in-Cut.ensures.undo)
+    (from_false c.in_ok-narrow_to_first-in-Some.field-0 c.if-branch.false c.in_ok-narrow_to_first-in-Some.ensures.none shows.0 shows.2)
     (from_false c.in_ok-narrow_to_first-in-Some.field-0 c.if-branch.false c.in_ok-narrow_to_first-in-Some.ensures.same)
     c.if-exchange.ensures.narrowed
-    (subst (λ (n : TreeNode (Option ℕ)). first_with wanted (columns_from k high n) ≡ None) (same_above c.deref.ensures)
-    (from_false c.in_ok-narrow_to_first-in-Some-2.field-0 c.if-branch-2.false c.in_ok-narrow_to_first-in-Some-2.ensures.none))
+    (from_false c.in_ok-narrow_to_first-in-Some-2.field-0 c.if-branch-2.false c.in_ok-narrow_to_first-in-Some-2.ensures.none shows.1 shows.3)
+
+pub returns-else-exchange-clause-none : goal.returns-else-exchange-clause-none
+returns-else-exchange-clause-none t c n are =
+    let shows = c.in-Cut.ensures.shows in
+    fork_above c.args.wanted c.args.k c.args.cube.now c.in-Cut.variable c.in-Cut.cut shows.0 shows.1 n (flat-same n (Fork c.in-Cut.variable c.in-Cut.cut shows.0 shows.1) (sym are ∙ shows.4))
+    c.in-Some.low c.top.result c.narrow.new.self c.narrow_to_first.new.cube None None c.top.ensures
+    (rw c.in-Some.is at c.in_ok-low-in-Cut.ensures.narrowed) (rw c.in-Some.is at c.in_ok-low-in-Cut.ensures.undo)
+    (from_false c.in_ok-narrow_to_first-in-Some.field-0 c.if-branch.false c.in_ok-narrow_to_first-in-Some.ensures.none shows.0 shows.2)
+    (from_false c.in_ok-narrow_to_first-in-Some.field-0 c.if-branch.false c.in_ok-narrow_to_first-in-Some.ensures.same)
+    c.if-exchange.ensures.none refl
+
+pub returns-then-branch-3-clause-some : goal.returns-then-branch-3-clause-some
+returns-then-branch-3-clause-some t c n are =
+    let shows = c.in-Cut.ensures.shows in
+    let same : c.narrow.new.self ≡ c.args.cube.now = rw c.in-None.is at c.in_ok-low-in-Cut.ensures.same in
+    fork_only_above c.args.wanted c.args.k c.args.cube.now c.in-Cut.variable c.in-Cut.cut shows.0 shows.1 n (flat-same n (Fork c.in-Cut.variable c.in-Cut.cut shows.0 shows.1) (sym are ∙ shows.4))
+    (Some c.narrow-in-None.new.self) (Some c.narrow_to_first-in-Some-high.new.cube) (rw c.in-None.is at c.in_ok-low-in-Cut.ensures.none)
+    (above_of c.args.k c.in-Cut.variable c.in-Cut.cut c.top.result c.args.cube.now c.narrow.new.self (Some c.narrow-in-None.new.self) c.top.ensures same
+    (rw c.in-Some-high.is at c.in_ok-high-in-None.ensures.narrowed))
+    (from_true c.in_ok-narrow_to_first-in-None.field-0 c.if-branch-3.true c.in_ok-narrow_to_first-in-None.ensures.some shows.1 shows.3)
+
+pub returns-else-branch-3-clause-none : goal.returns-else-branch-3-clause-none
+returns-else-branch-3-clause-none t c n are =
+    let shows = c.in-Cut.ensures.shows in
+    let same : c.narrow.new.self ≡ c.args.cube.now = rw c.in-None.is at c.in_ok-low-in-Cut.ensures.same in
+    fork_only_above c.args.wanted c.args.k c.args.cube.now c.in-Cut.variable c.in-Cut.cut shows.0 shows.1 n (flat-same n (Fork c.in-Cut.variable c.in-Cut.cut shows.0 shows.1) (sym are ∙ shows.4))
+    (Some c.narrow-in-None.new.self) None (rw c.in-None.is at c.in_ok-low-in-Cut.ensures.none)
+    (above_of c.args.k c.in-Cut.variable c.in-Cut.cut c.top.result c.args.cube.now c.narrow.new.self (Some c.narrow-in-None.new.self) c.top.ensures same
+    (rw c.in-Some-high.is at c.in_ok-high-in-None.ensures.narrowed))
+    (from_false c.in_ok-narrow_to_first-in-None.field-0 c.if-branch-3.false c.in_ok-narrow_to_first-in-None.ensures.none shows.1 shows.3)
+
+pub returns-in_default-clause-none : goal.returns-in_default-clause-none
+returns-in_default-clause-none t c n are =
+    let shows = c.in-Cut.ensures.shows in
+    let same : c.narrow.new.self ≡ c.args.cube.now = rw c.in-None.is at c.in_ok-low-in-Cut.ensures.same in
+    fork_only_above c.args.wanted c.args.k c.args.cube.now c.in-Cut.variable c.in-Cut.cut shows.0 shows.1 n (flat-same n (Fork c.in-Cut.variable c.in-Cut.cut shows.0 shows.1) (sym are ∙ shows.4))
+    None None (rw c.in-None.is at c.in_ok-low-in-Cut.ensures.none)
+    (above_of c.args.k c.in-Cut.variable c.in-Cut.cut c.top.result c.args.cube.now c.narrow.new.self None c.top.ensures same
+    (rw c.in_default.is at c.in_ok-high-in-None.ensures.none))
+    refl

@@ -3,24 +3,37 @@ use Rattle.std.proofs.lemmas.List.Elements.{Contains-get_or}
 use Rattle.cpg_base.specs.Scenario.{IsLeast}
 use Rattle.cpg_tree.specs.Tree.{Path}
 use Rattle.cpg_tree_columns.specs.Greatest.{HasValue, IsGreatestOf}
+use Rattle.cpg_tree.specs.TreeNode.{TreeNode}
 use Rattle.cpg_tree_columns.proofs.MostLaws.{no_most, not_without, greatest_of}
 use Rattle.cpg_tree_columns.proofs.peaks.greatest.Goals as goal
 
 pub returns-in_default-clause-none : goal.returns-in_default-clause-none
 returns-in_default-clause-none c k d l =
+    let root : TreeNode (Option ℕ) = c.items.ensures.flat.0 in
+    let are = c.items.ensures.flat.1 in
+    let seen_paths = c.items.ensures.paths root are in
+    let most = c.most_of.ensures root are in
     let path : Path (Option ℕ) = get_or c.args.tree.now.paths k d in
-    no_most c.args.tree.now.faults c.root.result.now (sym c.most_of.ensures ∙ c.in_default.is) path
-    (subst (λ (paths : List (Path (Option ℕ))). Contains paths path) c.root.ensures.paths (Contains-get_or c.args.tree.now.paths k d l))
+    no_most c.args.tree.now.faults root (sym most ∙ c.in_default.is) path
+    (subst (λ (paths : List (Path (Option ℕ))). Contains paths path) seen_paths (Contains-get_or c.args.tree.now.paths k d l))
 
 pub unreachable-requires : goal.unreachable-requires
 unreachable-requires c =
-    not_without c.args.tree.now.faults c.root.result.now c.in-Some.most (sym c.most_of.ensures ∙ c.in-Some.is)
-    (subst (All (λ (p : Path (Option ℕ)). p.1 ≢ Some c.in-Some.most)) c.root.ensures.paths (rw c.in-None.is at c.in_ok-least.ensures.none))
+    let root : TreeNode (Option ℕ) = c.items.ensures.flat.0 in
+    let are = c.items.ensures.flat.1 in
+    let seen_paths = c.items.ensures.paths root are in
+    let most = c.most_of.ensures root are in
+    not_without c.args.tree.now.faults root c.in-Some.most (sym most ∙ c.in-Some.is)
+    (subst (All (λ (p : Path (Option ℕ)). p.1 ≢ Some c.in-Some.most)) seen_paths (rw c.in-None.is at c.in_ok-least.ensures.none))
 
 pub returns-clause-some : goal.returns-clause-some
 returns-clause-some c =
+    let root : TreeNode (Option ℕ) = c.items.ensures.flat.0 in
+    let are = c.items.ensures.flat.1 in
+    let seen_paths = c.items.ensures.paths root are in
+    let most = c.most_of.ensures root are in
     let g = c.args.problem.now in
     let order = c.args.order.now in
-    subst (λ (paths : List (Path (Option ℕ))). IsGreatestOf g order paths c.in-Some.most c.in-Some-2.least) (sym c.root.ensures.paths)
-    (greatest_of g order c.args.tree.now.faults c.root.result.now c.in-Some.most (sym c.most_of.ensures ∙ c.in-Some.is) c.in-Some-2.least
-    (subst (λ (paths : List (Path (Option ℕ))). IsLeast g order (HasValue paths (Some c.in-Some.most)) c.in-Some-2.least) c.root.ensures.paths (rw c.in-Some-2.is at c.in_ok-least.ensures.some)))
+    subst (λ (paths : List (Path (Option ℕ))). IsGreatestOf g order paths c.in-Some.most c.in-Some-2.least) (sym seen_paths)
+    (greatest_of g order c.args.tree.now.faults root c.in-Some.most (sym most ∙ c.in-Some.is) c.in-Some-2.least
+    (subst (λ (paths : List (Path (Option ℕ))). IsLeast g order (HasValue paths (Some c.in-Some.most)) c.in-Some-2.least) seen_paths (rw c.in-Some-2.is at c.in_ok-least.ensures.some)))

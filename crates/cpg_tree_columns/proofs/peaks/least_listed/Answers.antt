@@ -3,7 +3,7 @@ use Rattle.std.specs.Option.{IfNone, IfSome}
 use Rattle.cpg_base.specs.Scenario.{Scenario, IsLeast}
 use Rattle.cpg_cube.specs.Fit.{IsKnown}
 use Rattle.cpg_tree.specs.Decision.{IsGood}
-use Rattle.cpg_tree.specs.declared.node.TreeNode.{TreeNode}
+use Rattle.cpg_tree.specs.TreeNode.{TreeNode}
 use Rattle.cpg_tree.specs.Paths.{paths_of}
 use Rattle.cpg_tree.specs.Tree.{Path, TreeState, HasOnePathEach}
 use Rattle.cpg_tree.specs.Variables.{is_variable}
@@ -21,31 +21,37 @@ first_with_number-requires-clause-known c =
 
 pub returns-clause-none : goal.returns-clause-none
 returns-clause-none c =
+    let root : TreeNode (Option ℕ) = c.items-items.ensures.flat.0 in
+    let are = c.items-items.ensures.flat.1 in
+    let good = c.items-items.ensures.good root are in
+    let seen_paths = c.items-items.ensures.paths root are in
     let g = c.args.problem.now in
-    let root : TreeNode (Option ℕ) = c.root-root.result.now in
     let all : TreeState (Option ℕ) = c.args.tree.now in
     let only : TreeState (Option ℕ) = c.in_ok-alone.alone in
     let same : c.args.tree.now.faults ≡ g.faults = c.requires.faults in
     let is : record { faults = g.faults; paths = paths_of g.faults root } ≡ all = subst (λ (n : ℕ). record { faults = n; paths = paths_of n root } ≡ all) same
-    (state_seen c.args.tree.now c.root-root.result.now c.root-root.ensures.paths) in
+    (state_seen c.args.tree.now root seen_paths) in
     of_answer c.first_with_number.result (λ (r : Option Scenario). IfNone r (All (λ (p : Path (Option ℕ)). p.1 ≡ None) only.paths))
     (λ (r : Option Scenario). IfNone r (All (λ (p : Path (Option ℕ)). p.1 ≢ Some c.args.wanted) all.paths)) c.first_with_number.ensures.none
-    (listed_none g root (subst (λ (n : ℕ). IsGood n root) same c.root-root.ensures.good) c.args.wanted all only is
+    (listed_none g root (subst (λ (n : ℕ). IsGood n root) same good) c.args.wanted all only is
     (subst (λ (n : ℕ). HasOnePathEach n only.paths) (c.in_ok-alone.ensures.is.faults ∙ c.requires.faults) c.in_ok-alone.ensures.each) c.in_ok-alone.ensures.is
     c.processes-processes.ensures.within.few_processes
     (subst (λ (t : TreeState (Option ℕ)). All (λ (p : Path (Option ℕ)). IsKnown g p.0) t.paths) (sym is) c.requires.known))
 
 pub returns-clause-some : goal.returns-clause-some
 returns-clause-some c =
+    let root : TreeNode (Option ℕ) = c.items-items.ensures.flat.0 in
+    let are = c.items-items.ensures.flat.1 in
+    let good = c.items-items.ensures.good root are in
+    let seen_paths = c.items-items.ensures.paths root are in
     let g = c.args.problem.now in
     let order = c.args.order.now in
-    let root : TreeNode (Option ℕ) = c.root-root.result.now in
     let all : TreeState (Option ℕ) = c.args.tree.now in
     let only : TreeState (Option ℕ) = c.in_ok-alone.alone in
     let same : c.args.tree.now.faults ≡ g.faults = c.requires.faults in
     let is : record { faults = g.faults; paths = paths_of g.faults root } ≡ all = subst (λ (n : ℕ). record { faults = n; paths = paths_of n root } ≡ all) same
-    (state_seen c.args.tree.now c.root-root.result.now c.root-root.ensures.paths) in
+    (state_seen c.args.tree.now root seen_paths) in
     of_answer c.first_with_number.result (λ (r : Option Scenario). IfSome r (IsLeast g order (HasNumber only.paths)))
     (λ (r : Option Scenario). IfSome r (IsLeast g order (HasValue all.paths (Some c.args.wanted)))) c.first_with_number.ensures.some
-    (listed_some g root (subst (λ (n : ℕ). IsGood n root) same c.root-root.ensures.good) c.args.wanted all only is
+    (listed_some g root (subst (λ (n : ℕ). IsGood n root) same good) c.args.wanted all only is
     (subst (λ (n : ℕ). HasOnePathEach n only.paths) (c.in_ok-alone.ensures.is.faults ∙ c.requires.faults) c.in_ok-alone.ensures.each) c.in_ok-alone.ensures.is order)

@@ -3,13 +3,25 @@ use Rattle.std.specs.Option.{IfNone, IfSome}
 use Rattle.cpg_tree_columns.specs.Greatest.{IsMost}
 use Rattle.cpg_tree.specs.Tree.{Path, TreeState}
 use Rattle.cpg_tree.proofs.Publics.{state_seen}
+use Rattle.cpg_tree.specs.TreeNode.{TreeNode}
 use Rattle.cpg_tree_columns.proofs.MostLaws.{most_none, most_some}
 use Rattle.cpg_tree_columns.proofs.peaks.most.Goals as goal
 
 pub returns-clause-none : goal.returns-clause-none
-returns-clause-none c = subst (λ (paths : List (Path (Option ℕ))). IfNone c.most_of.result (All (λ (p : Path (Option ℕ)). p.1 ≡ None) paths)) (sym c.root.ensures.paths)
-    (most_none c.args.tree.now.faults c.root.result.now c.most_of.result c.most_of.ensures)
+returns-clause-none c =
+    let root : TreeNode (Option ℕ) = c.items.ensures.flat.0 in
+    let are = c.items.ensures.flat.1 in
+    let seen_paths = c.items.ensures.paths root are in
+    let most = c.most_of.ensures root are in
+    subst (λ (paths : List (Path (Option ℕ))). IfNone c.most_of.result (All (λ (p : Path (Option ℕ)). p.1 ≡ None) paths)) (sym seen_paths)
+    (most_none c.args.tree.now.faults root c.most_of.result most)
 
 pub returns-clause-some : goal.returns-clause-some
-returns-clause-some c = subst (λ (t : TreeState (Option ℕ)). IfSome c.most_of.result (IsMost t)) (state_seen c.args.tree.now c.root.result.now c.root.ensures.paths)
-    (most_some c.args.tree.now.faults c.root.result.now c.root.ensures.good c.most_of.result c.most_of.ensures)
+returns-clause-some c =
+    let root : TreeNode (Option ℕ) = c.items.ensures.flat.0 in
+    let are = c.items.ensures.flat.1 in
+    let good = c.items.ensures.good root are in
+    let seen_paths = c.items.ensures.paths root are in
+    let most = c.most_of.ensures root are in
+    subst (λ (t : TreeState (Option ℕ)). IfSome c.most_of.result (IsMost t)) (state_seen c.args.tree.now root seen_paths)
+    (most_some c.args.tree.now.faults root good c.most_of.result most)

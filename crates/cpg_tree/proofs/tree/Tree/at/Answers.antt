@@ -1,10 +1,10 @@
 use Rattle.std.proofs.Common.{sym, subst}
 use Rattle.cpg_tree.specs.Tree.{TreeState, IsValueAt}
-use Rattle.cpg_tree.proofs.Publics.{value_path, root_seen, root_good}
+use Rattle.cpg_tree.proofs.Publics.{value_path, state_seen}
 use Rattle.cpg_tree.proofs.tree.Tree.at.Goals as goal
 
 pub returns : goal.returns
-returns g c = subst (λ (t : TreeState g.row.T.Denot). IsValueAt t c.args.scenario.now c.at.result)
-    (root_seen c.self.inside.faults c.deref.result.now c.self.inside.root.value c.deref.ensures c.args.self.now c.self.view_is)
-    (subst (IsValueAt _ c.args.scenario.now) (sym c.at.ensures)
-    (value_path c.self.inside.faults c.deref.result.now (root_good c.self.inside.faults c.deref.result.now c.self.inside.root.value c.deref.ensures c.self.invariant) c.args.scenario.now))
+returns g c =
+    let n = c.items.ensures.flat in
+    subst (λ (t : TreeState g.row.T.Denot). IsValueAt t c.args.scenario.now c.at_items.result) (state_seen c.args.self.now n.0 (c.items.ensures.paths n.0 n.1))
+    (subst (IsValueAt _ c.args.scenario.now) (sym (c.at_items.ensures n.0 n.1)) (value_path c.args.self.now.faults n.0 (c.items.ensures.good n.0 n.1) c.args.scenario.now))

@@ -1,32 +1,35 @@
-use Rattle.std.proofs.Common.{ℕ, Bool, ◌≡◌, max, sym, subst}
-use Rattle.cpg_tree.specs.declared.node.TreeNode.{TreeNode}
-use Rattle.cpg_tree.specs.Tree.{TreeState, IsJoin, DoPathsPass}
-use Rattle.cpg_tree.proofs.Forks.{of_answer}
-use Rattle.cpg_tree.proofs.Publics.{state, joined_seen, joined_pass, root_seen, root_good}
+use Rattle.std.proofs.Common.{max}
+use Rattle.cpg_tree.proofs.Flats.{all_added}
+use Rattle.cpg_tree.proofs.Publics.{join_shown, join_passes, good_made}
 use Rattle.cpg_tree.proofs.tree.Tree.greater.Goals as goal
+
+pub of-requires : goal.of-requires
+of-requires g c =
+    let n = c.items.ensures.flat in
+    let m = c.items-others.ensures.flat in
+    let r = c.in_ok-greater_items.ensures.made n.0 m.0 n.1 m.1 in
+    let are = all_added c.new-items.result.items c.greater_items.new.out.items r.0 c.new-items.ensures.items r.1 in
+    good_made c.faults-faults.result c.whole-space.result r.0 c.greater_items.new.out.items c.whole-space.ensures.is r.2.fit are
 
 pub returns-clause-is : goal.returns-clause-is
 returns-clause-is g c =
-    let k : ℕ = c.self.inside.faults in
-    let number : g.row.T.Denot → ℕ = g.R.Reading.number c.args.read.now in
-    let other_number : g.row.U.Denot → ℕ = g.S.Reading.number c.args.also.now in
-    let answers : g.row.T.Denot → g.row.U.Denot → g.row.V.Denot → Type 0 = λ x y z. g.F.Fn.post c.args.made.now (max (number x) (other_number y), tt) z in
-    let r : TreeNode g.row.V.Denot = c.in_ok-root.root in
-    of_answer c.of.result (λ t. t ≡ state k r) (IsJoin answers c.args.self.now c.args.other.now) c.of.ensures.is
-    (λ t is. subst (IsJoin answers c.args.self.now c.args.other.now) (sym is)
-    (joined_seen k c.other.inside.faults c.deref.result.now c.deref-2.result.now r c.args.self.now c.args.other.now
-    (root_seen c.self.inside.faults c.deref.result.now c.self.inside.root.value c.deref.ensures c.args.self.now c.self.view_is)
-    (root_seen c.other.inside.faults c.deref-2.result.now c.other.inside.root.value c.deref-2.ensures c.args.other.now c.other.view_is)
-    answers c.requires.same (root_good c.self.inside.faults c.deref.result.now c.self.inside.root.value c.deref.ensures c.self.invariant)
-    (root_good c.other.inside.faults c.deref-2.result.now c.other.inside.root.value c.deref-2.ensures c.other.invariant)
-    c.whole-space.result c.whole-space.ensures.is c.whole-space.ensures.lies c.in_ok-root.ensures.fit c.in_ok-root.ensures.made))
+    let n = c.items.ensures.flat in
+    let m = c.items-others.ensures.flat in
+    let r = c.in_ok-greater_items.ensures.made n.0 m.0 n.1 m.1 in
+    let are = all_added c.new-items.result.items c.greater_items.new.out.items r.0 c.new-items.ensures.items r.1 in
+    join_shown c.args.self.now c.args.other.now n.0 m.0 (c.items.ensures.good n.0 n.1) (c.items-others.ensures.good m.0 m.1) (c.items.ensures.paths n.0 n.1) (c.items-others.ensures.paths m.0 m.1)
+    c.faults-faults.result c.faults-faults.ensures r.0 c.of.result (c.of.ensures.is r.0 are) (λ (x : g.row.T.Denot) (y : g.row.U.Denot) (z : g.row.V.Denot). g.F.Fn.post c.args.made.now (
+      max
+          (g.R.Reading.number c.args.read.now x) (g.S.Reading.number c.args.also.now y),
+      tt,
+    ) z) c.requires.same
+    c.whole-space.result c.whole-space.ensures.is c.whole-space.ensures.lies r.2.fit r.2.made
 
 pub returns-clause-pass : goal.returns-clause-pass
-returns-clause-pass g c =
-    let k : ℕ = c.self.inside.faults in
-    let r : TreeNode g.row.V.Denot = c.in_ok-root.root in
-    of_answer c.of.result (λ t. t ≡ state k r) (λ t. (test : ℕ → Bool) → DoPathsPass test c.args.self.now.paths → DoPathsPass test c.args.other.now.paths → DoPathsPass test t.paths) c.of.ensures.is
-    (λ t is test first second. subst (λ (x : TreeState g.row.V.Denot). DoPathsPass test x.paths) (sym is)
-    (joined_pass k c.other.inside.faults c.deref.result.now c.deref-2.result.now r c.args.self.now c.args.other.now
-    (root_seen c.self.inside.faults c.deref.result.now c.self.inside.root.value c.deref.ensures c.args.self.now c.self.view_is)
-    (root_seen c.other.inside.faults c.deref-2.result.now c.other.inside.root.value c.deref-2.ensures c.args.other.now c.other.view_is) test (c.in_ok-root.ensures.pass test) first second))
+returns-clause-pass g c test =
+    let n = c.items.ensures.flat in
+    let m = c.items-others.ensures.flat in
+    let r = c.in_ok-greater_items.ensures.made n.0 m.0 n.1 m.1 in
+    let are = all_added c.new-items.result.items c.greater_items.new.out.items r.0 c.new-items.ensures.items r.1 in
+    join_passes c.args.self.now c.args.other.now n.0 m.0 (c.items.ensures.good n.0 n.1) (c.items-others.ensures.good m.0 m.1) (c.items.ensures.paths n.0 n.1) (c.items-others.ensures.paths m.0 m.1)
+    c.faults-faults.result c.faults-faults.ensures r.0 c.of.result (c.of.ensures.is r.0 are) test (r.2.pass test)

@@ -1,12 +1,11 @@
-use Rattle.cpg_tree.proofs.PathLaws.{one_path}
-use Rattle.cpg_tree.proofs.Publics.{root_good}
-use Rattle.cpg_tree.proofs.TidyPaths.{tidy_all}
+use Rattle.cpg_tree.proofs.GoodLists.{state_is, one_each, all_tidy}
 use Rattle.cpg_tree.proofs.tree.Tree.of.Goals as goal
 
+pub returns-clause-is : goal.returns-clause-is
+returns-clause-is g c n are = state_is c.args.faults c.args.items.items n are
+
 pub returns-clause-each : goal.returns-clause-each
-returns-clause-each g c s few =
-    one_path c.args.faults c.in_ok-root.root.value (root_good c.args.faults c.in_ok-root.root.value c.args.root c.in_ok-root.ensures.ok c.requires) s few
+returns-clause-each g c = one_each c.args.faults c.args.items.items c.requires
 
 pub returns-clause-tidy : goal.returns-clause-tidy
-returns-clause-tidy g c =
-    tidy_all c.args.faults c.in_ok-root.root.value (root_good c.args.faults c.in_ok-root.root.value c.args.root c.in_ok-root.ensures.ok c.requires)
+returns-clause-tidy g c = all_tidy c.args.faults c.args.items.items c.requires

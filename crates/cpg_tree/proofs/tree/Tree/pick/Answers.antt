@@ -1,56 +1,34 @@
-use Rattle.std.proofs.Common.{ℕ, Bool, ◌≡◌, ◌∙◌, sym, ap, subst}
-use Rattle.cpg_tree.specs.declared.node.TreeNode.{TreeNode}
-use Rattle.cpg_tree.specs.Space.{Space}
-use Rattle.cpg_tree.specs.Decision.{IsGood}
-use Rattle.cpg_tree.specs.Tree.{TreeState, IsPick}
-use Rattle.cpg_tree.proofs.Forks.{of_answer}
-use Rattle.cpg_tree.proofs.Publics.{state, pick_paths, root_seen, root_good}
-use Rattle.cpg_tree.specs.Tree.{DoPathsPass}
-use Rattle.cpg_tree.proofs.Passing.{forks_of_paths, paths_of_forks}
+use Rattle.cpg_tree.proofs.Flats.{all_added}
+use Rattle.cpg_tree.proofs.Publics.{pick_shown, pick_passes, good_made}
 use Rattle.cpg_tree.proofs.tree.Tree.pick.Goals as goal
+
+pub of-requires : goal.of-requires
+of-requires g c =
+    let n = c.items.ensures.flat in
+    let a = c.items-on.ensures.flat in
+    let b = c.items-off.ensures.flat in
+    let r = c.in_ok-pick_items.ensures.made n.0 a.0 b.0 n.1 a.1 b.1 in
+    let are = all_added c.in_ok-made.made.items c.pick_items.new.out.items r.0 c.in_ok-made.ensures.items r.1 in
+    good_made c.faults-faults.result c.whole-space.result r.0 c.pick_items.new.out.items c.whole-space.ensures.is r.2.fit are
 
 pub returns-clause-is : goal.returns-clause-is
 returns-clause-is g c =
-    let k : ℕ = c.chooser.inside.faults in
-    let room : Space = c.whole-space.result in
-    let chooser : TreeNode Bool = c.deref.result.now in
-    let on : TreeNode g.row.T.Denot = c.deref-2.result.now in
-    let off : TreeNode g.row.T.Denot = c.deref-3.result.now in
-    let r : TreeNode g.row.T.Denot = c.in_ok-root.root in
-    let first : k ≡ c.yes.inside.faults = ap (λ (t : TreeState Bool). t.faults)
-    (root_seen c.chooser.inside.faults c.deref.result.now c.chooser.inside.root.value c.deref.ensures c.args.chooser.now c.chooser.view_is) ∙ c.requires.first ∙
-    sym (ap (λ (t : TreeState g.row.T.Denot). t.faults) (root_seen c.yes.inside.faults c.deref-2.result.now c.yes.inside.root.value c.deref-2.ensures c.args.yes.now c.yes.view_is)) in
-    let second : k ≡ c.no.inside.faults = ap (λ (t : TreeState Bool). t.faults)
-    (root_seen c.chooser.inside.faults c.deref.result.now c.chooser.inside.root.value c.deref.ensures c.args.chooser.now c.chooser.view_is) ∙ c.requires.second ∙
-    sym (ap (λ (t : TreeState g.row.T.Denot). t.faults) (root_seen c.no.inside.faults c.deref-3.result.now c.no.inside.root.value c.deref-3.ensures c.args.no.now c.no.view_is)) in
-    of_answer c.of.result (λ t. t ≡ state k r) (IsPick c.args.chooser.now c.args.yes.now c.args.no.now) c.of.ensures.is
-    (λ t is.
-    subst (λ (x : TreeState Bool). IsPick x c.args.yes.now c.args.no.now t)
-    (root_seen c.chooser.inside.faults c.deref.result.now c.chooser.inside.root.value c.deref.ensures c.args.chooser.now c.chooser.view_is)
-    (subst (λ (x : TreeState g.row.T.Denot). IsPick (state k chooser) x c.args.no.now t)
-    (ap (λ (m : ℕ). state m on) first ∙ (root_seen c.yes.inside.faults c.deref-2.result.now c.yes.inside.root.value c.deref-2.ensures c.args.yes.now c.yes.view_is))
-    (subst (λ (x : TreeState g.row.T.Denot). IsPick (state k chooser) (state k on) x t)
-    (ap (λ (m : ℕ). state m off) second ∙ (root_seen c.no.inside.faults c.deref-3.result.now c.no.inside.root.value c.deref-3.ensures c.args.no.now c.no.view_is))
-    (subst (IsPick (state k chooser) (state k on) (state k off)) (sym is)
-    (pick_paths k room c.whole-space.ensures.lies chooser on off r
-    (root_good c.chooser.inside.faults c.deref.result.now c.chooser.inside.root.value c.deref.ensures c.chooser.invariant)
-    (subst (λ (m : ℕ). IsGood m on) (sym first) (root_good c.yes.inside.faults c.deref-2.result.now c.yes.inside.root.value c.deref-2.ensures c.yes.invariant))
-    (subst (λ (m : ℕ). IsGood m off) (sym second) (root_good c.no.inside.faults c.deref-3.result.now c.no.inside.root.value c.deref-3.ensures c.no.invariant))
-    (room, c.whole-space.ensures.is, c.in_ok-root.ensures.fit) c.in_ok-root.ensures.made)))))
+    let n = c.items.ensures.flat in
+    let a = c.items-on.ensures.flat in
+    let b = c.items-off.ensures.flat in
+    let r = c.in_ok-pick_items.ensures.made n.0 a.0 b.0 n.1 a.1 b.1 in
+    let are = all_added c.in_ok-made.made.items c.pick_items.new.out.items r.0 c.in_ok-made.ensures.items r.1 in
+    pick_shown c.args.chooser.now c.args.yes.now c.args.no.now n.0 a.0 b.0 (c.items.ensures.good n.0 n.1) (c.items-on.ensures.good a.0 a.1) (c.items-off.ensures.good b.0 b.1)
+    (c.items.ensures.paths n.0 n.1) (c.items-on.ensures.paths a.0 a.1) (c.items-off.ensures.paths b.0 b.1) c.faults-faults.result c.faults-faults.ensures r.0 c.of.result (c.of.ensures.is r.0 are)
+    c.requires.first c.requires.second c.whole-space.result c.whole-space.ensures.is c.whole-space.ensures.lies r.2.fit r.2.made
 
 pub returns-clause-pass : goal.returns-clause-pass
-returns-clause-pass g c =
-    let k : ℕ = c.chooser.inside.faults in
-    let r : TreeNode g.row.T.Denot = c.in_ok-root.root in
-    of_answer c.of.result (λ t. t ≡ state k r) _ c.of.ensures.is
-    (λ t is test first second third. subst (λ (x : TreeState g.row.T.Denot). DoPathsPass test x.paths) (sym is)
-    (paths_of_forks test k r (c.in_ok-root.ensures.pass test
-    (forks_of_paths test k c.deref.result.now
-    (subst (λ (x : TreeState Bool). DoPathsPass test x.paths)
-    (sym (root_seen c.chooser.inside.faults c.deref.result.now c.chooser.inside.root.value c.deref.ensures c.args.chooser.now c.chooser.view_is)) first))
-    (forks_of_paths test c.yes.inside.faults c.deref-2.result.now
-    (subst (λ (x : TreeState g.row.T.Denot). DoPathsPass test x.paths)
-    (sym (root_seen c.yes.inside.faults c.deref-2.result.now c.yes.inside.root.value c.deref-2.ensures c.args.yes.now c.yes.view_is)) second))
-    (forks_of_paths test c.no.inside.faults c.deref-3.result.now
-    (subst (λ (x : TreeState g.row.T.Denot). DoPathsPass test x.paths)
-    (sym (root_seen c.no.inside.faults c.deref-3.result.now c.no.inside.root.value c.deref-3.ensures c.args.no.now c.no.view_is)) third)))))
+returns-clause-pass g c test =
+    let n = c.items.ensures.flat in
+    let a = c.items-on.ensures.flat in
+    let b = c.items-off.ensures.flat in
+    let r = c.in_ok-pick_items.ensures.made n.0 a.0 b.0 n.1 a.1 b.1 in
+    let are = all_added c.in_ok-made.made.items c.pick_items.new.out.items r.0 c.in_ok-made.ensures.items r.1 in
+    pick_passes c.args.chooser.now c.args.yes.now c.args.no.now n.0 a.0 b.0 (c.items.ensures.good n.0 n.1) (c.items-on.ensures.good a.0 a.1) (c.items-off.ensures.good b.0 b.1)
+    (c.items.ensures.paths n.0 n.1) (c.items-on.ensures.paths a.0 a.1) (c.items-off.ensures.paths b.0 b.1) c.faults-faults.result c.faults-faults.ensures r.0 c.of.result
+    (c.of.ensures.is r.0 are) test (r.2.pass test)

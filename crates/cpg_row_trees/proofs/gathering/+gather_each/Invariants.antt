@@ -1,0 +1,5 @@
+use Rattle.std.proofs.Common.{length}
+use Rattle.cpg_row_trees.proofs.gathering.+gather_each.Given as goal
+
+abbrev pub decreases-gather_each : goal.decreases-gather_each
+decreases-gather_each g l = length l.items.now

@@ -1,0 +1,5 @@
+use Rattle.std.proofs.Common.{length}
+use Rattle.cpg_row_trees.proofs.walk.+do_pass.Given as goal
+
+abbrev pub decreases-do_pass : goal.decreases-do_pass
+decreases-do_pass g l = length l.items.now

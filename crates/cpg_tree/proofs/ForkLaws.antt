@@ -1,0 +1,133 @@
+-- What a fork of two trees is, and that of the trees at the end of a list.
+use Rattle.std.proofs.Common.{ℕ, ◌+◌, ◌-◌, ◌<◌, ◌≤◌, ◌≡◌, ◌≢◌, max, min, List, [], ◌∷◌, ◌++◌, length, take, drop, Bool, true, arith, refl, sym, ap, ◌∙◌, subst, append_assoc}
+use Rattle.std.proofs.lemmas.List.{length-append}
+use Rattle.cpg_base.specs.Scenario.{Scenario, number_of}
+use Rattle.cpg_tree.specs.TreeNode.{TreeNode, Leaf, Fork}
+use Rattle.cpg_tree.specs.declared.item.TreeItem.{TreeItem}
+use Rattle.cpg_tree.specs.declared.item.TreeItem.TheVariants.{Value, Cut}
+use Rattle.cpg_tree.specs.Decision.{value_at, low_at, high_at}
+use Rattle.cpg_tree.specs.Results.{IsForkOf}
+use Rattle.cpg_tree.specs.Flat.{flat}
+use Rattle.cpg_tree.specs.Added.{Adds, IsForked, IsSplit, IsMet}
+use Rattle.cpg_tree.proofs.Forks as forks
+use Rattle.cpg_tree.proofs.Fits.{fits_uncut, fits_joined}
+use Rattle.cpg_tree.proofs.Flats.{flat-same, last_same, rest_same, take_front, drop_front, cut_is_no_value}
+
+-- ---- of trees
+
+module _ {T : Type 0} (v cut : ℕ) (below above : TreeNode T) where
+  pub forked_same : IsForked v cut below below below
+  forked_same = record {
+    made = record {
+      value_below = λ s h. refl;
+      value_above = λ s h. refl;
+      low_below = λ s u h. omega arith;
+      low_above = λ s u h n. omega arith;
+      low_here = λ s h. omega arith;
+      high_below = λ k s u h n. omega arith;
+      high_here = λ k s h. omega arith;
+      high_above = λ k s u h. omega arith;
+    };
+    fit = λ room lower upper fit other. fits_uncut below room v cut upper fit;
+    pass = λ test is p q. p;
+  }
+
+  pub forked_plain : v < 256 → IsForked v cut below above (Fork v cut below above)
+  forked_plain small = record {
+    made = record {
+      value_below = λ s h. forks.value_below v cut below above s h;
+      value_above = λ s h. forks.value_above v cut below above s h;
+      low_below = λ s u h. omega (arith, forks.low_below v cut below above s h u);
+      low_above = λ s u h n. omega (arith, forks.low_above v cut below above s h u n);
+      low_here = λ s h. omega (arith, forks.low_here v cut below above s h);
+      high_below = λ k s u h n. omega (arith, forks.high_below v cut below above s h k u n);
+      high_here = λ k s h. omega (arith, forks.high_here v cut below above s h k);
+      high_above = λ k s u h. omega (arith, forks.high_above v cut below above s h k u);
+    };
+    fit = λ room lower upper fit other. (small, lower, upper, fit, other);
+    pass = λ test is p q. (is, p, q);
+  }
+
+  module _ (far : ℕ) (less : cut < far) where
+    farther : (s : Scenario) → number_of s v ≤ cut → number_of s v ≤ far
+    farther s h = omega (arith, h, less)
+
+    pub forked_met : IsForked v cut below (Fork v far below above) (Fork v far below above)
+    forked_met = record {
+      made = record {
+        value_below = λ s h. forks.value_below v far below above s (farther s h);
+        value_above = λ s h. refl;
+        low_below = λ s u h. omega (arith, forks.low_below v far below above s (farther s h) u);
+        low_above = λ s u h n. omega arith;
+        low_here = λ s h. omega arith;
+        high_below = λ k s u h n. omega (arith, forks.high_below v far below above s (farther s h) k u n);
+        high_here = λ k s h. omega (arith, less, forks.high_here v far below above s (farther s h) k);
+        high_above = λ k s u h. omega arith;
+      };
+      fit = λ room lower upper fit other. fits_joined below below above (Fork v far below above) room v cut v far refl refl less lower fit other;
+      pass = λ test is p q. q;
+    }
+
+-- a tree whose list begins with that of another and ends in a cut behind it
+pub met_is : {T : Type 0} (a b : TreeNode T) (rest : List (TreeItem T)) (v far : ℕ) → flat a ≡ flat b ++ rest ++ (Cut v far (length (flat b)) ∷ []) → (y : TreeNode T) × (a ≡ Fork v far b y)
+met_is (Leaf x) b rest v far e = absurd (cut_is_no_value (sym (last_same [] (flat b ++ rest) (Value x) _ e)))
+met_is {T} (Fork u cut x y) b rest v far e =
+    let same : Cut u cut (length (flat x)) ≡ Cut v far (length (flat b)) = last_same (flat x ++ flat y) (flat b ++ rest) _ _ e in
+    let parts : flat x ++ flat y ≡ flat b ++ rest = rest_same (flat x ++ flat y) (flat b ++ rest) _ _ e in
+    let long : length (flat x) ≡ length (flat b) = cc in
+    let one : u ≡ v = cc in
+    let two : cut ≡ far = cc in
+    let side : x ≡ b = flat-same x b (sym (take_front (flat x) (flat y) (length (flat x)) refl) ∙ ap (take (length (flat x))) parts ∙ take_front (flat b) rest (length (flat x)) long) in
+    (y, ap (λ w. Fork w cut x y) one ∙ ap (λ w. Fork v w x y) two ∙ ap (λ w. Fork v far w y) side)
+
+-- ---- of lists
+
+module _ {T : Type 0} (start middle : ℕ) (old before : List (TreeItem T)) (below above : TreeNode T) (split : IsSplit start middle old before below above) where
+  behind : middle ≡ length (before ++ flat below)
+  behind = omega (arith, split.second, length-append before (flat below))
+
+  front_is : take middle old ≡ before ++ flat below
+  front_is = ap (take middle) split.is ∙ take_front (before ++ flat below) (flat above) middle behind
+
+  above_is : drop middle old ≡ flat above
+  above_is = ap (drop middle) split.is ∙ drop_front (before ++ flat below) (flat above) middle behind
+
+  below_is : drop start (take middle old) ≡ flat below
+  below_is = ap (drop start) front_is ∙ drop_front before (flat below) start split.first
+
+  before_is : take start old ≡ before
+  before_is = ap (take start) (split.is ∙ append_assoc before (flat below) (flat above)) ∙ take_front before (flat below ++ flat above) start split.first
+
+  between : middle - start ≡ length (flat below)
+  between = omega (arith, split.first, split.second)
+
+  again : start + (middle - start) ≡ middle
+  again = omega (arith, split.first, split.second)
+
+  module _ (v cut : ℕ) (new : List (TreeItem T)) where
+    -- both sides are equal
+    pub forks_same : drop start (take middle old) ≡ drop middle old → new ≡ take middle old → Adds (IsForked v cut below above) before new
+    forks_same same cutoff =
+        let one : below ≡ above = flat-same below above (sym below_is ∙ same ∙ above_is) in
+        (below, cutoff ∙ front_is, subst (λ (n : TreeNode T). IsForked v cut below n below) one (forked_same v cut below above))
+
+    -- the side below is met again
+    pub forks_met : IsMet (drop start (take middle old)) (drop middle old) v cut → new ≡ take start old ++ drop (start + (middle - start)) old → Adds (IsForked v cut below above) before new
+    forks_met (far, rest, less, ends) taken =
+        let whole : flat above ≡ flat below ++ rest ++ (Cut v far (length (flat below)) ∷ []) =
+        sym above_is ∙ ends ∙ ap (λ (xs : List (TreeItem T)). xs ++ rest ++ (Cut v far (length xs) ∷ [])) below_is in
+        let is = met_is above below rest v far whole in (
+          above,
+          taken ∙ ap (λ (xs : List (TreeItem T)). xs ++ drop (start + (middle - start)) old) before_is ∙ ap (λ n. before ++ drop n old) again ∙ ap (λ (xs : List (TreeItem T)). before ++ xs) above_is,
+          subst (λ (n : TreeNode T). IsForked v cut below n n) (sym is.1) (forked_met v cut below is.0 far less),
+        )
+
+    -- else the fork is added
+    pub forks_plain : v < 256 → new ≡ old ++ (Cut v cut (middle - start) ∷ []) → Adds (IsForked v cut below above) before new
+    forks_plain small added = (
+      Fork v cut below above,
+      added ∙ ap (λ (xs : List (TreeItem T)). xs ++ (Cut v cut (middle - start) ∷ [])) (split.is ∙ append_assoc before (flat below) (flat above))
+          ∙ append_assoc before (flat below ++ flat above) (Cut v cut (middle - start) ∷ [])
+          ∙ ap (λ n. before ++ (flat below ++ flat above ++ (Cut v cut n ∷ []))) between,
+      forked_plain v cut below above small,
+    )

@@ -1,0 +1,5 @@
+use Rattle.std.proofs.Common.{length}
+use Rattle.cpg_tree.proofs.at.+at_items.Given as goal
+
+abbrev pub decreases-at_items : goal.decreases-at_items
+decreases-at_items g l = length l.items.now

@@ -1,0 +1,9 @@
+use Rattle.std.proofs.Common.{◌≡◌, length}
+use Rattle.cpg_tree.proofs.Moves.{moved}
+use Rattle.cpg_tree.proofs.fork.take_out.Given as goal
+
+abbrev pub invariant-loop-i : goal.invariant-loop-i
+invariant-loop-i g l = record {
+  long : length l.out.items ≡ length l.fn.out.items;
+  is : l.out.items ≡ moved l.fn.out.items l.from l.count l.i;
+}

@@ -1,0 +1,5 @@
+use Rattle.std.proofs.Common.{length}
+use Rattle.cpg_tree.proofs.greater.+bounded_part.Given as goal
+
+abbrev pub decreases-bounded_part : goal.decreases-bounded_part
+decreases-bounded_part g l = length l.tree.items.now

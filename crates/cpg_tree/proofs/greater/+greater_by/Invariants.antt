@@ -1,0 +1,5 @@
+use Rattle.std.proofs.Common.{length}
+use Rattle.cpg_tree.proofs.greater.+greater_by.Given as goal
+
+abbrev pub decreases-greater_by : goal.decreases-greater_by
+decreases-greater_by g l = length l.own.items.now

@@ -1,0 +1,34 @@
+-- The tree that a list gives back: read from the front, with what was read so far on a stack.
+use Rattle.std.specs.Prelude.{ℕ, ◌≡◌, List, [], ◌∷◌}
+use Rattle.cpg_cube.specs.declared.literal.Literal.{Literal}
+use Rattle.cpg_tree.specs.TreeNode.{TreeNode, Leaf, Fork}
+use Rattle.cpg_tree.specs.declared.item.TreeItem.{TreeItem}
+use Rattle.cpg_tree.specs.declared.item.TreeItem.TheVariants.{Value, Cut}
+use Rattle.cpg_tree.specs.Decision.{IsGood}
+use Rattle.cpg_tree.specs.Flat.{flat}
+use Rattle.cpg_tree.specs.Paths.{paths_of}
+
+-- what an item makes of the stack
+abbrev pub stacked : {T : Type 0} → TreeItem T → List (TreeNode T) → List (TreeNode T)
+stacked (Value x) stack = Leaf x ∷ stack
+stacked (Cut v cut n) [] = []
+stacked (Cut v cut n) (above ∷ []) = above ∷ []
+stacked (Cut v cut n) (above ∷ below ∷ stack) = Fork v cut below above ∷ stack
+
+-- what all items make of it
+abbrev pub read_back : {T : Type 0} → List (TreeItem T) → List (TreeNode T) → List (TreeNode T)
+read_back [] stack = stack
+read_back (x ∷ xs) stack = read_back xs (stacked x stack)
+
+-- the paths of the tree that stands on top
+abbrev pub paths_on : {T : Type 0} → ℕ → List (TreeNode T) → List (List Literal × T)
+paths_on k [] = []
+paths_on k (n ∷ stack) = paths_of k n
+
+-- the paths of the tree that a list is of
+abbrev pub paths_in : {T : Type 0} → ℕ → List (TreeItem T) → List (List Literal × T)
+paths_in k items = paths_on k (read_back items [])
+
+-- the list of a tree each side of each fork of which is met by some scenario of at most k faults
+abbrev pub IsGoodList : {T : Type 0} → ℕ → List (TreeItem T) → Type 0
+IsGoodList {T} k items = (n : TreeNode T) × (items ≡ flat n) × IsGood k n

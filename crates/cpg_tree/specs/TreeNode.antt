@@ -1,0 +1,6 @@
+-- A decision tree: a value, or a fork by the number of a variable.
+use Rattle.std.specs.Prelude.{ℕ}
+
+pub data TreeNode (T : Type 0) : Type 0 where
+  Leaf : T → TreeNode T
+  Fork : ℕ → ℕ → TreeNode T → TreeNode T → TreeNode T

@@ -1,0 +1,195 @@
+//! A fork of the two trees that a list ends in.
+ghost use Rattle.std.specs.Prelude.{◌≡◌, ◌≤◌, ◌<◌, ◌+◌, ◌-◌, ◌++◌, ◌∷◌, [], true, take, drop, length, IfOk, List};
+ghost use Rattle.std.specs.Bool.{OnTrue};
+ghost use Rattle.cpg_tree.specs.declared.item.TreeItem.{TreeItem};
+ghost use Rattle.cpg_tree.specs.declared.item.TreeItem.TheVariants.{Cut};
+ghost use Rattle.cpg_tree.specs.Added.{ForksEnd, IsMet};
+
+use crate::item::{TreeItem, are_same_items};
+use cpg_base::OutOfMemory;
+
+/// Whether the two lists are equal.
+fn sides_are_same<T: Copy + Eq>(items: &[TreeItem<T>], start: usize, middle: usize) -> bool
+    requires equal { (x y : T) → T.eq x y ≡ true → x ≡ y }
+    requires order { start ≤ middle }
+    requires long { middle ≤ length items.now }
+    ensures { OnTrue result (drop start (take middle items.now) ≡ drop middle items.now) }
+{
+    let (front, above) = items.split_at(middle);
+    are_same_items(front.split_at(start).1, above)
+}
+
+/// Whether the side above is a fork on the variable farther up whose side below is equal to the side below.
+fn is_met<T: Copy + Eq>(below: &[TreeItem<T>], above: &[TreeItem<T>], variable: u8, cut: u8) -> bool
+    requires { (x y : T) → T.eq x y ≡ true → x ≡ y }
+    ensures { OnTrue result (IsMet below.now above.now variable cut) }
+{
+    let Some((last, sides)) = above.split_last() else {
+        return false;
+    };
+    let TreeItem::Cut {
+        variable: next,
+        cut: far,
+        below: count,
+    } = *last
+    else {
+        return false;
+    };
+    if next != variable {
+        return false;
+    }
+    if far <= cut {
+        return false;
+    }
+    if count as usize != below.len() {
+        return false;
+    }
+    if sides.len() < below.len() {
+        return false;
+    }
+    are_same_items(below, sides.split_at(below.len()).0)
+}
+
+/// As `is_met`, of the two lists that a list ends in.
+fn sides_meet<T: Copy + Eq>(
+    items: &[TreeItem<T>],
+    start: usize,
+    middle: usize,
+    variable: u8,
+    cut: u8,
+) -> bool
+    requires equal { (x y : T) → T.eq x y ≡ true → x ≡ y }
+    requires order { start ≤ middle }
+    requires long { middle ≤ length items.now }
+    ensures { OnTrue result (IsMet (drop start (take middle items.now)) (drop middle items.now) variable cut) }
+{
+    let (front, above) = items.split_at(middle);
+    is_met(front.split_at(start).1, above, variable, cut)
+}
+
+/// Takes items out.
+fn take_out<T: Copy>(out: &mut Vec<TreeItem<T>>, from: usize, count: usize)
+    requires { from + count ≤ length out.old.items }
+    ensures { out.new.items ≡ take from out.old.items ++ drop (from + count) out.old.items }
+{
+    let left = out.len() - count;
+    for i in from..left {
+        out[i] = out[i + count];
+    }
+    out.truncate(left);
+}
+
+/// Adds a fork behind as many items of its side below, and those of its side above.
+pub fn push_cut<T: Copy>(
+    out: &mut Vec<TreeItem<T>>,
+    variable: u8,
+    cut: u8,
+    count: usize,
+) -> Result<(), OutOfMemory>
+    ensures { IfOk result (λ _. out.new.items ≡ out.old.items ++ (Cut variable cut count ∷ [])) }
+{
+    let Ok(below) = u32::try_from(count) else {
+        return Err(OutOfMemory);
+    };
+    out.push(TreeItem::Cut {
+        variable,
+        cut,
+        below,
+    })?;
+    Ok(())
+}
+
+/// A fork of the two trees that a list ends in, from a start and a middle on.
+pub fn fork_of<T: Copy>(
+    out: &mut Vec<TreeItem<T>>,
+    start: usize,
+    middle: usize,
+    variable: u8,
+    cut: u8,
+) -> Result<(), OutOfMemory>
+    requires order { start ≤ middle }
+    requires long { middle ≤ length out.old.items }
+    ensures long { IfOk result (λ _. start ≤ length out.new.items) }
+    ensures made { IfOk result (λ _. ForksEnd start middle variable cut out.old.items out.new.items) }
+{
+    push_cut(out, variable, cut, middle - start)
+}
+
+/// Whether a look at the last items of two lists tells that the first is equal neither to the second nor to what that has
+/// below a fork on a variable. No clause speaks of it: it only saves time.
+fn are_apart<T: Copy + Eq>(below: TreeItem<T>, above: TreeItem<T>, variable: u8) -> bool {
+    match above {
+        TreeItem::Value(high) => match below {
+            TreeItem::Value(low) => low != high,
+            TreeItem::Cut { .. } => true,
+        },
+        TreeItem::Cut {
+            variable: next,
+            cut,
+            ..
+        } => match below {
+            TreeItem::Value(_) => next != variable,
+            TreeItem::Cut {
+                variable: own,
+                cut: own_cut,
+                ..
+            } => next != variable && (own != next || own_cut != cut),
+        },
+    }
+}
+
+/// As `are_apart`, of the two lists that a list ends in.
+#[inline]
+fn sides_are_apart<T: Copy + Eq>(items: &[TreeItem<T>], middle: usize, variable: u8) -> bool {
+    if middle == 0 || middle >= items.len() {
+        return false;
+    }
+    are_apart(items[middle - 1], items[items.len() - 1], variable)
+}
+
+/// A fork of the two trees that a list ends in, from a start and a middle on, or one tree if both are equal. If the side
+/// above is a fork on the same variable with an equal side below, the first cut is left out.
+pub(crate) fn fork<T: Copy + Eq>(
+    out: &mut Vec<TreeItem<T>>,
+    start: usize,
+    middle: usize,
+    variable: u8,
+    cut: u8,
+) -> Result<(), OutOfMemory>
+    requires equal { (x y : T) → T.eq x y ≡ true → x ≡ y }
+    requires order { start ≤ middle }
+    requires long { middle ≤ length out.old.items }
+    ensures long { IfOk result (λ _. start ≤ length out.new.items) }
+    ensures made { IfOk result (λ _. ForksEnd start middle variable cut out.old.items out.new.items) }
+{
+    if sides_are_apart(out.as_slice(), middle, variable) {
+        return fork_of(out, start, middle, variable, cut);
+    }
+    fork_by_sides(out, start, middle, variable, cut)
+}
+
+/// As `fork`, by a look at the whole of both lists.
+#[inline(never)]
+fn fork_by_sides<T: Copy + Eq>(
+    out: &mut Vec<TreeItem<T>>,
+    start: usize,
+    middle: usize,
+    variable: u8,
+    cut: u8,
+) -> Result<(), OutOfMemory>
+    requires equal { (x y : T) → T.eq x y ≡ true → x ≡ y }
+    requires order { start ≤ middle }
+    requires long { middle ≤ length out.old.items }
+    ensures long { IfOk result (λ _. start ≤ length out.new.items) }
+    ensures made { IfOk result (λ _. ForksEnd start middle variable cut out.old.items out.new.items) }
+{
+    if sides_are_same(out.as_slice(), start, middle) {
+        out.truncate(middle);
+        return Ok(());
+    }
+    if sides_meet(out.as_slice(), start, middle, variable, cut) {
+        take_out(out, start, middle - start);
+        return Ok(());
+    }
+    fork_of(out, start, middle, variable, cut)
+}

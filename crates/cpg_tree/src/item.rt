@@ -1,0 +1,55 @@
+//! What a tree's list holds.
+ghost use Rattle.std.specs.Prelude.{◌≡◌, true};
+ghost use Rattle.std.specs.Bool.{OnTrue};
+
+/// A value, or a fork by the number of a variable, behind the items of its sides: those of the side below, then those
+/// of the side above.
+#[derive(Clone, Copy)]
+pub enum TreeItem<T> {
+    Value(T),
+    Cut { variable: u8, cut: u8, below: u32 },
+}
+
+impl<T: Copy + Eq> TreeItem<T> {
+    /// Whether two items are equal.
+    #[inline]
+    pub(crate) fn is_same(self, other: TreeItem<T>) -> bool
+        requires { (x y : T) → T.eq x y ≡ true → x ≡ y }
+        ensures { OnTrue result (self ≡ other) }
+    {
+        match self {
+            TreeItem::Value(value) => match other {
+                TreeItem::Value(other) => value == other,
+                TreeItem::Cut { .. } => false,
+            },
+            TreeItem::Cut {
+                variable,
+                cut,
+                below,
+            } => match other {
+                TreeItem::Value(_) => false,
+                TreeItem::Cut {
+                    variable: other_variable,
+                    cut: other_cut,
+                    below: other_below,
+                } => variable == other_variable && cut == other_cut && below == other_below,
+            },
+        }
+    }
+}
+
+/// Whether two lists are equal.
+pub(crate) fn are_same_items<T: Copy + Eq>(one: &[TreeItem<T>], other: &[TreeItem<T>]) -> bool
+    requires { (x y : T) → T.eq x y ≡ true → x ≡ y }
+    ensures { OnTrue result (one.now ≡ other.now) }
+{
+    if one.len() != other.len() {
+        return false;
+    }
+    for i in 0..one.len() {
+        if !one[i].is_same(other[i]) {
+            return false;
+        }
+    }
+    true
+}

@@ -1,0 +1,103 @@
+//! The answers of a function to the values of two trees.
+ghost use Rattle.std.specs.Prelude.{◌≡◌, ◌≤◌, true, IfOk, length, vec_len};
+ghost use Rattle.cpg_tree.specs.TreeNode.{TreeNode};
+ghost use Rattle.cpg_tree.specs.Flat.{IsFlat, flat};
+ghost use Rattle.cpg_tree.specs.Added.{Adds, IsFilled, IsJoined};
+
+use crate::fork::fork;
+use crate::item::TreeItem;
+use crate::part::part_in;
+use crate::space::Space;
+use crate::top::{Top, top_of};
+use cpg_base::OutOfMemory;
+
+/// Adds the tree of the answers to a value and the values, for the scenarios of a space.
+pub(crate) fn fill_items<T: Copy, U: Copy, V: Copy + Eq, F: Fn(T, U) -> V>(
+    items: &[TreeItem<U>],
+    space: &mut Space,
+    value: T,
+    f: &F,
+    out: &mut Vec<TreeItem<V>>,
+) -> Result<(), OutOfMemory>
+    requires callable { F.IsAlwaysCallable f.now }
+    requires equal { (x y : V) → V.eq x y ≡ true → x ≡ y }
+    requires flat { IsFlat items.now }
+    ensures long { IfOk result (λ _. vec_len out.old ≤ vec_len out.new) }
+    ensures back { IfOk result (λ _. space.new ≡ space.old) }
+    ensures made { IfOk result (λ _. (n : TreeNode U) → items.now ≡ flat n → Adds (IsFilled (F.post f.now) space.old value n) out.old.items out.new.items) }
+{
+    match top_of(items) {
+        Top::Value(other) => {
+            out.push(TreeItem::Value(f(value, other)))?;
+            Ok(())
+        }
+        Top::Cut {
+            variable,
+            cut,
+            below,
+            above,
+        } => {
+            if !space.is_open_below(variable, cut) {
+                return fill_items(above, space, value, f, out);
+            }
+            if !space.is_open_above(variable, cut) {
+                return fill_items(below, space, value, f, out);
+            }
+            let start = out.len();
+            let most = space.close_above(variable, cut);
+            fill_items(below, space, value, f, out)?;
+            space.reopen_above(variable, most);
+            let middle = out.len();
+            let least = space.close_below(variable, cut);
+            fill_items(above, space, value, f, out)?;
+            space.reopen_below(variable, least);
+            fork(out, start, middle, variable, cut)
+        }
+    }
+}
+
+/// Adds the tree of the answers to the values of two trees, for the scenarios of a space.
+pub(crate) fn join_items<T: Copy, U: Copy, V: Copy + Eq, F: Fn(T, U) -> V>(
+    items: &[TreeItem<T>],
+    other: &[TreeItem<U>],
+    space: &mut Space,
+    f: &F,
+    out: &mut Vec<TreeItem<V>>,
+) -> Result<(), OutOfMemory>
+    requires callable { F.IsAlwaysCallable f.now }
+    requires equal { (x y : V) → V.eq x y ≡ true → x ≡ y }
+    requires flat { IsFlat items.now }
+    requires other_flat { IsFlat other.now }
+    ensures long { IfOk result (λ _. vec_len out.old ≤ vec_len out.new) }
+    ensures back { IfOk result (λ _. space.new ≡ space.old) }
+    ensures made { IfOk result (λ _. (n : TreeNode T) (m : TreeNode U) → items.now ≡ flat n → other.now ≡ flat m →
+        Adds (IsJoined (F.post f.now) space.old n m) out.old.items out.new.items) }
+{
+    // so that no leaf goes through the other tree from its top
+    let other = part_in(other, space);
+    match top_of(items) {
+        Top::Value(value) => fill_items(other, space, value, f, out),
+        Top::Cut {
+            variable,
+            cut,
+            below,
+            above,
+        } => {
+            if !space.is_open_below(variable, cut) {
+                return join_items(above, other, space, f, out);
+            }
+            if !space.is_open_above(variable, cut) {
+                return join_items(below, other, space, f, out);
+            }
+            let start = out.len();
+            let most = space.close_above(variable, cut);
+            join_items(below, other, space, f, out)?;
+            space.reopen_above(variable, most);
+            let middle = out.len();
+            let least = space.close_below(variable, cut);
+            join_items(above, other, space, f, out)?;
+            space.reopen_below(variable, least);
+            fork(out, start, middle, variable, cut)
+        }
+    }
+}

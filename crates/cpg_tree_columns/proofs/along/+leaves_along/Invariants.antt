@@ -1,0 +1,5 @@
+use Rattle.std.proofs.Common.{length}
+use Rattle.cpg_tree_columns.proofs.along.+leaves_along.Given as goal
+
+abbrev pub decreases-leaves_along : goal.decreases-leaves_along
+decreases-leaves_along g l = length l.items.now

@@ -1,0 +1,5 @@
+use Rattle.std.proofs.Common.{length}
+use Rattle.cpg_tree_columns.proofs.peaks.+narrow_to_first.Given as goal
+
+abbrev pub decreases-narrow_to_first : goal.decreases-narrow_to_first
+decreases-narrow_to_first l = length l.items.now
