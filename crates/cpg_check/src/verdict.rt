@@ -10,10 +10,10 @@ ghost use Rattle.cpg_row_trees.specs.Trees.{AreRowTrees};
 ghost use Rattle.cpg_check.specs.Verdict.{ShowsFault, ShowsVerdict};
 
 use cpg_base::OutOfMemory;
-use cpg_check_heard::check_heard;
+use cpg_check_heard::{check_heard, sift_heard};
 use cpg_check_quick::time_marks;
 use cpg_check_rows::{check_hears, check_rows, row_marks};
-use cpg_check_time::check_time;
+use cpg_check_time::{check_time, sift_time};
 use cpg_row_trees::{Places, row_trees};
 use cpg_rules::Admitted;
 use cpg_table::{Fault, Tables};
@@ -31,8 +31,7 @@ pub enum Verdict {
     No(Fault),
 }
 
-/// The first violation of V1 to V3, by the trees of all rows. The lines of the items are made only if some item isn't
-/// marked as sure.
+/// The first violation of V1 to V3, by the trees of all rows.
 fn row_fault(
     alloc: Global,
     admitted: &Admitted,
@@ -49,29 +48,32 @@ fn row_fault(
     if marks.are_all(problem.item_count()) {
         return Ok(None);
     }
-    let lines = lines_of(alloc, problem, tables)?;
-    let fault = check_rows(alloc, admitted, tables, lines.as_slice(), &marks)?;
+    let fault = check_rows(alloc, admitted, tables, &marks)?;
     Ok(fault)
 }
 
-/// The first violation of V4 to V9, by the lines of all items.
+/// The first violation of V4 to V9, by the lines of all items. Only those that may be asked are sifted.
 fn later_fault(
     alloc: Global,
     admitted: &Admitted,
     tables: &Tables,
-    lines: &[SievedLine<'_>],
+    lines: &mut [SievedLine<'_>],
     marks: &TimeMarks,
 ) -> Result<Option<Fault>, OutOfMemory>
     requires head { IsHeadFor admitted.now.graph tables.now.head }
     requires rules { AllHold admitted.now.graph tables.now.nodes row_rules }
-    requires lines { AreLines tables.now.nodes (item_count admitted.now.graph) lines.now }
+    requires lines { AreLines tables.now.nodes (item_count admitted.now.graph) lines.old }
     requires marks { AreTimeMarks admitted.now.graph tables.now.nodes marks.now }
     ensures none { IfOk result (λ r. IfNone r (AllHold admitted.now.graph tables.now.nodes (Rule.Heard ∷ time_rules))) }
     ensures first { IfOk result (λ r. IfSome r (IsFirstOf admitted.now.graph admitted.now.order tables.now.nodes (Rule.Heard ∷ time_rules))) }
 {
-    if let Some(fault) = check_heard(alloc, admitted, tables, lines, marks.heard.as_slice())? {
+    let problem = admitted.problem();
+    let heard = marks.heard.as_slice();
+    sift_heard(alloc, problem, tables, lines, heard)?;
+    if let Some(fault) = check_heard(alloc, admitted, tables, lines, heard)? {
         return Ok(Some(fault));
     }
+    sift_time(alloc, problem, tables, lines, marks)?;
     let fault = check_time(alloc, admitted, tables, lines, marks)?;
     Ok(fault)
 }
@@ -95,8 +97,8 @@ fn time_fault(
     if marks.are_all(problem.item_count()) {
         return Ok(None);
     }
-    let lines = lines_of(alloc, problem, tables)?;
-    let fault = later_fault(alloc, admitted, tables, lines.as_slice(), &marks)?;
+    let mut lines = lines_of(alloc, problem, tables)?;
+    let fault = later_fault(alloc, admitted, tables, lines.as_mut_slice(), &marks)?;
     Ok(fault)
 }
 

@@ -1,5 +1,5 @@
 -- Columns that a node hears: what one tells, and one more.
-use Rattle.std.proofs.Common.{ℕ, zero, suc, ◌+◌, ◌<◌, ◌≡◌, Bool, true, false, ◌&&◌, ◌||◌, List, [], ◌∷◌, ◌++◌, get_or, length, All, Option, arith, sym, ap, ◌∙◌, subst, lt-ltb}
+use Rattle.std.proofs.Common.{ℕ, zero, suc, ◌+◌, ◌<◌, ◌≤◌, ◌≡◌, Bool, true, false, ◌&&◌, ◌||◌, List, [], ◌∷◌, ◌++◌, get_or, length, All, Option, arith, refl, sym, ap, ◌∙◌, subst, lt-ltb}
 use Rattle.std.specs.Prelude.{nat_le}
 use Rattle.std.specs.List.{list_any}
 use Rattle.std.proofs.Math.Bool.{or-false}
@@ -54,3 +54,8 @@ pub telling_at : (g : Graph) (time : ℕ) (b : LiteralBound) (s : Scenario) (tel
 telling_at g time b s telling columns i c l e =
     ap (λ t. t && is_telling g telling time b s (column_at columns i)) (lt-ltb i (length columns) l)
     ∙ ap (is_telling g telling time b s) (sym (e _))
+
+-- no column of a row that begins late passes a test that no late column passes
+pub late_row : (test : Column → Bool) (columns : List Column) (first : ℕ) → All (λ c. first ≤ c.time) columns → ((c : Column) → first ≤ c.time → test c ≡ false) → list_any test columns ≡ false
+late_row test [] first all none = refl
+late_row test (c ∷ cs) first all none = rw (none c (all 0 c (omega arith))) (late_row test cs first (λ k d l. all (suc k) d (omega arith)) none)

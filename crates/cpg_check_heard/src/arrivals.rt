@@ -9,7 +9,7 @@ ghost use Rattle.cpg_cube.specs.Cube.{matches};
 ghost use Rattle.cpg_cube.specs.Fit.{IsKnown};
 ghost use Rattle.cpg_table.specs.Shape.{heard_by};
 ghost use Rattle.cpg_cube.specs.Column.{Column};
-ghost use Rattle.cpg_violation.specs.Sieves.{IsSieveOf};
+ghost use Rattle.cpg_violation.specs.Lines.{IsLine};
 ghost use Rattle.cpg_check_heard.specs.Arrivals.{AreArrivals, IsArrival, do_tell};
 ghost use Rattle.cpg_check_heard.specs.Bounds.{variable_of};
 ghost use Rattle.cpg_check_heard.specs.Hearings.{IsHearing};
@@ -66,7 +66,8 @@ fn add_column<'a>(
     Ok(())
 }
 
-/// Adds the columns of a row whose frames may have come by a time, as far as they may match together with a cube.
+/// Adds the columns of a row whose frames may have come by a time, as far as they may match together with a cube. None is
+/// looked at if even the first is too late.
 fn add_row<'a>(
     alloc: Global,
     teller: &Teller<'a>,
@@ -74,7 +75,7 @@ fn add_row<'a>(
     time: u64,
     arrivals: &mut Vec<Arrival<'a>>,
 ) -> Result<(), OutOfMemory>
-    requires { IsSieveOf teller.now.line.now.columns.now teller.now.line.now.sieve }
+    requires { IsLine teller.now.line.now.columns.now teller.now.line.now }
     ensures each { IfOk result (λ _. (g : Graph) → All (λ c. IsKnown g c.cube) teller.now.line.now.columns.now
         → ((b : LiteralBound) → CanTell g b teller.now.telling) → All (IsArrival g) arrivals.old.items
         → All (IsArrival g) arrivals.new.items) }
@@ -83,6 +84,9 @@ fn add_row<'a>(
         || row_tells g teller.now.telling time b teller.now.line.now.columns.now s)) }
 {
     let line = teller.line;
+    if !may_have_come(teller.telling, line.first, time) {
+        return Ok(());
+    }
     let places = line.sieve.candidates(alloc, line.columns, cube)?;
     for place in places.as_slice() {
         add_column(teller.telling, line.columns, *place, time, arrivals)?;

@@ -2,6 +2,7 @@
 #![tactic(auto)]
 
 mod arrivals;
+mod asked;
 mod bound;
 mod ended;
 mod frames;
@@ -10,4 +11,5 @@ mod hearing;
 mod parts;
 mod tellers;
 
+pub use asked::sift_heard;
 pub use heard::check_heard;

@@ -1,8 +1,6 @@
 //! The rules V1, V2 and V3, one after the other.
 ghost use Rattle.std.specs.Prelude.{◌≡◌, IfNone, IfOk, IfSome};
-ghost use Rattle.cpg_base.specs.Graph.{item_count};
 ghost use Rattle.cpg_violation.specs.Heads.{IsHeadFor};
-ghost use Rattle.cpg_violation.specs.Lines.{AreLines};
 ghost use Rattle.cpg_violation.specs.Sure.{AreRowMarks};
 ghost use Rattle.cpg_violation.specs.Violation.{AllHold, IsFirstOf, row_rules};
 
@@ -12,21 +10,18 @@ use crate::single::single_by;
 use cpg_base::OutOfMemory;
 use cpg_rules::Admitted;
 use cpg_table::{Fault, Tables};
-use cpg_violation::{RowMarks, SievedLine};
+use cpg_violation::RowMarks;
 use std::alloc::Global;
 
 /// The first violation of V1, V2 and V3, by rule, item and column, with the least scenario in the urgency order in which
-/// it stands. `None` exactly if the three rules hold. The lines are those of all items. If a rule is marked as sure at
-/// an item, it isn't looked at there.
+/// it stands. `None` exactly if the three rules hold. If a rule is marked as sure at an item, it isn't looked at there.
 pub fn check_rows(
     alloc: Global,
     admitted: &Admitted,
     tables: &Tables,
-    lines: &[SievedLine<'_>],
     marks: &RowMarks,
 ) -> Result<Option<Fault>, OutOfMemory>
     requires head { IsHeadFor admitted.now.graph tables.now.head }
-    requires lines { AreLines tables.now.nodes (item_count admitted.now.graph) lines.now }
     requires marks { AreRowMarks admitted.now.graph tables.now.nodes marks.now }
     ensures none { IfOk result (λ r. IfNone r (AllHold admitted.now.graph tables.now.nodes row_rules)) }
     ensures first { IfOk result (λ r. IfSome r (IsFirstOf admitted.now.graph admitted.now.order tables.now.nodes row_rules)) }
@@ -35,7 +30,7 @@ pub fn check_rows(
     if let Some(fault) = idle {
         return Ok(Some(fault));
     }
-    let double = single_by(alloc, admitted, tables, lines, marks.single.as_slice())?;
+    let double = single_by(alloc, admitted, tables, marks.single.as_slice())?;
     if let Some(fault) = double {
         return Ok(Some(fault));
     }

@@ -9,7 +9,6 @@ ghost use Rattle.cpg_base.specs.Scenario.{Scenario, IsScenario};
 ghost use Rattle.cpg_cube.specs.Cube.{matches};
 ghost use Rattle.cpg_cube.specs.Fit.{IsKnown};
 ghost use Rattle.cpg_table.specs.declared.rule.Rule.{Rule};
-ghost use Rattle.cpg_violation.specs.Lines.{AreLines};
 ghost use Rattle.cpg_violation.specs.Room.{HasRoom};
 ghost use Rattle.cpg_violation.specs.Sieves.{IsSieveOf, is_at};
 ghost use Rattle.cpg_violation.specs.Heads.{IsHeadFor};
@@ -23,7 +22,7 @@ use cpg_cube::{Cube, Entry};
 use cpg_row_trees::tree_of;
 use cpg_rules::Admitted;
 use cpg_table::{Fault, Rule, Tables};
-use cpg_violation::{Sieve, SievedLine, is_marked, met};
+use cpg_violation::{Sieve, is_marked, met};
 use std::alloc::Global;
 
 /// The least scenario that a cube matches together with the column at a place, if there is one.
@@ -137,18 +136,17 @@ fn first_double(
     problem: &Problem,
     order: &Order,
     columns: &[Entry],
-    sieve: &Sieve,
 ) -> Result<Option<(u32, Scenario)>, OutOfMemory>
     requires order { length order.now ≡ process_count problem.now }
     requires columns { All (λ c. IsKnown problem.now c.cube) columns.now }
     requires few { length columns.now ≤ MOST_LOAD }
-    requires sieve { IsSieveOf columns.now sieve.now }
     ensures none { IfOk result (λ r. IfNone r ((i : ℕ) (s : Scenario) → IsScenario problem.now s → is_double columns.now i s ≡ false)) }
     ensures first { IfOk result (λ r. IfSome r (IsFirstColumn problem.now order.now (is_double columns.now))) }
 {
     let first = first_with_tree(alloc, problem, columns)?;
+    let sieve = Sieve::of(alloc, columns)?;
     for column in first..columns.len() {
-        let met = shared_before(alloc, problem, order, sieve, columns, column)?;
+        let met = shared_before(alloc, problem, order, &sieve, columns, column)?;
         if let Some(scenario) = met {
             return Ok(Some((column as u32, scenario)));
         }
@@ -156,16 +154,14 @@ fn first_double(
     Ok(None)
 }
 
-/// The first violation of V2, by the sieves of all rows. Items at which the rule is marked as sure are left out.
+/// The first violation of V2. Items at which the rule is marked as sure are left out.
 pub(crate) fn single_by(
     alloc: Global,
     admitted: &Admitted,
     tables: &Tables,
-    lines: &[SievedLine<'_>],
     marks: &[bool],
 ) -> Result<Option<Fault>, OutOfMemory>
     requires head { IsHeadFor admitted.now.graph tables.now.head }
-    requires lines { AreLines tables.now.nodes (item_count admitted.now.graph) lines.now }
     requires marks { AreSure admitted.now.graph tables.now.nodes Rule.Single marks.now }
     ensures none { IfOk result (λ r. IfNone r (Holds admitted.now.graph tables.now.nodes Rule.Single)) }
     ensures first { IfOk result (λ r. IfSome r (IsFirstViolation admitted.now.graph admitted.now.order tables.now.nodes Rule.Single)) }
@@ -177,8 +173,7 @@ pub(crate) fn single_by(
             continue;
         }
         let columns = tables.columns_of(item);
-        let line = &lines[item as usize];
-        let double = first_double(alloc, problem, order, columns, &line.sieve)?;
+        let double = first_double(alloc, problem, order, columns)?;
         if let Some((column, scenario)) = double {
             return Ok(Some(Fault {
                 rule: Rule::Single.number(),

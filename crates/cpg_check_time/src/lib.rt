@@ -1,6 +1,7 @@
 //! The rules of valid tables on times: V5 to V9.
 #![tactic(auto)]
 
+mod asked;
 mod check;
 mod delays;
 mod due;
@@ -14,4 +15,5 @@ mod processor;
 mod questions;
 mod slots;
 
+pub use asked::sift_time;
 pub use check::check_time;

@@ -2,3 +2,4 @@ pub mod Called
 pub mod Steps
 pub mod Lines
 pub mod Fronts
+pub mod Digits

@@ -1,15 +1,16 @@
 -- Lines with a literal more, and with fewer.
-use Rattle.std.proofs.Common.{◌≡◌, ℕ, ◌+◌, suc, ◌<◌, ◌≤◌, List, [], ◌∷◌, ◌++◌, inl, inr, refl, zero, append-nil, arith, drop, get_or, length, sym, take, ap, ◌∙◌}
+use Rattle.std.proofs.Common.{◌≡◌, ℕ, ◌+◌, ◌-◌, ◌*◌, suc, ◌<◌, ◌≤◌, List, [], ◌∷◌, ◌++◌, inl, inr, refl, zero, append-nil, arith, drop, get_or, length, sym, take, ap, ◌∙◌}
 use Rattle.std.specs.List.{flat_map}
 use Rattle.std.proofs.Math.ListN.{get_or-append}
 use Rattle.std.proofs.Math.Seq.{get_or-append_seam, take-append_seam, take-length}
 use Rattle.std.proofs.lemmas.Bool.{cases_lt}
 use Rattle.std.proofs.lemmas.Grind.{flat_map-append}
 use Rattle.std.proofs.lemmas.List.{append_assoc, get_or-append-add, get_or-take, length-append, length-take-le, take-append-drop, take-append-le}
+use Rattle.cpg_cube.specs.Cube.{IsRising}
 use Rattle.cpg_cube.specs.declared.literal.Literal.{Literal}
 use Rattle.cpg_label.specs.CubeText.{literal_text}
 use Rattle.cpg_label.specs.Labels.{Labels}
-use Rattle.cpg_label.specs.Lines.{AreLine, IsCutAt, added_text, front_text, piece_text, rest_text}
+use Rattle.cpg_label.specs.Lines.{AreLine, added_text, front_text, piece_text, rest_text}
 
 -- the text of two lists
 pub front-append : (labels : Labels) (xs ys : List Literal) → front_text labels (xs ++ ys) ≡ front_text labels xs ++ rest_text labels xs ys
@@ -28,37 +29,35 @@ front_more labels xs l = front-append labels xs (l ∷ []) ∙ ap (λ t. front_t
 front_parted : (labels : Labels) (ls : List Literal) (n : ℕ) → front_text labels ls ≡ front_text labels (take n ls) ++ rest_text labels (take n ls) (drop n ls)
 front_parted labels ls n = ap (front_text labels) (sym (take-append-drop n ls)) ∙ front-append labels (take n ls) (drop n ls)
 
-comma_after : (labels : Labels) (xs ys : List Literal) → 0 < length (front_text labels xs) → 0 < length (rest_text labels xs ys) → get_or (rest_text labels xs ys) 0 0 ≡ 44
-comma_after labels [] ys z h = absurd (omega arith)
-comma_after labels (x ∷ xs) [] z h = absurd (omega arith)
-comma_after labels (x ∷ xs) (y ∷ ys) z h = refl
-
--- where the text of the first ones ends it can be cut
-cut_between : (labels : Labels) (xs ys : List Literal) → IsCutAt (front_text labels xs ++ rest_text labels xs ys) (length (front_text labels xs))
-cut_between labels xs ys =
-    let long = length-append (front_text labels xs) (rest_text labels xs ys) in
-    record {
-      within = omega (arith, long);
-      comma = λ z h. ap (λ i. get_or (front_text labels xs ++ rest_text labels xs ys) i 0) (omega arith) ∙ get_or-append-add (front_text labels xs) (rest_text labels xs ys) 0 0
-          ∙ comma_after labels xs ys z (omega (arith, long, h));
-    }
-
-pub line_cut : (labels : Labels) (ls : List Literal) (text ends : List ℕ) (n : ℕ) → AreLine labels ls text ends → n ≤ length ls → IsCutAt text (get_or ends n 0)
-line_cut labels ls text ends n h le = rw h.text (rw (h.ends n le) (rw (front_parted labels ls n) (cut_between labels (take n ls) (drop n ls))))
-
 -- no literals
 pub line_none : (labels : Labels) → AreLine labels [] [] (0 ∷ [])
-line_none labels = record { text = refl; count = refl; ends = λ n le. none n le }
+line_none labels = record { text = refl; count = refl; ends = λ n le. none n le; short = λ n le. few n le }
   where
+    few : (n : ℕ) → n ≤ 0 → get_or (0 ∷ []) n 0 ≤ 84 * n
+    few zero le = omega arith
+    few (suc n) le = absurd (omega (arith, le))
+
     none : (n : ℕ) → n ≤ 0 → get_or (0 ∷ []) n 0 ≡ length (front_text labels (take n []))
     none zero le = refl
     none (suc n) le = absurd (omega (arith, le))
 
+-- the text is short
+pub line_short : (labels : Labels) (ls : List Literal) (text ends : List ℕ) → AreLine labels ls text ends → length text ≤ 84 * length ls
+line_short labels ls text ends h =
+    let all : get_or ends (length ls) 0 ≡ length text = h.ends (length ls) (omega arith) ∙ ap (λ xs. length (front_text labels xs)) (take-length ls) ∙ ap length (sym h.text) in
+    let few = h.short (length ls) (omega arith) in
+    omega (arith, all, few)
+
 -- one more
 pub line_more : (labels : Labels) (ls : List Literal) (text ends : List ℕ) (l : Literal) (now : List ℕ) → AreLine labels ls text ends → now ≡ text ++ added_text labels ls l →
-    AreLine labels (ls ++ l ∷ []) now (ends ++ length now ∷ [])
-line_more labels ls text ends l now h is =
-    record { text = text_is; count = omega (arith, length-append ends (length now ∷ []), long, h.count); ends = λ n le. elim (cases_lt (length ls) n) [ inl lt ↦ last n le lt | inr ge ↦ before n ge ] }
+    length now ≤ length text + 84 → AreLine labels (ls ++ l ∷ []) now (ends ++ length now ∷ [])
+line_more labels ls text ends l now h is few =
+    record {
+      text = text_is;
+      count = omega (arith, length-append ends (length now ∷ []), long, h.count);
+      ends = λ n le. elim (cases_lt (length ls) n) [ inl lt ↦ last n le lt | inr ge ↦ before n ge ];
+      short = λ n le. elim (cases_lt (length ls) n) [ inl lt ↦ last_short n le lt | inr ge ↦ rw (get_or-append ends (length now ∷ []) 0 n (omega (arith, h.count))) (h.short n ge) ];
+    }
   where
     long : length (ls ++ l ∷ []) ≡ length ls + 1
     long = length-append ls (l ∷ [])
@@ -69,6 +68,12 @@ line_more labels ls text ends l now h is =
     before : (n : ℕ) → n ≤ length ls → get_or (ends ++ length now ∷ []) n 0 ≡ length (front_text labels (take n (ls ++ l ∷ [])))
     before n le = get_or-append ends (length now ∷ []) 0 n (omega (arith, h.count)) ∙ h.ends n le ∙ ap (λ xs. length (front_text labels xs)) (sym (take-append-le n ls (l ∷ []) le))
 
+    last_short : (n : ℕ) → n ≤ length (ls ++ l ∷ []) → length ls < n → get_or (ends ++ length now ∷ []) n 0 ≤ 84 * n
+    last_short n le lt =
+        let at : get_or (ends ++ length now ∷ []) n 0 ≡ length now = ap (λ i. get_or (ends ++ length now ∷ []) i 0) (omega (arith, long, h.count)) ∙ get_or-append_seam ends (length now) [] 0 in
+        let whole : length text ≤ 84 * length ls = line_short labels ls text ends h in
+        omega (arith, at, whole, few, le, lt, long)
+
     last : (n : ℕ) → n ≤ length (ls ++ l ∷ []) → length ls < n → get_or (ends ++ length now ∷ []) n 0 ≡ length (front_text labels (take n (ls ++ l ∷ [])))
     last n le lt = ap (λ i. get_or (ends ++ length now ∷ []) i 0) (omega (arith, long, h.count)) ∙ get_or-append_seam ends (length now) [] 0 ∙ ap length text_is
         ∙ ap (λ xs. length (front_text labels xs)) (sym (ap (λ i. take i (ls ++ l ∷ [])) (omega (arith, long)) ∙ take-length (ls ++ l ∷ [])))
@@ -76,7 +81,13 @@ line_more labels ls text ends l now h is =
 -- the first ones
 pub line_less : (labels : Labels) (ls : List Literal) (text ends : List ℕ) (count : ℕ) → AreLine labels ls text ends → count ≤ length ls →
     AreLine labels (take count ls) (take (get_or ends count 0) text) (take (count + 1) ends)
-line_less labels ls text ends count h le = record { text = text_is; count = omega (arith, length-take-le (count + 1) ends (omega (arith, h.count)), length-take-le count ls le); ends = ends_are }
+line_less labels ls text ends count h le =
+    record {
+      text = text_is;
+      count = omega (arith, length-take-le (count + 1) ends (omega (arith, h.count)), length-take-le count ls le);
+      ends = ends_are;
+      short = λ n few. rw (get_or-take (count + 1) ends n 0 (omega (arith, length-take-le count ls le))) (h.short n (omega (arith, length-take-le count ls le)));
+    }
   where
     text_is : take (get_or ends count 0) text ≡ front_text labels (take count ls)
     text_is = ap (λ n. take n text) (h.ends count le) ∙ ap (take (length (front_text labels (take count ls)))) (h.text ∙ front_parted labels ls count)
@@ -85,3 +96,18 @@ line_less labels ls text ends count h le = record { text = text_is; count = omeg
     ends_are : (n : ℕ) → n ≤ length (take count ls) → get_or (take (count + 1) ends) n 0 ≡ length (front_text labels (take n (take count ls)))
     ends_are n few = get_or-take (count + 1) ends n 0 (omega (arith, length-take-le count ls le)) ∙ h.ends n (omega (arith, length-take-le count ls le))
         ∙ ap (λ xs. length (front_text labels xs)) (ap (take n) (sym (take-append-drop count ls)) ∙ take-append-le n (take count ls) (drop count ls) few)
+
+-- the variables of a rising list are at least their places
+rising_place : (ls : List Literal) (i : ℕ) (d : Literal) → IsRising ls → i < length ls → i ≤ (get_or ls i d).variable
+rising_place ls zero d r h = omega arith
+rising_place ls (suc i) d r h =
+    let a = rising_place ls i d r (omega arith) in
+    let b = r i (suc i) d (omega arith) h in
+    omega arith
+
+-- a rising list is as long as the variable of its last literal allows
+pub rising_short : (ls : List Literal) (last : Literal) → IsRising ls → 0 < length ls → last ≡ get_or ls (length ls - 1) last → length ls ≤ last.variable + 1
+rising_short ls last rising some is =
+    let place = rising_place ls (length ls - 1) last rising (omega (arith, some)) in
+    let same : last.variable ≡ (get_or ls (length ls - 1) last).variable = ap (λ (l : Literal). l.variable) is in
+    omega (arith, place, same, some)

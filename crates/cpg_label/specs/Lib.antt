@@ -1,6 +1,5 @@
 pub mod Front
 pub mod Labels
 pub mod CubeText
-pub mod Phrases
 pub mod ItemText
 pub mod Lines

@@ -1,6 +1,7 @@
 -- The text of the literals of a column, and where that of the first ones ends.
-use Rattle.std.specs.Prelude.{◌≡◌, ℕ, ◌+◌, ◌<◌, ◌≤◌, List, [], ◌∷◌, ◌++◌, codes, get_or, length, string_bytes, take}
+use Rattle.std.specs.Prelude.{◌≡◌, ℕ, ◌+◌, ◌*◌, ◌≤◌, List, [], ◌∷◌, ◌++◌, codes, get_or, length, take}
 use Rattle.std.specs.List.{flat_map}
+use Rattle.std.specs.Vec.{vec_capacity}
 use Rattle.cpg_cube.specs.declared.literal.Literal.{Literal}
 use Rattle.cpg_label.specs.CubeText.{literal_text}
 use Rattle.cpg_label.specs.Labels.{Labels}
@@ -15,11 +16,6 @@ abbrev pub front_text : Labels → List Literal → List ℕ
 front_text labels [] = []
 front_text labels (l ∷ ls) = literal_text labels l ++ flat_map (piece_text labels) ls
 
--- the place is the end of a text, or its beginning, or what stands there is a comma
-pub record IsCutAt (text : List ℕ) (n : ℕ) : Type 0 where
-  pub within : n ≤ length text
-  pub comma : 0 < n → n < length text → get_or text n 0 ≡ 44
-
 -- what literals add to the text of others
 abbrev pub rest_text : Labels → List Literal → List Literal → List ℕ
 rest_text labels [] ls = front_text labels ls
@@ -30,16 +26,21 @@ abbrev pub added_text : Labels → List Literal → Literal → List ℕ
 added_text labels [] l = literal_text labels l
 added_text labels (x ∷ xs) l = piece_text labels l
 
--- the text of literals, and how long the text of the first ones is, for each number of these
+-- the text of literals, and how long the text of the first ones is, for each number of these: at most 84 bytes each
 pub record AreLine (labels : Labels) (ls : List Literal) (t es : List ℕ) : Type 0 where
   pub text : t ≡ front_text labels ls
   pub count : length es ≡ length ls + 1
   pub ends : (n : ℕ) → n ≤ length ls → get_or es n 0 ≡ length (front_text labels (take n ls))
+  pub short : (n : ℕ) → n ≤ length ls → get_or es n 0 ≤ 84 * n
 
--- a line has the text of its literals, and how long the text of the first ones is
-abbrev pub IsLine : Labels → Line → Type 0
-IsLine labels line = AreLine labels line.literals.items (string_bytes line.text) line.ends.items
+-- a line has the text of its literals, and how long the text of the first ones is; and room for 256 literals
+pub record IsLine (labels : Labels) (line : Line) : Type 0 where
+  pub are : AreLine labels line.literals.items line.text.items line.ends.items
+  pub literals : 256 ≤ vec_capacity line.literals
+  pub text : 256 * 84 ≤ vec_capacity line.text
+  pub ends : 256 + 1 ≤ vec_capacity line.ends
 
 -- a line is that of these literals
-abbrev pub IsLineOf : Labels → List Literal → Line → Type 0
-IsLineOf labels ls line = IsLine labels line × (line.literals.items ≡ ls)
+pub record IsLineOf (labels : Labels) (ls : List Literal) (made : Line) : Type 0 where
+  pub line : IsLine labels made
+  pub literals : made.literals.items ≡ ls

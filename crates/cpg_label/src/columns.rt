@@ -1,25 +1,25 @@
 //! The texts of literals.
-ghost use Rattle.std.specs.Prelude.{◌≡◌, ◌++◌, OnErr, OnOk, codes, string_bytes};
+ghost use Rattle.std.specs.Prelude.{◌≡◌, ◌+◌, ◌≤◌, ◌++◌, OnErr, OnOk, length, string_bytes};
+ghost use Rattle.std.specs.Vec.{vec_len, vec_capacity};
 ghost use Rattle.cpg_label.specs.CubeText.{literal_text, range_text, value_text};
 ghost use Rattle.cpg_label.specs.Front.{IsFrontOf};
+ghost use Rattle.cpg_label.specs.Lines.{added_text};
 
 use crate::labels::Labels;
-use crate::text::{write_both, write_number};
+use crate::room::{append, append_number};
 use cpg_base::Variable;
 use cpg_cube::Literal;
 use std::alloc::AllocError;
 
-/// A range of fault counts.
-fn write_range(out: &mut String, low: u8, high: u8) -> Result<(), AllocError>
-    ensures text { OnOk result (string_bytes out.new ≡ string_bytes out.old ++ range_text low high) }
-    ensures front { OnErr result (IsFrontOf (string_bytes out.old) (string_bytes out.new)) }
+/// No literal is longer with what stands before it, in bytes: a comma, a name, a word and two numbers.
+pub(crate) const MOST_LITERAL: usize = 84;
+
+/// A value, by its number.
+fn value_name(number: u8) -> &'static str
+    ensures text { result.now ≡ value_text number }
+    ensures few { length result.now ≤ 5 }
 {
-    write_number(out, u64::from(low))?;
-    if low == high {
-        return Ok(());
-    }
-    out.push_str("..")?;
-    write_number(out, u64::from(high))
+    if number == 0 { "false" } else { "true" }
 }
 
 /// A value, by its number.
@@ -27,43 +27,62 @@ pub fn write_value(out: &mut String, number: u8) -> Result<(), AllocError>
     ensures text { OnOk result (string_bytes out.new ≡ string_bytes out.old ++ value_text number) }
     ensures front { OnErr result (IsFrontOf (string_bytes out.old) (string_bytes out.new)) }
 {
-    if number == 0 {
-        out.push_str("false")
-    } else {
-        out.push_str("true")
-    }
+    out.push_str(value_name(number))
 }
 
-/// A literal.
-pub(crate) fn write_literal(
-    out: &mut String,
-    labels: &Labels<'_>,
-    literal: Literal,
-) -> Result<(), AllocError>
-    ensures text { OnOk result (string_bytes out.new ≡ string_bytes out.old ++ literal_text labels.now literal) }
-    ensures front { OnErr result (IsFrontOf (string_bytes out.old) (string_bytes out.new)) }
+/// Appends a range of fault counts.
+fn append_range(out: &mut Vec<u8>, low: u8, high: u8)
+    requires { vec_len out.old + 42 ≤ vec_capacity out.old }
+    ensures text { out.new.items ≡ out.old.items ++ range_text low high }
+    ensures few { vec_len out.new ≤ vec_len out.old + 42 }
+    ensures room { vec_capacity out.old ≤ vec_capacity out.new }
+{
+    append_number(out, u64::from(low));
+    if low == high {
+        return;
+    }
+    append(out, b"..");
+    append_number(out, u64::from(high));
+}
+
+/// Appends a literal.
+fn append_literal(out: &mut Vec<u8>, labels: &Labels<'_>, literal: Literal)
+    requires { vec_len out.old + 82 ≤ vec_capacity out.old }
+    ensures text { out.new.items ≡ out.old.items ++ literal_text labels.now literal }
+    ensures few { vec_len out.new ≤ vec_len out.old + 82 }
+    ensures room { vec_capacity out.old ≤ vec_capacity out.new }
 {
     match Variable::of(literal.variable) {
         Variable::Count(process) => {
-            write_both(out, labels.process(process), " faults ")?;
-            write_range(out, literal.low, literal.high)
+            append(out, labels.process(process).as_bytes());
+            append(out, b" faults ");
+            append_range(out, literal.low, literal.high);
         }
         Variable::Value(condition) => {
-            write_both(out, labels.condition(condition), " ")?;
-            write_value(out, literal.low)
+            append(out, labels.condition(condition).as_bytes());
+            append(out, b" ");
+            append(out, value_name(literal.low).as_bytes());
         }
     }
 }
 
-/// A literal behind another one.
-pub(crate) fn write_later(
-    out: &mut String,
+/// Appends a literal after these, if there are any.
+pub(crate) fn append_after(
+    out: &mut Vec<u8>,
     labels: &Labels<'_>,
+    literals: &[Literal],
     literal: Literal,
-) -> Result<(), AllocError>
-    ensures text { OnOk result (string_bytes out.new ≡ string_bytes out.old ++ codes ", " ++ literal_text labels.now literal) }
-    ensures front { OnErr result (IsFrontOf (string_bytes out.old) (string_bytes out.new)) }
+)
+    requires { vec_len out.old + MOST_LITERAL ≤ vec_capacity out.old }
+    ensures text { out.new.items ≡ out.old.items ++ added_text labels.now literals.now literal }
+    ensures few { vec_len out.new ≤ vec_len out.old + MOST_LITERAL }
+    ensures room { vec_capacity out.old ≤ vec_capacity out.new }
 {
-    out.push_str(", ")?;
-    write_literal(out, labels, literal)
+    match literals.split_first() {
+        None => append_literal(out, labels, literal),
+        Some(_) => {
+            append(out, b", ");
+            append_literal(out, labels, literal);
+        }
+    }
 }

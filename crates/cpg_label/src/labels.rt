@@ -1,64 +1,51 @@
 //! What texts call processes, conditions and edges.
-ghost use Rattle.std.specs.Prelude.{◌≡◌, IfOk, IfSome, filter, map};
+ghost use Rattle.std.specs.Prelude.{◌≡◌, ◌≤◌, IfOk, filter, length, map};
 ghost use Rattle.cpg_base.specs.Graph.{disjunctions, process_at};
 ghost use Rattle.cpg_label.specs.ItemText.{item_of};
 ghost use Rattle.cpg_label.specs.Labels.{condition_name, edge_ends, head_labels, labels_of, process_name};
-ghost use Rattle.cpg_label.specs.Phrases.{IsPhraseOf};
 
 use crate::items::item_among;
-use crate::phrases::{Phrase, PhraseCounts, phrases_of};
-use cpg_base::{Edge, Item, OutOfMemory, Problem, Process};
-use cpg_cube::Literal;
+use cpg_base::{Edge, Item, Name, OutOfMemory, Problem, Process};
 use cpg_head::{Head, HeadProcess};
 use std::alloc::Global;
 use std::marker::Model;
 
-/// The names of the processes, the name of the process of each condition, and the ends of the edges, by number. If
-/// many lines are written with them, the texts of literals are at hand too.
+/// The names of the processes, the name of the process of each condition, and the ends of the edges, by number.
 #[derive(Drop)]
 pub struct Labels<'a> {
-    processes: Vec<&'a str>,
-    conditions: Vec<&'a str>,
+    processes: Vec<&'a Name>,
+    conditions: Vec<&'a Name>,
     edges: Vec<(u32, u32)>,
-    phrases: Vec<Phrase>,
-    counts: PhraseCounts,
 }
 
 impl<'a> Model for Labels<'a> {
-    ghost use Rattle.std.specs.Prelude.{All, map};
+    ghost use Rattle.std.specs.Prelude.{map};
     ghost use Rattle.cpg_label.specs.Labels.{Labels};
-    ghost use Rattle.cpg_label.specs.Phrases.{IsPhrase};
 
     ghost Value = { Labels };
 
     ghost view = { λ l. record { processes = map (λ n. n.now) l.processes.items; conditions = map (λ n. n.now) l.conditions.items; edges = l.edges.items } };
-
-    ghost invariant = { λ l. All (IsPhrase (record {
-      processes = map (λ n. n.now) l.processes.items;
-      conditions = map (λ n. n.now) l.conditions.items;
-      edges = l.edges.items;
-    })) l.phrases.items };
 }
 
-fn process_names<'a>(alloc: Global, processes: &'a [Process]) -> Result<Vec<&'a str>, OutOfMemory>
+fn process_names<'a>(alloc: Global, processes: &'a [Process]) -> Result<Vec<&'a Name>, OutOfMemory>
     ensures { IfOk result (λ names. map (λ n. n.now) names.items ≡ map (λ p. p.name) processes.entry.now) }
 {
     let mut names = Vec::new(alloc);
     names.reserve(processes.len())?;
     for process in processes {
-        names.push(process.name.as_str())?;
+        names.push(&process.name)?;
     }
     Ok(names)
 }
 
-fn condition_names<'a>(alloc: Global, problem: &'a Problem) -> Result<Vec<&'a str>, OutOfMemory>
+fn condition_names<'a>(alloc: Global, problem: &'a Problem) -> Result<Vec<&'a Name>, OutOfMemory>
     ensures { IfOk result (λ names. map (λ n. n.now) names.items ≡ map (λ p. (process_at problem.entry.now p).name) (disjunctions problem.entry.now)) }
 {
     let mut names = Vec::new(alloc);
     names.reserve(problem.conditions() as usize)?;
     for condition in 0..problem.conditions() {
         let process = problem.process_of(condition);
-        names.push(problem.processes()[process as usize].name.as_str())?;
+        names.push(&problem.processes()[process as usize].name)?;
     }
     Ok(names)
 }
@@ -77,13 +64,13 @@ fn edge_ends(alloc: Global, edges: &[Edge]) -> Result<Vec<(u32, u32)>, OutOfMemo
 fn head_process_names<'a>(
     alloc: Global,
     processes: &'a [HeadProcess],
-) -> Result<Vec<&'a str>, OutOfMemory>
+) -> Result<Vec<&'a Name>, OutOfMemory>
     ensures { IfOk result (λ names. map (λ n. n.now) names.items ≡ map (λ p. p.name) processes.entry.now) }
 {
     let mut names = Vec::new(alloc);
     names.reserve(processes.len())?;
     for process in processes {
-        names.push(process.name.as_str())?;
+        names.push(&process.name)?;
     }
     Ok(names)
 }
@@ -91,13 +78,13 @@ fn head_process_names<'a>(
 fn head_condition_names<'a>(
     alloc: Global,
     processes: &'a [HeadProcess],
-) -> Result<Vec<&'a str>, OutOfMemory>
+) -> Result<Vec<&'a Name>, OutOfMemory>
     ensures { IfOk result (λ names. map (λ n. n.now) names.items ≡ map (λ p. p.name) (filter (λ p. p.condition) processes.entry.now)) }
 {
     let mut names = Vec::new(alloc);
     for process in processes {
         if process.condition {
-            names.push(process.name.as_str())?;
+            names.push(&process.name)?;
         }
     }
     Ok(names)
@@ -113,15 +100,13 @@ fn head_edges(alloc: Global, edges: &[(u32, u32)]) -> Result<Vec<(u32, u32)>, Ou
 
 impl<'a> Labels<'a> {
     /// What the head of a pack calls the parts of its graph.
-    fn of_head(alloc: Global, head: &'a Head) -> Result<Labels<'a>, OutOfMemory>
+    pub fn of_head(alloc: Global, head: &'a Head) -> Result<Labels<'a>, OutOfMemory>
         ensures { IfOk result (λ labels. labels ≡ head_labels head.entry.now) }
     {
         Ok(Labels {
             processes: head_process_names(alloc, head.processes())?,
             conditions: head_condition_names(alloc, head.processes())?,
             edges: head_edges(alloc, head.edges())?,
-            phrases: Vec::new(alloc),
-            counts: PhraseCounts::default(),
         })
     }
 
@@ -133,74 +118,27 @@ impl<'a> Labels<'a> {
             processes: process_names(alloc, problem.processes())?,
             conditions: condition_names(alloc, problem)?,
             edges: edge_ends(alloc, problem.edges())?,
-            phrases: Vec::new(alloc),
-            counts: PhraseCounts::default(),
         })
-    }
-
-    /// How many processes and conditions there are.
-    fn counts(&self) -> PhraseCounts {
-        PhraseCounts {
-            processes: self.processes.len().min(128) as u8,
-            conditions: self.conditions.len().min(127) as u8,
-        }
-    }
-
-    /// These labels, with the texts of literals of at most `faults` faults at hand.
-    fn with_phrases(mut self, alloc: Global, faults: u8) -> Result<Labels<'a>, OutOfMemory>
-        ensures { IfOk result (λ labels. labels ≡ self.entry) }
-    {
-        let counts = self.counts();
-        let phrases = phrases_of(alloc, &self, counts, faults.max(1))?;
-        self.phrases = phrases;
-        self.counts = counts;
-        Ok(self)
-    }
-
-    /// What a graph calls its parts, with the texts of its literals at hand.
-    pub fn ready(alloc: Global, problem: &'a Problem) -> Result<Labels<'a>, OutOfMemory>
-        ensures { IfOk result (λ labels. labels ≡ labels_of problem.entry.now) }
-    {
-        let names = Labels::of(alloc, problem)?;
-        let labels = names.with_phrases(alloc, problem.faults())?;
-        Ok(labels)
-    }
-
-    /// What a head calls its parts, with the texts of its literals at hand.
-    pub fn ready_of_head(alloc: Global, head: &'a Head) -> Result<Labels<'a>, OutOfMemory>
-        ensures { IfOk result (λ labels. labels ≡ head_labels head.entry.now) }
-    {
-        let names = Labels::of_head(alloc, head)?;
-        let labels = names.with_phrases(alloc, head.faults())?;
-        Ok(labels)
-    }
-
-    /// The text of a literal, if it is at hand.
-    pub(crate) fn phrase(&self, literal: Literal) -> Option<&Phrase>
-        ensures { IfSome result (λ p. IsPhraseOf self.now literal p.now) }
-    {
-        match self.phrases.get(self.counts.phrase_index(literal)) {
-            Some(phrase) if phrase.literal == literal => Some(phrase),
-            _ => None,
-        }
     }
 
     /// What a process is called, and nothing if there is no such process.
     pub fn process(&self, process: u32) -> &str
-        ensures { result.now ≡ process_name self.now process }
+        ensures name { result.now ≡ process_name self.now process }
+        ensures few { length result.now ≤ 32 }
     {
         match self.processes.get(process as usize) {
-            Some(name) => name,
+            Some(name) => name.as_str(),
             None => "",
         }
     }
 
     /// What the process of a condition is called, and nothing if there is no such condition.
     pub fn condition(&self, condition: u32) -> &str
-        ensures { result.now ≡ condition_name self.now condition }
+        ensures name { result.now ≡ condition_name self.now condition }
+        ensures few { length result.now ≤ 32 }
     {
         match self.conditions.get(condition as usize) {
-            Some(name) => name,
+            Some(name) => name.as_str(),
             None => "",
         }
     }

@@ -5,7 +5,6 @@ pub mod Growing
 pub mod Bounds
 pub mod Counting
 pub mod Streams
-pub mod Digits
 pub mod Along
 pub mod Fewer
 pub mod Told

@@ -10,47 +10,11 @@ use crate::following::StreamFault;
 use crate::{Bad, Why};
 use cpg_base::Item;
 use cpg_head::Head;
-use cpg_label::item_among;
+use cpg_label::{append, append_number, item_among};
 use cpg_node::Act;
 
 /// No line is longer, in bytes.
 pub const MOST_LINE: usize = 64;
-
-/// Appends bytes.
-fn append(out: &mut Vec<u8>, bytes: &[u8])
-    requires { vec_len out.old + length bytes.now ≤ vec_capacity out.old }
-    ensures bytes { out.new.items ≡ out.old.items ++ bytes.now }
-    ensures len { vec_len out.new ≡ vec_len out.old + length bytes.now }
-    ensures room { vec_capacity out.old ≤ vec_capacity out.new }
-{
-    // as there is room, it can't want memory
-    let _done = out.extend_from_slice(bytes);
-}
-
-/// Appends a number.
-fn append_decimal(out: &mut Vec<u8>, number: u64)
-    requires { vec_len out.old + length (decimal number) ≤ vec_capacity out.old }
-    ensures bytes { out.new.items ≡ out.old.items ++ decimal number }
-    ensures len { vec_len out.new ≡ vec_len out.old + length (decimal number) }
-    ensures room { vec_capacity out.old ≤ vec_capacity out.new }
-{
-    if number < 10 {
-        out.push_reserved(b'0' + number as u8);
-        return;
-    }
-    append_decimal(out, number / 10);
-    out.push_reserved(b'0' + (number % 10) as u8);
-}
-
-/// Appends a number of 64 bits, which has at most 20 digits.
-fn append_number(out: &mut Vec<u8>, number: u64)
-    requires { vec_len out.old + 20 ≤ vec_capacity out.old }
-    ensures bytes { out.new.items ≡ out.old.items ++ decimal number }
-    ensures few { vec_len out.new ≤ vec_len out.old + 20 }
-    ensures room { vec_capacity out.old ≤ vec_capacity out.new }
-{
-    append_decimal(out, number);
-}
 
 /// What a process is called, and nothing if there is no such process.
 fn process_name(head: &Head, process: u32) -> &str

@@ -1,23 +1,15 @@
 -- One more row of a sheet.
-use Rattle.std.proofs.Common.{◌≡◌, ℕ, ◌+◌, List, [], ◌∷◌, ◌++◌, Option, Some, None, IfSome, true, false, refl, flat_map, string_bytes, append-nil, sym, ap, ap₂, ◌∙◌}
+use Rattle.std.proofs.Common.{◌≡◌, ℕ, ◌+◌, List, [], ◌∷◌, ◌++◌, true, false, refl, flat_map, string_bytes, append-nil, sym, ap, ap₂, ◌∙◌}
 use Rattle.std.proofs.lemmas.Grind.{flat_map-append}
 use Rattle.cpg_base.specs.Graph.{Graph}
 use Rattle.cpg_base.specs.Numbers.{numbers_below}
 use Rattle.cpg_base.proofs.Lists.{below_push}
-use Rattle.cpg_cube.specs.declared.literal.Literal.{Literal}
 use Rattle.cpg_table.specs.Table.{NodeTable, columns_of}
 use Rattle.cpg_label.specs.CubeText.{columns_text}
 use Rattle.cpg_label.specs.Labels.{Labels, labels_of}
-use Rattle.cpg_label.specs.Lines.{IsLine, IsLineOf}
-use Rattle.cpg_label.specs.declared.line.Line.{Line}
 use Rattle.cpg_show.specs.Sheet.{part_text}
 use Rattle.cpg_show.specs.TableText.{head_line, is_shown, item_text}
 use Rattle.cpg_show.specs.declared.sheet.SheetPart.{SheetPart}
-
--- a line of some literals is a line
-pub line_still : (labels : Labels) (ls : List Literal) (o : Option Line) → IfSome o (IsLineOf labels ls) → IfSome o (IsLine labels)
-line_still labels ls (Some line) h = h.0
-line_still labels ls None h = tt
 
 pushed : (labels : Labels) (rows : List SheetPart) (part : SheetPart) → flat_map (part_text labels) (rows ++ part ∷ []) ≡ flat_map (part_text labels) rows ++ part_text labels part
 pushed labels rows part = flat_map-append (part_text labels) rows (part ∷ []) ∙ ap (λ t. flat_map (part_text labels) rows ++ t) (append-nil (part_text labels part))

@@ -104,7 +104,7 @@ fn sheet_of<'a>(alloc: Global, tables: &'a Tables, node: u32) -> Result<Sheet<'a
     requires { node < length tables.now.head.nodes }
     ensures { IfOk result (λ sheet. sheet_text sheet ≡ node_text tables.entry.now node) }
 {
-    let labels = Labels::ready_of_head(alloc, tables.head())?;
+    let labels = Labels::of_head(alloc, tables.head())?;
     let front = name_line(alloc, tables.head(), node)?;
     let parts = rows_of(alloc, &labels, tables.node(node))?;
     Ok(Sheet {

@@ -3,13 +3,14 @@ ghost use Rattle.std.specs.Prelude.{◌≡◌, ◌≤◌, ◌++◌, [], Err, OnE
 ghost use Rattle.cpg_io.specs.Causes.{HasCause, Rose};
 ghost use Rattle.cpg_io.specs.Sink.{Took, TookPrefix};
 ghost use Rattle.cpg_codec.specs.Writing.{Puts};
+ghost use Rattle.cpg_label.specs.Lines.{IsLine};
 ghost use Rattle.cpg_show.specs.Sheet.{part_text, sheet_text};
 
 use crate::putting::{put_columns, put_text};
 use cpg_codec::{Buffer, WriteFault};
 use cpg_cube::Entry;
 use cpg_io::{Failed, Sink};
-use cpg_label::Labels;
+use cpg_label::{Labels, Line};
 use std::alloc::Global;
 
 /// A line, and the columns below it.
@@ -28,68 +29,73 @@ pub(crate) struct Sheet<'a> {
 }
 
 fn put_part<O: Sink>(
-    alloc: Global,
     buffer: &mut Buffer,
     sink: &mut O,
     labels: &Labels<'_>,
+    line: &mut Line,
     part: &SheetPart<'_>,
 ) -> Result<(), Failed>
+    requires { IsLine labels.now line.old }
+    ensures line { OnOk result (IsLine labels.now line.new) }
     ensures put { Puts (O.state sink.old).taken (O.state sink.new).taken buffer.old buffer.new result (part_text labels.now part.now) }
     ensures cause { HasCause (O.state sink.old).faults (O.state sink.new).faults result }
 {
     put_text(buffer, sink, part.head.as_str())?;
-    put_columns(alloc, buffer, sink, labels, part.columns)
+    put_columns(buffer, sink, labels, line, part.columns)
 }
 
 fn put_parts<O: Sink>(
-    alloc: Global,
     buffer: &mut Buffer,
     sink: &mut O,
     labels: &Labels<'_>,
+    line: &mut Line,
     parts: &[SheetPart<'_>],
 ) -> Result<(), Failed>
+    requires { IsLine labels.now line.old }
     ensures put { Puts (O.state sink.old).taken (O.state sink.new).taken buffer.old buffer.new result (flat_map (part_text labels.now) parts.now) }
     ensures cause { HasCause (O.state sink.old).faults (O.state sink.new).faults result }
 {
     for part in parts {
-        put_part(alloc, buffer, sink, labels, part)?;
+        put_part(buffer, sink, labels, line, part)?;
     }
     Ok(())
 }
 
 fn put_sheet<O: Sink>(
-    alloc: Global,
     buffer: &mut Buffer,
     sink: &mut O,
+    line: &mut Line,
     sheet: &Sheet<'_>,
 ) -> Result<(), Failed>
+    requires { IsLine sheet.now.labels line.old }
     ensures put { Puts (O.state sink.old).taken (O.state sink.new).taken buffer.old buffer.new result (sheet_text sheet.now) }
     ensures cause { HasCause (O.state sink.old).faults (O.state sink.new).faults result }
 {
     put_text(buffer, sink, sheet.front.as_str())?;
-    put_parts(alloc, buffer, sink, &sheet.labels, sheet.parts.as_slice())
+    put_parts(buffer, sink, &sheet.labels, line, sheet.parts.as_slice())
 }
 
 /// Writes a sheet through an empty buffer.
 fn write_through<O: Sink>(
-    alloc: Global,
     buffer: &mut Buffer,
     sink: &mut O,
+    line: &mut Line,
     sheet: &Sheet<'_>,
 ) -> Result<(), Failed>
-    requires { buffer.old ≡ [] }
+    requires empty { buffer.old ≡ [] }
+    requires line { IsLine sheet.now.labels line.old }
     ensures whole { OnOk result (Took (O.state sink.old).taken (O.state sink.new).taken (sheet_text sheet.now)) }
     ensures part { OnErr result (TookPrefix (O.state sink.old).taken (O.state sink.new).taken (sheet_text sheet.now)) }
     ensures cause { HasCause (O.state sink.old).faults (O.state sink.new).faults result }
 {
-    put_sheet(alloc, buffer, sink, sheet)?;
+    put_sheet(buffer, sink, line, sheet)?;
     buffer.write(sink)
 }
 
 /// Writes a sheet.
 ///
-/// `Failed` only if the sink's count of faults rose. The sink has taken a proper prefix of the text then. The buffer is
-/// taken before the first write, so on `OutOfMemory` the sink is as it was.
+/// `Failed` only if the sink's count of faults rose. The sink has taken a proper prefix of the text then. The buffer and the
+/// line of a column are made before the first write, so on `OutOfMemory` the sink is as it was.
 pub(crate) fn write_sheet<O: Sink>(
     alloc: Global,
     sheet: &Sheet<'_>,
@@ -102,6 +108,7 @@ pub(crate) fn write_sheet<O: Sink>(
     ensures later { (O.state sink.old).faults ≤ (O.state sink.new).faults }
 {
     let mut buffer = Buffer::new(alloc)?;
-    write_through(alloc, &mut buffer, sink, sheet)?;
+    let mut line = Line::new(alloc)?;
+    write_through(&mut buffer, sink, &mut line, sheet)?;
     Ok(())
 }

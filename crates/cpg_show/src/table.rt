@@ -128,7 +128,7 @@ fn sheet_of<'a>(
 ) -> Result<Sheet<'a>, OutOfMemory>
     ensures { IfOk result (λ sheet. sheet_text sheet ≡ table_text problem.entry.now order.now built.entry.now.tables.nodes built.entry.now.worst) }
 {
-    let labels = Labels::ready(alloc, problem)?;
+    let labels = Labels::of(alloc, problem)?;
     let front = front_of(alloc, &labels, order.processes(), built.worst)?;
     let parts = rows_of(alloc, problem, &labels, &built.tables)?;
     Ok(Sheet {

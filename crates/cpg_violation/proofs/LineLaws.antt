@@ -1,9 +1,13 @@
--- The first and the last time of columns.
-use Rattle.std.proofs.Common.{ℕ, ◌+◌, ◌<◌, ◌≤◌, ◌≡◌, List, length, get_or, take, drop, All, arith, ap, ◌∙◌, sym, subst}
+-- The first and the last time of columns, and lines of which one is sifted.
+use Rattle.std.proofs.Common.{ℕ, ◌+◌, ◌<◌, ◌≤◌, ◌≡◌, List, length, get_or, slice_set, take, drop, All, arith, ap, ◌∙◌, sym, subst, inl, inr}
 use Rattle.std.specs.List.{fold}
-use Rattle.std.proofs.lemmas.List.{drop_more}
+use Rattle.std.proofs.lemmas.Bool.{cases_eq}
+use Rattle.std.proofs.lemmas.List.{drop_more, get_or-set_same, get_or-set_other, length-set}
 use Rattle.std.proofs.lemmas.List.Elements.{All-weaker, All-more}
 use Rattle.cpg_cube.specs.Column.{Column}
+use Rattle.cpg_table.specs.Table.{NodeTable, columns_of}
+use Rattle.cpg_violation.specs.Lines.{AreLines, IsLine}
+use Rattle.cpg_violation.specs.declared.lines.SievedLine.{SievedLine}
 
 -- a walk takes one element more
 pub fold_more : {X : Type 0} (f : ℕ → X → ℕ) (value next : ℕ) (xs : List X) (i : ℕ) (d x : X) → i < length xs → x ≡ get_or xs i d → next ≡ f value x →
@@ -20,3 +24,17 @@ pub not_after_more : (columns : List Column) (k : ℕ) (c : Column) (last more :
     c.time ≤ more → All (λ (d : Column). d.time ≤ more) (take (k + 1) columns)
 not_after_more columns k c last more l is before a b = All-more (λ (d : Column). d.time ≤ more) columns k c l
     (All-weaker (λ (d : Column). d.time ≤ last) (λ (d : Column). d.time ≤ more) (λ d m. omega arith) (take k columns) before) (subst (λ (d : Column). d.time ≤ more) is b)
+
+-- lines of which one is sifted
+pub lines_sifted : (tables : List NodeTable) (items : ℕ) (lines : List SievedLine) (x : ℕ) (old new : SievedLine) → x < length lines →
+    (IsLine (columns_of tables x) (get_or lines x old) → IsLine (columns_of tables x) new) → AreLines tables items lines → AreLines tables items (slice_set lines x new)
+lines_sifted tables items lines x old new within sifts h = record {
+  count = length-set lines x new ∙ h.count;
+  each = λ y d l. elim (cases_eq y x) [
+    | inl same ↦ subst (λ z. IsLine (columns_of tables z) (get_or (slice_set lines x new) z d)) (sym same) (rw (get_or-set_same lines x new d within) sifted)
+    | inr other ↦ rw (get_or-set_other lines x y new d other) (h.each y d l)
+  ];
+}
+  where
+    sifted : IsLine (columns_of tables x) new
+    sifted = sifts (h.each x old (omega (arith, h.count, within)))

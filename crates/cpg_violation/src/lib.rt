@@ -20,7 +20,7 @@ pub use activity::{least_at, value_literal};
 pub use edges::edge_cube;
 pub use guards::{always_active, is_item_idle, is_item_running, is_refused, is_running};
 pub use heads::{HeadPart, first_difference};
-pub use lines::{SievedLine, first_time, last_time, lines_of};
+pub use lines::{SievedLine, first_time, last_time, lines_of, sift};
 pub use marks::{RowMarks, TimeMarks, are_all, is_marked};
 pub use meeting::met;
 pub use quick_due::due_marks;

@@ -1,5 +1,6 @@
-//! The rows of all items, each with a sieve of its columns and the range of their times.
-ghost use Rattle.std.specs.Prelude.{◌≡◌, ◌≤◌, All, IfOk, length};
+//! The rows of all items, each with a sieve of its columns and the range of their times. A sieve parts the columns of a row
+//! only if the row may be asked: most rows of a faulty pack are not, and to part their columns would take most of a check.
+ghost use Rattle.std.specs.Prelude.{◌≡◌, ◌≤◌, ℕ, All, IfOk, length};
 ghost use Rattle.cpg_base.specs.declared.limits.TheConstants.{MOST_LOAD};
 ghost use Rattle.cpg_base.specs.Graph.{item_count};
 ghost use Rattle.cpg_violation.specs.Lines.{AreLines, IsLine, first_time, last_time};
@@ -15,6 +16,8 @@ use std::alloc::Global;
 pub struct SievedLine<'a> {
     pub columns: &'a [Entry],
     pub sieve: Sieve,
+    /// Whether the sieve parts the columns, as far as it can. Otherwise it has them all in one list.
+    is_sifted: bool,
     /// No column is at an earlier time.
     pub first: u64,
     /// No column is at a later time.
@@ -45,21 +48,22 @@ pub fn last_time(columns: &[Entry]) -> u64
     last
 }
 
-/// The line of these columns.
+/// The line of these columns, not sifted.
 fn line_of<'a>(alloc: Global, columns: &'a [Entry]) -> Result<SievedLine<'a>, OutOfMemory>
     requires { length columns.now ≤ MOST_LOAD }
     ensures { IfOk result (IsLine columns.now) }
 {
-    let sieve = Sieve::of(alloc, columns)?;
+    let sieve = Sieve::whole(alloc, columns)?;
     Ok(SievedLine {
         columns,
         sieve,
+        is_sifted: false,
         first: first_time(columns),
         last: last_time(columns),
     })
 }
 
-/// The lines of all items, by number.
+/// The lines of all items, by number, none of them sifted.
 pub fn lines_of<'a>(
     alloc: Global,
     problem: &Problem,
@@ -75,4 +79,35 @@ pub fn lines_of<'a>(
         lines.push(line)?;
     }
     Ok(lines)
+}
+
+impl SievedLine<'_> {
+    /// Sifts its columns, if they aren't sifted yet.
+    fn sift(&mut self, alloc: Global, columns: &[Entry]) -> Result<(), OutOfMemory>
+        requires { length columns.now ≤ MOST_LOAD }
+        ensures { IfOk result (λ _. IsLine columns.now self.old → IsLine columns.now self.new) }
+    {
+        if self.is_sifted {
+            return Ok(());
+        }
+        self.sieve = Sieve::of(alloc, columns)?;
+        self.is_sifted = true;
+        Ok(())
+    }
+}
+
+/// Sifts the columns of an item, if there is a line of it. It is to be done before the line is asked, which is slow otherwise.
+pub fn sift(
+    alloc: Global,
+    tables: &Tables,
+    lines: &mut [SievedLine<'_>],
+    item: u32,
+) -> Result<(), OutOfMemory>
+    ensures { IfOk result (λ _. (items : ℕ) → AreLines tables.now.nodes items lines.old → AreLines tables.now.nodes items lines.new) }
+{
+    if item as usize >= lines.len() {
+        return Ok(());
+    }
+    lines[item as usize].sift(alloc, tables.columns_of(item))?;
+    Ok(())
 }

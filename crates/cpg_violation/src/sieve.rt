@@ -398,19 +398,39 @@ fn meeting(
     Ok(kept)
 }
 
+/// The places of all columns.
+fn places_of(alloc: Global, columns: &[Entry]) -> Result<Vec<u32>, OutOfMemory>
+    requires { length columns.now ≤ MOST_LOAD }
+    ensures { IfOk result (λ places. (i : ℕ) → i < length columns.now → Contains places.items i) }
+{
+    let mut places = Vec::new(alloc);
+    for place in 0..columns.len() as u32 {
+        places.push(place)?;
+    }
+    Ok(places)
+}
+
 impl Sieve {
     /// The columns of a row, by place.
     pub fn of(alloc: Global, columns: &[Entry]) -> Result<Sieve, OutOfMemory>
         requires { length columns.now ≤ MOST_LOAD }
         ensures { IfOk result (IsSieveOf columns.now) }
     {
-        let mut places = Vec::new(alloc);
-        for place in 0..columns.len() as u32 {
-            places.push(place)?;
-        }
+        let places = places_of(alloc, columns)?;
         let mut tally = Tally::new(alloc);
         let sieve = sifted(alloc, columns, places, DEPTH, &mut tally)?;
         Ok(sieve)
+    }
+
+    /// The columns of a row, by place, all in one list.
+    pub(crate) fn whole(alloc: Global, columns: &[Entry]) -> Result<Sieve, OutOfMemory>
+        requires { length columns.now ≤ MOST_LOAD }
+        ensures { IfOk result (IsSieveOf columns.now) }
+    {
+        let places = places_of(alloc, columns)?;
+        Ok(Sieve {
+            node: SieveNode::Leaf(places),
+        })
     }
 
     /// Adds the places on one side of a cut, if the cube goes there.

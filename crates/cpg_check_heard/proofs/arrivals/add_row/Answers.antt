@@ -1,8 +1,10 @@
 use Rattle.std.proofs.Common.{◌||◌, Contains, sym, ap, ◌∙◌, subst}
 use Rattle.std.specs.List.{list_any}
+use Rattle.std.proofs.Math.Bool.{or-false}
 use Rattle.std.proofs.lemmas.List.{take_all}
 use Rattle.cpg_check_heard.specs.Arrivals.{do_tell}
-use Rattle.cpg_check_heard.specs.Tellings.{is_telling_at}
+use Rattle.cpg_check_heard.specs.Tellings.{is_telling, is_telling_at}
+use Rattle.cpg_check_heard.proofs.ArrivalLaws.{late_row}
 use Rattle.cpg_check_heard.proofs.PartLaws.{row_more, row_all}
 use Rattle.cpg_check_heard.proofs.arrivals.add_row.Goals as goal
 
@@ -26,3 +28,9 @@ returns-clause-told c = λ g b s m.
     (ap (list_any (is_telling_at g t.telling c.args.time b t.line.now.columns.now s)) (take_all c.loop-place.place-index places c.loop-place-test.false)
     ∙ row_all g t.telling c.args.time b t.line.now.columns.now places s
     (λ j l at. subst (λ xs. Contains xs j) (sym c.as_slice-place-items.ensures.value) (c.in_ok-places.ensures s j l at m)))
+
+pub returns-then-not-may_have_come-clause-told : goal.returns-then-not-may_have_come-clause-told
+returns-then-not-may_have_come-clause-told c = λ g b s m.
+    let t = c.args.teller.now in
+    let told = do_tell g c.args.time b c.args.arrivals.now.items s in
+    sym (ap (λ x. told || x) (late_row (is_telling g t.telling c.args.time b s) t.line.now.columns.now t.line.now.first c.requires.first (c.if-not-may_have_come.ensures g b s)) ∙ or-false told)

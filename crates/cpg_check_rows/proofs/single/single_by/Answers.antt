@@ -1,7 +1,6 @@
-use Rattle.std.proofs.Common.{◌≡◌, ◌<◌, ap, false, ℕ, arith, refl, subst, sym}
+use Rattle.std.proofs.Common.{◌≡◌, ◌<◌, ap, false, ℕ, arith, refl, sym}
 use Rattle.cpg_base.specs.Graph.{item_count}
 use Rattle.cpg_base.specs.Scenario.{Scenario, IsScenario}
-use Rattle.cpg_violation.specs.Lines.{IsLine}
 use Rattle.cpg_violation.specs.Violation.{IsFirstColumn}
 use Rattle.cpg_check_rows.specs.Single.{is_double}
 use Rattle.cpg_head.specs.GraphHead.{head_of}
@@ -25,14 +24,6 @@ first_double-requires-clause-columns c =
 
 pub first_double-requires-clause-few : goal.first_double-requires-clause-few
 first_double-requires-clause-few c = rw c.columns_of-columns.ensures.columns (columns_few c.args.tables.now.head c.args.tables.now.nodes c.columns_of-columns.ensures.lawful c.loop-item.item)
-
-pub first_double-requires-clause-sieve : goal.first_double-requires-clause-sieve
-first_double-requires-clause-sieve c =
-    let x = c.loop-item.item in
-    let columns = columns_of c.args.tables.now.nodes x in
-    let below : x < item_count c.args.admitted.now.graph = omega (arith, c.loop-item-test.true, c.item_count-item-end.ensures, ap item_count c.problem-problem.ensures.problem) in
-    let line : IsLine columns c.index-lines-item.result = subst (IsLine columns) (sym c.index-lines-item.is) (c.requires.lines.each x c.index-lines-item.result below) in
-    rw c.columns_of-columns.ensures.columns line.sieve
 
 pub returns-in-Some-clause-first : goal.returns-in-Some-clause-first
 returns-in-Some-clause-first c =

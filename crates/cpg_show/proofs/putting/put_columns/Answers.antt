@@ -2,7 +2,6 @@ use Rattle.std.proofs.Common.{arith}
 use Rattle.std.proofs.lemmas.Result.{err_from_is_err_and}
 use Rattle.cpg_label.specs.CubeText.{column_line}
 use Rattle.cpg_codec.proofs.Puts.{item_more, item_fails, Puts-failed}
-use Rattle.cpg_show.proofs.Rows.{line_still}
 use Rattle.cpg_show.proofs.putting.put_columns.Goals as goal
 
 pub loop-column-preserved : goal.loop-column-preserved
@@ -10,7 +9,7 @@ loop-column-preserved g c = record {
   put = item_more (column_line c.args.labels.now) _ _ _ _ _ _ c.args.columns.now c.loop-column.column-index c.column-item.result c.column-item.is c.loop-column-test.true c.loop-column.invariant.put
       c.in_ok-put_column.ensures.put;
   later = omega (arith, c.loop-column.invariant.later, c.put_column.ensures.cause.later);
-  line = line_still c.args.labels.now c.literals.result.now c.turned-line.result c.turned-line.ensures;
+  line = c.turn_into.ensures.line;
 }
 
 pub returns-in_err-put_column-clause-put : goal.returns-in_err-put_column-clause-put

@@ -1,4 +1,4 @@
-use Rattle.std.proofs.Common.{◌≤◌, take, IfSome}
+use Rattle.std.proofs.Common.{◌≤◌, take}
 use Rattle.std.specs.List.{flat_map}
 use Rattle.cpg_label.specs.CubeText.{column_line}
 use Rattle.cpg_label.specs.Lines.{IsLine}
@@ -9,5 +9,5 @@ abbrev pub invariant-loop-column : goal.invariant-loop-column
 invariant-loop-column g l = record {
   put : IsPut (g.O.Sink.state l.fn.sink).taken (g.O.Sink.state l.sink).taken l.fn.buffer l.buffer (flat_map (column_line l.labels) (take l.column-index l.fn.columns));
   later : (g.O.Sink.state l.fn.sink).faults ≤ (g.O.Sink.state l.sink).faults;
-  line : IfSome l.line (IsLine l.labels);
+  line : IsLine l.labels l.line;
 }

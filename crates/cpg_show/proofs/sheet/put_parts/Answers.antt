@@ -9,6 +9,7 @@ loop-part-preserved g c = record {
   put = item_more (part_text c.args.labels.now) _ _ _ _ _ _ c.args.parts.now c.loop-part.part-index c.part-item.result c.part-item.is c.loop-part-test.true c.loop-part.invariant.put
       c.in_ok-put_part.ensures.put;
   later = omega (arith, c.loop-part.invariant.later, c.put_part.ensures.cause.later);
+  line = c.in_ok-put_part.ensures.line;
 }
 
 pub returns-in_err-put_part-clause-put : goal.returns-in_err-put_part-clause-put

@@ -29,7 +29,7 @@ add_row-requires c =
     let below : x < item_count g = heard_below g c.args.node x (c.requires.items c.loop-item.item-index 0 c.loop-item-test.true) in
     let t = c.index-teller.result.now in
     let is = teller_at g c.args.self.now.tables.now.nodes (item_count g) c.args.self.now.tellers.items x t c.requires.hearing.tellers below c.index-teller.ensures in
-    rw is.line.all is.line.sieve
+    rw is.line.all is.line
 
 pub loop-item-preserved : goal.loop-item-preserved
 loop-item-preserved c =

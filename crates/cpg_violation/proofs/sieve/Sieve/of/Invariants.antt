@@ -1,5 +1,0 @@
-use Rattle.std.proofs.Common.{◌<◌, ℕ, Contains}
-use Rattle.cpg_violation.proofs.sieve.Sieve.of.Given as goal
-
-abbrev pub invariant-loop-place : goal.invariant-loop-place
-invariant-loop-place l = (i : ℕ) → i < l.place → Contains l.places.items i
