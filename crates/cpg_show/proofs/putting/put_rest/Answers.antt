@@ -1,4 +1,4 @@
-use Rattle.std.proofs.Common.{arith}
+use Rattle.std.proofs.Common.{◌∙◌}
 use Rattle.std.proofs.lemmas.Result.{err_from_is_err_and}
 use Rattle.cpg_label.specs.Lines.{piece_text}
 use Rattle.cpg_codec.proofs.Puts.{puts_more, puts_fail, Puts-failed}
@@ -8,7 +8,7 @@ pub loop-literal-preserved : goal.loop-literal-preserved
 loop-literal-preserved g c = record {
   put = puts_more (piece_text c.args.labels.now) _ _ _ _ _ _ c.args.literals.now c.loop-literal.literal-index
       (record { variable = 0; low = 0; high = 0 }) c.loop-literal-test.true c.loop-literal.invariant.put c.in_ok-put_later.ensures.put;
-  later = omega (arith, c.loop-literal.invariant.later, c.put_later.ensures.cause.later);
+  kept = c.in_ok-put_later.ensures.cause.kept ∙ c.loop-literal.invariant.kept;
 }
 
 pub returns-in_err-put_later-clause-put : goal.returns-in_err-put_later-clause-put
