@@ -49,7 +49,7 @@ use Rattle.cpg_app.proofs.Streamed.{is_live, other_words}
 
 -- what a sink took is what was put out
 put_out : (r : Ran) (bytes text : Text) → Whole r.out bytes → Whole r.out text → bytes ≡ text
-put_out r bytes text wrote took = append_cancel_left r.out.old bytes text (sym wrote ∙ took)
+put_out r bytes text wrote took = append_cancel_left r.out.old bytes text (sym wrote.taken ∙ took.taken)
 
 -- what is made of a graph is made of it as it is admitted once more
 made_again : (a b : Admission) → AreAlike a b → (spell : Graph → Compiled → Text) (bytes : Text) → IsMadeOf b spell bytes → IsMadeOf a spell bytes

@@ -183,6 +183,9 @@ module _ (r : Ran) where
     with_write : r.status ≡ 3 → Rose r.out.before r.out.now ⊎ Rose r.err.before r.err.now
     with_write three = elim with.ending [ inl p ↦ absurd (let e = p.status in omega arith) | inr c ↦ inl c.out.rose ]
 
+    with_unmet : r.status ≢ 3 → (r.out.now ≡ r.out.before) × (r.err.now ≡ r.err.before)
+    with_unmet other = elim with.ending [ inl p ↦ (p.out.faultless, p.err.faultless) | inr c ↦ absurd (other c.status) ]
+
     with_safe : IsFaultless r → (r.status ≡ 0) ⊎ (r.status ≡ 8)
     with_safe faultless = elim with.ending [ inl p ↦ inl p.status | inr c ↦ absurd (faultless.out c.out.rose) ]
 
@@ -215,6 +218,7 @@ module _ (r : Ran) where
       read = λ two. absurd (other_status 2 two (λ e. omega arith) (λ e. omega arith));
       unread = inl (reads_sound None (files_of with.prints.command) _ _ with.prints.values with.prints.has.reads);
       write = with_write;
+      unmet = with_unmet;
       refused = λ four. absurd (other_status 4 four (λ e. omega arith) (λ e. omega arith));
       is_late = λ five. absurd (other_status 5 five (λ e. omega arith) (λ e. omega arith));
       is_wide = λ six. absurd (other_status 6 six (λ e. omega arith) (λ e. omega arith));
@@ -307,6 +311,9 @@ module _ (r : Ran) where
 
     by_write : r.status ≡ 3 → Rose r.out.before r.out.now ⊎ Rose r.err.before r.err.now
     by_write three = elim by.ending [ inl t ↦ absurd (not_three halt (sym t.status ∙ three)) | inr m ↦ inr m.err.rose ]
+
+    by_unmet : r.status ≢ 3 → (r.out.now ≡ r.out.before) × (r.err.now ≡ r.err.before)
+    by_unmet other = let told = told_of other in (told.out.faultless, told.err.faultless)
 
     by_refused : r.status ≡ 4 → (refusal : Refusal) × Stops r (Refused refusal) × IsTold r (Refused refusal)
     by_refused four =
@@ -448,6 +455,7 @@ module _ (r : Ran) where
       read = by_read;
       unread = by_unread;
       write = by_write;
+      unmet = by_unmet;
       refused = λ four. inl (by_refused four);
       is_late = by_tardy;
       is_wide = by_width;

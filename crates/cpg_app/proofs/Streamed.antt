@@ -21,10 +21,10 @@ use Rattle.cpg_inputs.specs.Reading.{AreSound}
 use Rattle.cpg_inputs.proofs.OneReading.{says_alike}
 use Rattle.cpg_inputs.proofs.Soundness.{sound_none, sound_on}
 use Rattle.cpg_live.specs.declared.following.Broken.{Broken}
-use Rattle.cpg_live.specs.Following.{Breaks}
+use Rattle.cpg_live.specs.Following.{AreWritten, Breaks}
 use Rattle.cpg_live.specs.Streams.{fault_line, stream_end}
 use Rattle.cpg_app.specs.Causes.{first_named}
-use Rattle.cpg_outputs.specs.Told.{Part, Sent, SinkSeen, Untouched}
+use Rattle.cpg_outputs.specs.Told.{Part, Sent, SinkSeen, Untouched, Whole}
 use Rattle.cpg_app.specs.Endings.{Ran, EndsAtClose, EndsInStream, Follows, stream_of, table_of}
 use Rattle.cpg_outputs.specs.Said.{IsSaid}
 use Rattle.cpg_app.specs.Lawful.{AsksForTables, AsksVerdict, IsFailed, IsFaultless, IsLawful, IsRefusedStream, IsUnreadStream, status_of_end}
@@ -100,6 +100,10 @@ sound_all r f sound =
     let here = sound_none (f.fetch ∷ past) r.shelf.new.history f.history in
     sound_on f.read r.shelf.old.history r.shelf.new.history f.spelled.whole.sound (sound_on f.fetch past r.shelf.new.history sound here)
 
+-- the lines that a stream wrote are what `out` took
+wrote_all : (r : Ran) (f : Follows r) (lines : Text) → AreWritten (stream_of r f) lines → Whole r.out lines
+wrote_all r f lines wrote = record { faultless = wrote.faultless; taken = wrote.taken }
+
 -- ---- followed to its close
 
 module _ (r : Ran) (ends : EndsAtClose r) where
@@ -115,12 +119,13 @@ module _ (r : Ran) (ends : EndsAtClose r) where
   pub lawful_closed : IsLawful r
   lawful_closed = record {
     ends = inr (inr (inl ends));
-    done = λ zero. inr (record { follows = ends.follows; lines = ends.completes.0; closed = ends.completes.1; out = ends.completes.2; err = ends.err });
+    done = λ zero. inr (record { follows = ends.follows; lines = ends.completes.0; closed = ends.completes.1; out = wrote_all r closed_stream ends.completes.0 ends.completes.2; err = ends.err });
     words = λ one. absurd (zero_alone 1 one (λ e. omega arith));
     formless = λ none other. absurd (none-some (Live closed_stream.pack closed_stream.name closed_stream.stream) (sym none ∙ closed_stream.words));
     read = λ two. absurd (zero_alone 2 two (λ e. omega arith));
     unread = inl (sound_all r closed_stream ends.completes.1.sound);
     write = λ three. absurd (zero_alone 3 three (λ e. omega arith));
+    unmet = λ other. (ends.completes.2.faultless, ends.err.faultless);
     refused = λ four. absurd (zero_alone 4 four (λ e. omega arith));
     is_late = λ five. absurd (zero_alone 5 five (λ e. omega arith));
     is_wide = λ six. absurd (zero_alone 6 six (λ e. omega arith));
@@ -176,13 +181,19 @@ module _ (r : Ran) (ends : EndsInStream r) where
   write_rose Broken.Sink breaks said three = inl breaks.0
   write_rose (Broken.Refused fault) breaks said three = inr (said.part three).rose
 
+  faultless_stream : (broken : Broken) → Breaks head table (stream_of r stream) broken → IsSaid r.err r.status broken → r.status ≢ 3 →
+      (r.out.now ≡ r.out.before) × (r.err.now ≡ r.err.before)
+  faultless_stream Broken.Shelf breaks said other = (breaks.2.faultless, (said.whole other).1.faultless)
+  faultless_stream Broken.Sink breaks said other = absurd (other said.0)
+  faultless_stream (Broken.Refused fault) breaks said other = (breaks.2.faultless, (said.whole other).1.faultless)
+
   refused_stream : (broken : Broken) → Breaks head table (stream_of r stream) broken → IsSaid r.err r.status broken → r.status ≡ 4 → IsRefusedStream r
   refused_stream Broken.Shelf breaks said four = absurd (let two = status_sent r.err r.status 2 4 (line_of Read) said four (λ e. omega arith) in omega arith)
   refused_stream Broken.Sink breaks said four = absurd (let three = said.0 in omega arith)
-  refused_stream (Broken.Refused fault) breaks said four = record { follows = stream; fault = fault; lines = breaks.0; refused = breaks.1; out = breaks.2; err = (said.whole (λ three. omega arith)).1 }
+  refused_stream (Broken.Refused fault) breaks said four = record { follows = stream; fault = fault; lines = breaks.0; refused = breaks.1; out = wrote_all r stream breaks.0 breaks.2; err = (said.whole (λ three. omega arith)).1 }
 
   unread_stream : (broken : Broken) → Breaks head table (stream_of r stream) broken → IsSaid r.err r.status broken → r.status ≡ 2 → IsUnreadStream r
-  unread_stream Broken.Shelf breaks said two = record { follows = stream; lines = breaks.0; lawful = breaks.1; out = breaks.2; err = (said.whole (λ three. omega arith)).1 }
+  unread_stream Broken.Shelf breaks said two = record { follows = stream; lines = breaks.0; lawful = breaks.1; out = wrote_all r stream breaks.0 breaks.2; err = (said.whole (λ three. omega arith)).1 }
   unread_stream Broken.Sink breaks said two = absurd (let three = said.0 in omega arith)
   unread_stream (Broken.Refused fault) breaks said two = absurd (let four = status_sent r.err r.status 4 2 (fault_line fault) said two (λ e. omega arith) in omega arith)
 
@@ -220,6 +231,7 @@ module _ (r : Ran) (ends : EndsInStream r) where
     read = λ two. let unread = unread_stream ends.broken ends.breaks ends.said two in (failed_stream unread, inr unread);
     unread = sound_stream ends.broken ends.breaks ends.said;
     write = write_rose ends.broken ends.breaks ends.said;
+    unmet = faultless_stream ends.broken ends.breaks ends.said;
     refused = λ four. inr (refused_stream ends.broken ends.breaks ends.said four);
     is_late = λ five. absurd (other_status 5 five (λ e. omega arith) (λ e. omega arith) (λ e. omega arith));
     is_wide = λ six. absurd (other_status 6 six (λ e. omega arith) (λ e. omega arith) (λ e. omega arith));

@@ -24,9 +24,10 @@ pub none_of : (sink : SinkSeen) (bytes : List ℕ) (fault : WriteFault) → faul
 none_of sink bytes fault is written = subst (λ f. IsWritten sink (Err f) bytes) is written
 
 -- a pack was written
-pub packed : (old new : SinkState) (bytes : List ℕ) (result : Result Unit WriteFault) → OnOk result (Took old.taken new.taken bytes) →
+pub packed : (old new : SinkState) (bytes : List ℕ) (result : Result Unit WriteFault) → OnOk result (Took old.taken new.taken bytes) → OnOk result (new.faults ≡ old.faults) →
     (result ≡ Err WriteFault.Failed → TookPrefix old.taken new.taken bytes) →
     (result ≡ Err WriteFault.Failed → Rose old.faults new.faults) → (result ≡ Err WriteFault.OutOfMemory → new ≡ old) → IsWritten (sent old new) result bytes
-packed old new bytes (Ok done) whole part cause same = whole
-packed old new bytes (Err WriteFault.Failed) whole part cause same = record { rose = cause refl; prefix = part refl }
-packed old new bytes (Err WriteFault.OutOfMemory) whole part cause same = ap (λ (s : SinkState). s.taken) (same refl)
+packed old new bytes (Ok done) whole kept part cause same = record { faultless = kept; taken = whole }
+packed old new bytes (Err WriteFault.Failed) whole kept part cause same = record { rose = cause refl; prefix = part refl }
+packed old new bytes (Err WriteFault.OutOfMemory) whole kept part cause same =
+    record { faultless = ap (λ (s : SinkState). s.faults) (same refl); taken = ap (λ (s : SinkState). s.taken) (same refl) }

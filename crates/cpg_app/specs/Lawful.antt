@@ -122,8 +122,9 @@ pub record IsLawful (r : Ran) : Type 0 where
   pub read : r.status ≡ 2 → IsFailed r × ((Stops r Read × IsTold r Read) ⊎ IsUnreadStream r)
   -- a fetch that failed ends the run with 2, or with 3 if `err` met a fault in the line that says so
   pub unread : AreSound r.shelf.old.history r.shelf.new.history ⊎ ((r.status ≡ 2) ⊎ ((r.status ≡ 3) × TookPart r.err (line_of Read)))
-  -- 3: a sink met a fault
+  -- 3: a sink met a fault. Under any other status none did.
   pub write : r.status ≡ 3 → Rose r.out.before r.out.now ⊎ Rose r.err.before r.err.now
+  pub unmet : r.status ≢ 3 → (r.out.now ≡ r.out.before) × (r.err.now ≡ r.err.before)
   -- 4: a refusal whose cause holds and whose line was written whole, or a rejected stream
   pub refused : r.status ≡ 4 → ((refusal : Refusal) × Stops r (Refused refusal) × IsTold r (Refused refusal)) ⊎ IsRefusedStream r
   -- 5: a process is late, as the line says

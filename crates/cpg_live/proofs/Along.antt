@@ -165,10 +165,10 @@ opened h k table made live same is e =
 abbrev pub broken_off : Fetch → Fetch
 broken_off f = record { name = f.name; given = f.given; ended = f.ended; failed = true }
 
-pub unread : (name : List ℕ) (past history rest : List Fetch) (start now : List ℕ) (f : Follower) (old new : SinkState) → (a : IsAlong name past history start now f) → rest ≡ failed history →
-    now ≡ new.taken →
-    IsStreamed (λ s. Breaks f.head f.table s Shelf) name past rest start old new
-unread name past history rest start now f old new a e same = record {
+pub unread : (name : List ℕ) (past history rest : List Fetch) (start now : List ℕ) (f : Follower) (out : SinkState) → (a : IsAlong name past history start now f) → rest ≡ failed history →
+    now ≡ out.taken →
+    IsStreamed (λ s. Breaks f.head f.table s Shelf) name past rest start out out
+unread name past history rest start now f out a e same = record {
   fetch = broken_off a.fetch;
   named = a.named;
   history_is = e ∙ ap failed a.history_is;
@@ -180,7 +180,7 @@ unread name past history rest start now f old new a e same = record {
       lawful = ap (λ (s : LiveState). s.bad) (sym a.live) ∙ a.lawful;
       spelled = ap (λ (s : LiveState). act_lines f.head s.progress.acts) a.live;
     },
-    subst (λ o. Took start o (act_lines f.head f.live.progress.acts)) same a.wrote,
+    record { faultless = refl; taken = subst (λ o. Took start o (act_lines f.head f.live.progress.acts)) same a.wrote },
   );
 }
 
@@ -191,7 +191,7 @@ unfetched name past rest h table old e = record {
   fetch = record { name = name; given = []; ended = false; failed = true };
   named = refl;
   history_is = e;
-  is = ([], record { failed = refl; few = omega arith; lawful = refl; spelled = refl }, Took-none old.taken);
+  is = ([], record { failed = refl; few = omega arith; lawful = refl; spelled = refl }, record { faultless = refl; taken = Took-none old.taken });
 }
 
 -- ---- the end
@@ -224,66 +224,65 @@ module _ (name : List ℕ) (past history : List Fetch) (start now : List ℕ) (f
       (closed f.head f.table a.fetch a.sound (omega (arith, a.few, a.read)) ended lawful (omega (arith, a.few, a.read)) time (ap outcome (sym a.live) ∙ e))
 
   -- the lines of a stream that is lawful to its end
-  pub ended_whole : (time : ℕ) → outcome f.live ≡ Ok time → Took now new.taken (closed_line time) → IsStreamed (Completes f.head f.table) name past history start old new
+  pub ended_whole : (time : ℕ) → outcome f.live ≡ Ok time → Took now new.taken (closed_line time) → new.faults ≡ old.faults →
+      IsStreamed (Completes f.head f.table) name past history start old new
   unfolding acts
-  ended_whole time e whole = record {
+  ended_whole time e whole kept = record {
     fetch = a.fetch;
     named = a.named;
     history_is = a.history_is;
-    is = (acts ++ closed_line time, all_closed time e, Took-trans start now new.taken acts (closed_line time) a.wrote whole);
+    is = (acts ++ closed_line time, all_closed time e, record { faultless = kept; taken = Took-trans start now new.taken acts (closed_line time) a.wrote whole });
   }
 
-  pub ended_broken : (broken : Broken) (before : ℕ) → old.faults ≤ before → Closes f before new.faults now new.taken (Err broken) →
-      IsStreamed (λ s. Breaks f.head f.table s broken) name past history start old new
+  pub ended_broken : (broken : Broken) → Closes f old.faults new.faults now new.taken (Err broken) → IsStreamed (λ s. Breaks f.head f.table s broken) name past history start old new
   unfolding acts
-  ended_broken Shelf before l ends = absurd ends
-  ended_broken Sink before l ends =
+  ended_broken Shelf ends = absurd ends
+  ended_broken Sink ends =
       let time = ends.1.0 in
       let cut = cut_closed f.head f.table a.fetch start new.taken (acts ++ closed_line time) (all_closed time ends.1.1) (took_after start now new.taken acts (closed_line time) a.wrote ends.1.2) in
-      record { fetch = a.fetch; named = a.named; history_is = a.history_is; is = (omega (arith, l, ends.0), cut) }
-  ended_broken (Refused Long) before l ends = absurd ends
-  ended_broken (Refused (Lawless bad)) before l ends =
+      record { fetch = a.fetch; named = a.named; history_is = a.history_is; is = (ends.0, cut) }
+  ended_broken (Refused Long) ends = absurd ends
+  ended_broken (Refused (Lawless bad)) ends =
       let is = subst (IsRefused f.head f.table a.fetch (Lawless bad)) (ap (λ (s : LiveState). act_lines f.head s.progress.acts) (sym a.live))
       (unclosed f.head f.table a.fetch a.sound (omega (arith, a.few, a.read)) ended lawful (omega (arith, a.few, a.read)) bad (ap outcome (sym a.live) ∙ ends.0)) in
-      record { fetch = a.fetch; named = a.named; history_is = a.history_is; is = (acts, is, subst (λ o. Took start o acts) (sym ends.1) a.wrote) }
+      record { fetch = a.fetch; named = a.named; history_is = a.history_is; is = (acts, is, record { faultless = ends.2; taken = subst (λ o. Took start o acts) (sym ends.1) a.wrote }) }
 
--- ---- a fault later in a run is one of the run
+-- ---- what came later in a run is of the run
 
-breaks_later : (h : Head) (table : NodeTable) (s : Stream) (before : ℕ) (broken : Broken) → before ≤ s.before → Breaks h table s broken → Breaks h table (record s { before = before }) broken
-breaks_later h table s before Shelf l b = b
-breaks_later h table s before Sink l b = (omega (arith, l, b.0), b.1)
-breaks_later h table s before (Refused fault) l b = b
-
--- a fault of an equal pack and table is one of a run, from an earlier state of the sink on
-pub breaks_on : (f n : Follower) (name : List ℕ) (past history : List Fetch) (start : List ℕ) (first old new : SinkState) (broken : Broken) → IsOfSame f n → first.faults ≤ old.faults →
-    IsStreamed (λ s. Breaks n.head n.table s broken) name past history start old new → IsStreamed (λ s. Breaks f.head f.table s broken) name past history start first new
-breaks_on f n name past history start first old new broken same l b =
-    let s : Stream = record { fetch = b.fetch; before = old.faults; now = new.faults; old = start; new = new.taken } in
-    let here : Breaks f.head f.table s broken = subst (λ h. Breaks h f.table s broken) same.head (subst (λ table. Breaks n.head table s broken) same.table b.is) in
-    record { fetch = b.fetch; named = b.named; history_is = b.history_is; is = breaks_later f.head f.table s first.faults broken l here }
-
-pub completes_on : (f n : Follower) (name : List ℕ) (past history : List Fetch) (start : List ℕ) (first old new : SinkState) → IsOfSame f n →
-    IsStreamed (Completes n.head n.table) name past history start old new → IsStreamed (Completes f.head f.table) name past history start first new
-completes_on f n name past history start first old new same b = record {
+-- what holds of a stream from an earlier state of the sink on, if the sink met no fault since
+from_first : (Is : Stream → Type 0) (name : List ℕ) (past history : List Fetch) (start : List ℕ) (first old new : SinkState) → old.faults ≡ first.faults →
+    IsStreamed Is name past history start old new → IsStreamed Is name past history start first new
+from_first Is name past history start first old new kept b = record {
   fetch = b.fetch;
   named = b.named;
   history_is = b.history_is;
-  is = (
-    b.is.0,
-    subst (λ h. IsClosed h f.table b.fetch b.is.0) same.head (subst (λ table. IsClosed n.head table b.fetch b.is.0) same.table b.is.1),
-    b.is.2,
-  );
+  is = subst (λ n. Is (record { fetch = b.fetch; before = n; now = new.faults; old = start; new = new.taken })) kept b.is;
 }
+
+-- a fault of an equal pack and table is one of a run, from an earlier state of the sink on
+pub breaks_on : (f n : Follower) (name : List ℕ) (past history : List Fetch) (start : List ℕ) (first old new : SinkState) (broken : Broken) → IsOfSame f n → old.faults ≡ first.faults →
+    IsStreamed (λ s. Breaks n.head n.table s broken) name past history start old new → IsStreamed (λ s. Breaks f.head f.table s broken) name past history start first new
+breaks_on f n name past history start first old new broken same kept b =
+    from_first (λ s. Breaks f.head f.table s broken) name past history start first old new kept
+    (subst (λ h. IsStreamed (λ s. Breaks h f.table s broken) name past history start old new) same.head
+    (subst (λ table. IsStreamed (λ s. Breaks n.head table s broken) name past history start old new) same.table b))
+
+pub completes_on : (f n : Follower) (name : List ℕ) (past history : List Fetch) (start : List ℕ) (first old new : SinkState) → IsOfSame f n → old.faults ≡ first.faults →
+    IsStreamed (Completes n.head n.table) name past history start old new → IsStreamed (Completes f.head f.table) name past history start first new
+completes_on f n name past history start first old new same kept b =
+    from_first (Completes f.head f.table) name past history start first old new kept
+    (subst (λ h. IsStreamed (Completes h f.table) name past history start old new) same.head
+    (subst (λ table. IsStreamed (Completes n.head table) name past history start old new) same.table b))
 
 -- what the end of all pieces answers
 pub end_of_all : (f n : Follower) (name : List ℕ) (past history : List Fetch) (start now : List ℕ) (first old new : SinkState) (result : Result Unit Broken) → IsOfSame f n →
-    first.faults ≤ old.faults → (at : IsAlongAt 0 name past history start now n) →
+    old.faults ≡ first.faults → (at : IsAlongAt 0 name past history start now n) →
     Closes n old.faults new.faults now new.taken result → MatchResult result (λ _. IsStreamed (Completes f.head f.table) name past history start first new)
     (λ b. IsStreamed (λ s. Breaks f.head f.table s b) name past history start first new)
-end_of_all f n name past history start now first old new (Ok done) same l at closes =
-    completes_on f n name past history start first old new same (ended_whole name past history start now n at.along (at.end refl) old new closes.0 closes.1 closes.2)
-end_of_all f n name past history start now first old new (Err broken) same l at closes =
-    breaks_on f n name past history start first old new broken same l (ended_broken name past history start now n at.along (at.end refl) old new broken old.faults (omega arith) closes)
+end_of_all f n name past history start now first old new (Ok done) same kept at closes =
+    completes_on f n name past history start first old new same kept (ended_whole name past history start now n at.along (at.end refl) old new closes.0 closes.1 closes.2 closes.3)
+end_of_all f n name past history start now first old new (Err broken) same kept at closes =
+    breaks_on f n name past history start first old new broken same kept (ended_broken name past history start now n at.along (at.end refl) old new broken closes)
 
 -- what follows for the answer of a run
 pub on_match_ok : {T E : Type 0} (P : T → Type 0) (Q : E → Type 0) (r : Result T E) → MatchResult r P Q → IfOk r P

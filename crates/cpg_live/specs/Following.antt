@@ -69,15 +69,20 @@ pub record Stream : Type 0 where
   pub old : List ℕ
   pub new : List ℕ
 
+-- the lines were written whole, and `out` met no fault
+pub record AreWritten (s : Stream) (lines : List ℕ) : Type 0 where
+  pub faultless : s.now ≡ s.before
+  pub taken : Took s.old s.new lines
+
 -- a stream is followed to its close, and all its lines are written
 abbrev pub Completes : Head → NodeTable → Stream → Type 0
-Completes h table s = (lines : List ℕ) × IsClosed h table s.fetch lines × Took s.old s.new lines
+Completes h table s = (lines : List ℕ) × IsClosed h table s.fetch lines × AreWritten s lines
 
 -- a stream isn't followed to its close
 abbrev pub Breaks : Head → NodeTable → Stream → Broken → Type 0
-Breaks h table s Shelf = (lines : List ℕ) × IsLawfulSoFar h table s.fetch lines × Took s.old s.new lines
+Breaks h table s Shelf = (lines : List ℕ) × IsLawfulSoFar h table s.fetch lines × AreWritten s lines
 Breaks h table s Sink = Rose s.before s.now × IsCutOff h table s.fetch s.old s.new
-Breaks h table s (Refused fault) = (lines : List ℕ) × IsRefused h table s.fetch fault lines × Took s.old s.new lines
+Breaks h table s (Refused fault) = (lines : List ℕ) × IsRefused h table s.fetch fault lines × AreWritten s lines
 
 -- the fact holds of the stream of the name, which was fetched once, with what was taken since a start
 pub record IsStreamed (Is : Stream → Type 0) (name : List ℕ) (past history : List Fetch) (start : List ℕ) (old new : SinkState) : Type 0 where
@@ -93,10 +98,11 @@ abbrev pub GoesOn : {T : Type 0} → Follower → ShelfState → ShelfState → 
 GoesOn f shelf rest old new Is result = (start name : List ℕ) (past : List Fetch) → IsAlong name past shelf.history start old.taken f →
     MatchResult result (λ x. Is x start name past) (λ broken. IsStreamed (λ s. Breaks f.head f.table s broken) name past rest.history start old new)
 
--- a stream that has no more bytes ends: its close is written, or it is refused
+-- A stream that has no more bytes ends: its close is written, or it is refused. The counts of the faults of `out` are before
+-- and now.
 abbrev pub Closes : Follower → ℕ → ℕ → List ℕ → List ℕ → Result Unit Broken → Type 0
-Closes f before now old new (Ok done) = (time : ℕ) × (outcome f.live ≡ Ok time) × Took old new (closed_line time)
+Closes f before now old new (Ok done) = (time : ℕ) × (outcome f.live ≡ Ok time) × Took old new (closed_line time) × (now ≡ before)
 Closes f before now old new (Err Sink) = Rose before now × ((time : ℕ) × (outcome f.live ≡ Ok time) × TookPrefix old new (closed_line time))
-Closes f before now old new (Err (Refused (Lawless bad))) = (outcome f.live ≡ Err bad) × (new ≡ old)
+Closes f before now old new (Err (Refused (Lawless bad))) = (outcome f.live ≡ Err bad) × (new ≡ old) × (now ≡ before)
 Closes f before now old new (Err (Refused Long)) = ⊥
 Closes f before now old new (Err Shelf) = ⊥

@@ -172,7 +172,7 @@ impl Follower {
         ensures within { IfOk result (λ _. self.new.read ≤ STREAM_LIMIT) }
         ensures rose { result ≡ Err Broken.Shelf → Rose (S.state shelf.old).faults (S.state shelf.new).faults }
         ensures later { (S.state shelf.old).faults ≤ (S.state shelf.new).faults }
-        ensures out_later { (O.state out.old).faults ≤ (O.state out.new).faults }
+        ensures out_kept { OnOk result ((O.state out.new).faults ≡ (O.state out.old).faults) }
     {
         let Ok(fed) = self.feed_piece(shelf, buffer) else {
             return Err(Broken::Shelf);

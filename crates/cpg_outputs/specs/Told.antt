@@ -16,13 +16,15 @@ pub record SinkSeen : Type 0 where
 abbrev pub sent : SinkState → SinkState → SinkSeen
 sent old new = record { before = old.faults; now = new.faults; old = old.taken; new = new.taken }
 
--- the bytes were taken whole
-abbrev pub Whole : SinkSeen → List ℕ → Type 0
-Whole sink bytes = Took sink.old sink.new bytes
+-- the sink took the bytes whole, and met no fault
+pub record Whole (sink : SinkSeen) (bytes : List ℕ) : Type 0 where
+  pub faultless : sink.now ≡ sink.before
+  pub taken : Took sink.old sink.new bytes
 
--- nothing was taken
-abbrev pub Untouched : SinkSeen → Type 0
-Untouched sink = sink.new ≡ sink.old
+-- the sink took nothing, and met no fault
+pub record Untouched (sink : SinkSeen) : Type 0 where
+  pub faultless : sink.now ≡ sink.before
+  pub taken : sink.new ≡ sink.old
 
 -- the sink met a fault, and took a proper prefix of the bytes
 pub record Part (sink : SinkSeen) (bytes : List ℕ) : Type 0 where

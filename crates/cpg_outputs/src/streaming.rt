@@ -29,7 +29,7 @@ fn follow_pieces<S: Shelf, O: Sink>(
         (λ _ start name past. IsAlongAt 0 name past (S.state shelf.new).history start (O.state out.new).taken follower.new) result }
     ensures rose { result ≡ Err Broken.Shelf → Rose (S.state shelf.old).faults (S.state shelf.new).faults }
     ensures later { (S.state shelf.old).faults ≤ (S.state shelf.new).faults }
-    ensures out_later { (O.state out.old).faults ≤ (O.state out.new).faults }
+    ensures out_kept { OnOk result ((O.state out.new).faults ≡ (O.state out.old).faults) }
 {
     let mut buffer = [0; PIECE];
     loop {

@@ -54,13 +54,13 @@ module _ (r : Run) (k : KeepsShelf r.shelf.old r.shelf.new) where
       (prints r.shelf.old r.shelf.new k r.words p.command text p.values p.has.words p.has.reads p.puts)
 
   pub told : (halt : Halt) → IsToldRun r halt → IsTold (told_of r) halt
-  told halt t = record { status = t.status; out = t.out; err = t.err }
+  told halt t = record { status = t.status; out = t.out.taken; err = t.err.taken }
 
   muted : (halt : Halt) → IsMutedRun r halt → IsMuted (told_of r) halt
-  muted halt t = record { status = t.status; out = t.out; err = part_told r.err (line_of halt) t.err }
+  muted halt t = record { status = t.status; out = t.out.taken; err = part_told r.err (line_of halt) t.err }
 
   pub printed : (text : Text) → IsPrintedRun r text → IsPrinted (told_of r) text
-  printed text t = record { status = t.status; out = t.out; err = t.err }
+  printed text t = record { status = t.status; out = t.out.taken; err = t.err.taken }
 
   cut : (text : Text) → IsCutRun r text → IsCut (told_of r) text
   cut text t = record { status = t.status; out = part_told r.out text t.out; err = either_told r.err write_fault_line t.err }
@@ -93,8 +93,8 @@ module _ (r : Run) (k : KeepsShelf r.shelf.old r.shelf.new) where
     follows = follows_told f;
     lines = u.lines;
     lawful = lawful_told f.tables.head (table_in f) f.fetch (r.shelf.old.stands f.stream) (given_count r.shelf.new) u.lines (last_of f).count (front_of f) u.lawful;
-    out = u.out;
-    err = u.err;
+    out = u.out.taken;
+    err = u.err.taken;
   }
 
   pub refused_stream_told : IsRefusedRun r → IsRefusedStream (told_of r)
@@ -104,8 +104,8 @@ module _ (r : Run) (k : KeepsShelf r.shelf.old r.shelf.new) where
     lines = u.lines;
     refused = refused_told f.tables.head (table_in f) f.fetch (r.shelf.old.stands f.stream) u.fault u.lines (front_of f) u.refused;
     over = over f u.fault u.lines u.refused;
-    out = u.out;
-    err = u.err;
+    out = u.out.taken;
+    err = u.err.taken;
   }
 
   pub closed_prints : (f : FollowsRun r) (lines : Text) → IsClosedFetch f.tables.head (table_in f) f.fetch lines → PrintsAsked (seen r.shelf.old r.shelf.new) (command_of r.words) lines
@@ -118,14 +118,14 @@ module _ (r : Run) (k : KeepsShelf r.shelf.old r.shelf.new) where
       Breaks f.tables.head (table_in f) (stream_of (told_of r) (follows_told f)) broken
   breaks_told f Shelf (lines, c, wrote) = (
     (last_of f).rose c.failed,
-    (lines, lawful_told f.tables.head (table_in f) f.fetch (r.shelf.old.stands f.stream) (given_count r.shelf.new) lines (last_of f).count (front_of f) c, wrote),
+    (lines, lawful_told f.tables.head (table_in f) f.fetch (r.shelf.old.stands f.stream) (given_count r.shelf.new) lines (last_of f).count (front_of f) c, wrote.taken),
   )
   breaks_told f Sink (rose, c) = (rose, cut_told f.tables.head (table_in f) f.fetch (r.shelf.old.stands f.stream) r.out.old r.out.new (front_of f) c)
-  breaks_told f (Refused fault) (lines, c, wrote) = (lines, refused_told f.tables.head (table_in f) f.fetch (r.shelf.old.stands f.stream) fault lines (front_of f) c, wrote, over f fault lines c)
+  breaks_told f (Refused fault) (lines, c, wrote) = (lines, refused_told f.tables.head (table_in f) f.fetch (r.shelf.old.stands f.stream) fault lines (front_of f) c, wrote.taken, over f fault lines c)
 
   pub ends_told : EndsRun r → Ends (told_of r)
   ends_told (inl (text, e)) = inl (text, record { prints = prints_told text e.prints; ending = elim e.ending [ inl p ↦ inl (printed text p) | inr c ↦ inr (cut text c) ] })
   ends_told (inr (inl (halt, e))) = inr (inl (halt, record { stops = stops_told halt e.stops; ending = elim e.ending [ inl t ↦ inl (told halt t) | inr m ↦ inr (muted halt m) ] }))
-  ends_told (inr (inr (inl e))) = let c = e.completes in inl (c.0, record { prints = closed_prints e.follows c.0 c.1; ending = inl (record { status = e.status; out = c.2; err = e.err }) })
+  ends_told (inr (inr (inl e))) = let c = e.completes in inl (c.0, record { prints = closed_prints e.follows c.0 c.1; ending = inl (record { status = e.status; out = c.2.taken; err = e.err.taken }) })
   ends_told (inr (inr (inr e))) = inr (inr (record
       { follows = follows_told e.follows; broken = e.broken; breaks = breaks_told e.follows e.broken e.breaks; said = said_told r.err r.status e.broken e.said }))

@@ -27,7 +27,7 @@ module _ (r : Run) (w : IsLawfulRun r) (k : KeepsShelf r.shelf.old r.shelf.new) 
   done : r.status ≡ 0 → (text : Text) × Prints (seen r.shelf.old r.shelf.new) r.words text × IsPrinted (told_of r) text
   done e = elim (w.done e) [
     | inl p ↦ (p.0, prints_told r k p.0 p.1, printed r k p.0 p.2)
-    | inr c ↦ (c.lines, closed_prints r k c.follows c.lines c.closed, record { status = e; out = c.out; err = c.err })
+    | inr c ↦ (c.lines, closed_prints r k c.follows c.lines c.closed, record { status = e; out = c.out.taken; err = c.err.taken })
   ]
 
   refused : r.status ≡ 4 → ((refusal : Refusal) × Stops (seen r.shelf.old r.shelf.new) r.words (Refused refusal) × IsTold (told_of r) (Refused refusal)) ⊎ IsRefusedStream (told_of r)
@@ -47,7 +47,7 @@ module _ (r : Run) (w : IsLawfulRun r) (k : KeepsShelf r.shelf.old r.shelf.new) 
 
   silent : r.status ≢ 0 → r.status ≢ 3 → Untouched (telling r.out) ⊎ (((r.status ≡ 2) × IsUnreadStream (told_of r)) ⊎ ((r.status ≡ 4) × IsRefusedStream (told_of r)))
   silent n m = elim (w.silent n m) [
-    | inl untouched ↦ inl untouched
+    | inl untouched ↦ inl untouched.taken
     | inr rest ↦ elim rest [
       | inl u ↦ inr (inl (u.0, unread_told r k u.1))
       | inr s ↦ inr (inr (s.0, refused_stream_told r k s.1))

@@ -127,6 +127,7 @@ pub fn write_node<O: Sink>(
     requires { node < length tables.now.head.nodes }
     ensures whole { OnOk result (Took (O.state sink.old).taken (O.state sink.new).taken (node_text tables.now node)) }
     ensures part { result ≡ Err WriteFault.Failed → TookPrefix (O.state sink.old).taken (O.state sink.new).taken (node_text tables.now node) }
+    ensures kept { OnOk result ((O.state sink.new).faults ≡ (O.state sink.old).faults) }
     ensures cause { result ≡ Err WriteFault.Failed → Rose (O.state sink.old).faults (O.state sink.new).faults }
     ensures same { result ≡ Err WriteFault.OutOfMemory → sink.new ≡ sink.old }
     ensures later { (O.state sink.old).faults ≤ (O.state sink.new).faults }

@@ -103,6 +103,7 @@ pub(crate) fn write_sheet<O: Sink>(
 ) -> Result<(), WriteFault>
     ensures whole { OnOk result (Took (O.state sink.old).taken (O.state sink.new).taken (sheet_text sheet.now)) }
     ensures part { result ≡ Err WriteFault.Failed → TookPrefix (O.state sink.old).taken (O.state sink.new).taken (sheet_text sheet.now) }
+    ensures kept { OnOk result ((O.state sink.new).faults ≡ (O.state sink.old).faults) }
     ensures cause { result ≡ Err WriteFault.Failed → Rose (O.state sink.old).faults (O.state sink.new).faults }
     ensures same { result ≡ Err WriteFault.OutOfMemory → sink.new ≡ sink.old }
     ensures later { (O.state sink.old).faults ≤ (O.state sink.new).faults }

@@ -154,6 +154,7 @@ pub fn write_table<O: Sink>(
         (table_text admitted.now.graph order.now built.now.tables.nodes built.now.worst)) }
     ensures part { result ≡ Err WriteFault.Failed →
         TookPrefix (O.state sink.old).taken (O.state sink.new).taken (table_text admitted.now.graph order.now built.now.tables.nodes built.now.worst) }
+    ensures kept { OnOk result ((O.state sink.new).faults ≡ (O.state sink.old).faults) }
     ensures cause { result ≡ Err WriteFault.Failed → Rose (O.state sink.old).faults (O.state sink.new).faults }
     ensures same { result ≡ Err WriteFault.OutOfMemory → sink.new ≡ sink.old }
     ensures later { (O.state sink.old).faults ≤ (O.state sink.new).faults }

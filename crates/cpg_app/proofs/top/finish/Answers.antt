@@ -122,8 +122,8 @@ returns-in-Err-clause-lawful g c words start at =
       status = c.stop.result;
     } in
     let has : Has r at.command at.has.values = record { words = at.words; reads = at.has.reads } in
-    stopped_lawful r c.in-Err.halt (inr (inr (record { command = at.command; values = at.has.values; has = has; stops = c.in-Err.ensures.halt at.command at.has.values at.has.are }))) refl
-    c.stop.ensures
+    stopped_lawful r c.in-Err.halt (inr (inr (record { command = at.command; values = at.has.values; has = has; stops = c.in-Err.ensures.halt at.command at.has.values at.has.are })))
+    (record { faultless = refl; taken = refl }) c.stop.ensures
 
 pub returns-in-Ok-Lines-clause-keeps : goal.returns-in-Ok-Lines-clause-keeps
 returns-in-Ok-Lines-clause-keeps g c = keeps_same (g.S.Shelf.state c.args.shelf.now)

@@ -38,7 +38,8 @@ returns-in-Err-read_inputs-clause-lawful g c =
       err = sent (g.E.Sink.state c.args.err.now) (g.E.Sink.state c.stop.new.err);
       status = c.stop.result;
     } in
-    stopped_lawful r c.in-Err-read_inputs.halt (inr (inl (record { command = c.in-Ok.command; words = c.in-Ok.ensures.command; stops = c.in-Err-read_inputs.ensures.inputs }))) refl c.stop.ensures
+    stopped_lawful r c.in-Err-read_inputs.halt (inr (inl (record { command = c.in-Ok.command; words = c.in-Ok.ensures.command; stops = c.in-Err-read_inputs.ensures.inputs })))
+    (record { faultless = refl; taken = refl }) c.stop.ensures
 
 pub returns-in-Err-clause-lawful : goal.returns-in-Err-clause-lawful
 returns-in-Err-clause-lawful g c =
@@ -49,7 +50,7 @@ returns-in-Err-clause-lawful g c =
       err = sent (g.E.Sink.state c.args.err.now) (g.E.Sink.state c.run_without_words.new.err);
       status = c.run_without_words.result;
     } in
-    wordless_lawful r c.in-Err.fault (λ e. search rules) refl refl c.run_without_words.ensures
+    wordless_lawful r c.in-Err.fault (λ e. search rules) refl (record { faultless = refl; taken = refl }) c.run_without_words.ensures
 
 pub returns-in-Ok-read_inputs-clause-keeps : goal.returns-in-Ok-read_inputs-clause-keeps
 returns-in-Ok-read_inputs-clause-keeps g c =

@@ -1,4 +1,4 @@
-use Rattle.std.proofs.Common.{arith}
+use Rattle.std.proofs.Common.{◌∙◌}
 use Rattle.std.proofs.lemmas.Result.{err_from_is_err_and}
 use Rattle.cpg_codec.specs.Spelling.{edge_bytes}
 use Rattle.cpg_codec.proofs.Puts.{puts_more, puts_fail, Puts-failed}
@@ -7,7 +7,7 @@ use Rattle.cpg_codec.proofs.head_writing.put_edges.Goals as goal
 pub loop-from-preserved : goal.loop-from-preserved
 loop-from-preserved g c = record {
   put = puts_more edge_bytes _ _ _ _ _ _ (c.args.edges.now) (c.loop-from.from-index) ((0, 0)) c.loop-from-test.true c.loop-from.invariant.put c.in_ok-put.ensures.put;
-  later = omega (arith, c.loop-from.invariant.later, c.put.ensures.cause.later);
+  kept = c.in_ok-put.ensures.cause.kept ∙ c.loop-from.invariant.kept;
 }
 
 pub returns-in_err-put-clause-put : goal.returns-in_err-put-clause-put

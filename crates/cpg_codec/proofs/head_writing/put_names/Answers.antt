@@ -1,4 +1,4 @@
-use Rattle.std.proofs.Common.{arith}
+use Rattle.std.proofs.Common.{◌∙◌}
 use Rattle.std.proofs.lemmas.Result.{err_from_is_err_and}
 use Rattle.cpg_codec.specs.Spelling.{name_bytes}
 use Rattle.cpg_codec.proofs.Puts.{item_more, item_fails, Puts-failed}
@@ -7,7 +7,7 @@ use Rattle.cpg_codec.proofs.head_writing.put_names.Goals as goal
 pub loop-name-preserved : goal.loop-name-preserved
 loop-name-preserved g c = record {
   put = item_more name_bytes _ _ _ _ _ _ c.args.names.now c.loop-name.name-index c.name-item.result c.name-item.is c.loop-name-test.true c.loop-name.invariant.put c.in_ok-put_name.ensures.put;
-  later = omega (arith, c.loop-name.invariant.later, c.put_name.ensures.cause.later);
+  kept = c.in_ok-put_name.ensures.cause.kept ∙ c.loop-name.invariant.kept;
 }
 
 pub returns-in_err-put_name-clause-put : goal.returns-in_err-put_name-clause-put

@@ -1,4 +1,4 @@
-use Rattle.std.proofs.Common.{arith}
+use Rattle.std.proofs.Common.{◌∙◌, arith}
 use Rattle.std.proofs.lemmas.Result.{err_from_is_err_and}
 use Rattle.cpg_codec.specs.Spelling.{written, process_bytes}
 use Rattle.cpg_codec.proofs.WrittenHeads.{written_at, written_length}
@@ -13,7 +13,7 @@ loop-number-preserved g c =
           (written_at c.args.head.now c.loop-number.number c.index-processes-number.result c.extra_of-extra.result c.processes-processes.ensures.within lt
           (rw c.processes-processes.ensures.processes at c.index-processes-number.is) c.extra_of-extra.ensures)
           (omega (arith, lt, written_length c.args.head.now)) c.loop-number.invariant.put c.in_ok-put_process.ensures.put;
-      later = omega (arith, c.loop-number.invariant.later, c.put_process.ensures.cause.later);
+      kept = c.in_ok-put_process.ensures.cause.kept ∙ c.loop-number.invariant.kept;
     }
 
 pub returns-in_err-put_process-clause-put : goal.returns-in_err-put_process-clause-put

@@ -1,4 +1,4 @@
-use Rattle.std.proofs.Common.{arith}
+use Rattle.std.proofs.Common.{◌∙◌}
 use Rattle.std.proofs.lemmas.Result.{err_from_is_err_and}
 use Rattle.std.specs.Int.{w64, to_be_bytes}
 use Rattle.cpg_codec.proofs.Puts.{puts_more, puts_fail, Puts-failed}
@@ -7,7 +7,7 @@ use Rattle.cpg_codec.proofs.head_writing.put_times.Goals as goal
 pub loop-time-preserved : goal.loop-time-preserved
 loop-time-preserved g c = record {
   put = puts_more (to_be_bytes w64) _ _ _ _ _ _ (c.args.times.now) (c.loop-time.time-index) (0) c.loop-time-test.true c.loop-time.invariant.put c.in_ok-put_long.ensures.put;
-  later = omega (arith, c.loop-time.invariant.later, c.put_long.ensures.cause.later);
+  kept = c.in_ok-put_long.ensures.cause.kept ∙ c.loop-time.invariant.kept;
 }
 
 pub returns-in_err-put_long-clause-put : goal.returns-in_err-put_long-clause-put

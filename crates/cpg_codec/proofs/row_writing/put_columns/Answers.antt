@@ -1,4 +1,4 @@
-use Rattle.std.proofs.Common.{arith}
+use Rattle.std.proofs.Common.{◌∙◌}
 use Rattle.std.proofs.lemmas.Result.{err_from_is_err_and}
 use Rattle.cpg_codec.specs.Spelling.{column_bytes}
 use Rattle.cpg_codec.proofs.Puts.{item_more, item_fails, Puts-failed}
@@ -8,7 +8,7 @@ pub loop-column-preserved : goal.loop-column-preserved
 loop-column-preserved g c = record {
   put = item_more column_bytes _ _ _ _ _ _ c.args.columns.now c.loop-column.column-index c.column-item.result c.column-item.is c.loop-column-test.true c.loop-column.invariant.put
       c.in_ok-put_column.ensures.put;
-  later = omega (arith, c.loop-column.invariant.later, c.put_column.ensures.cause.later);
+  kept = c.in_ok-put_column.ensures.cause.kept ∙ c.loop-column.invariant.kept;
 }
 
 pub returns-in_err-put_column-clause-put : goal.returns-in_err-put_column-clause-put

@@ -1,4 +1,4 @@
-use Rattle.std.proofs.Common.{arith}
+use Rattle.std.proofs.Common.{◌∙◌}
 use Rattle.std.proofs.lemmas.Result.{err_from_is_err_and}
 use Rattle.cpg_codec.specs.Spelling.{literal_bytes}
 use Rattle.cpg_codec.proofs.Puts.{puts_more, puts_fail, Puts-failed}
@@ -8,7 +8,7 @@ pub loop-literal-preserved : goal.loop-literal-preserved
 loop-literal-preserved g c = record {
   put = puts_more literal_bytes _ _ _ _ _ _ (c.args.literals.now) (c.loop-literal.literal-index)
       (record { variable = 0; low = 0; high = 0 }) c.loop-literal-test.true c.loop-literal.invariant.put c.in_ok-put.ensures.put;
-  later = omega (arith, c.loop-literal.invariant.later, c.put.ensures.cause.later);
+  kept = c.in_ok-put.ensures.cause.kept ∙ c.loop-literal.invariant.kept;
 }
 
 pub returns-in_err-put-clause-put : goal.returns-in_err-put-clause-put

@@ -1,4 +1,4 @@
-use Rattle.std.proofs.Common.{arith}
+use Rattle.std.proofs.Common.{◌∙◌}
 use Rattle.std.proofs.lemmas.Result.{err_from_is_err_and}
 use Rattle.cpg_codec.specs.Spelling.{row_bytes}
 use Rattle.cpg_codec.proofs.Puts.{item_more, item_fails, Puts-failed}
@@ -7,7 +7,7 @@ use Rattle.cpg_codec.proofs.row_writing.put_rows.Goals as goal
 pub loop-row-preserved : goal.loop-row-preserved
 loop-row-preserved g c = record {
   put = item_more row_bytes _ _ _ _ _ _ c.args.rows.now c.loop-row.row-index c.row-item.result c.row-item.is c.loop-row-test.true c.loop-row.invariant.put c.in_ok-put_row.ensures.put;
-  later = omega (arith, c.loop-row.invariant.later, c.put_row.ensures.cause.later);
+  kept = c.in_ok-put_row.ensures.cause.kept ∙ c.loop-row.invariant.kept;
 }
 
 pub returns-in_err-put_row-clause-put : goal.returns-in_err-put_row-clause-put

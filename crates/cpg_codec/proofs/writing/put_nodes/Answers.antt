@@ -12,7 +12,7 @@ loop-node-preserved g c =
     record {
       put = puts_more table_bytes _ _ _ _ _ _ c.args.tables.now.nodes c.loop-node.node empty_table (omega (arith, e, c.head.ensures.lawful.count, c.loop-node-test.true)) c.loop-node.invariant.put
           (rw c.node.ensures.table at c.in_ok-put_table.ensures.put);
-      later = omega (arith, c.loop-node.invariant.later, c.put_table.ensures.cause.later);
+      kept = c.in_ok-put_table.ensures.cause.kept ∙ c.loop-node.invariant.kept;
     }
 
 pub returns-in_err-put_table-clause-put : goal.returns-in_err-put_table-clause-put

@@ -1,4 +1,4 @@
-use Rattle.std.proofs.Common.{◌≤◌, take}
+use Rattle.std.proofs.Common.{◌≡◌, take}
 use Rattle.std.specs.List.{flat_map}
 use Rattle.cpg_codec.specs.Spelling.{table_bytes}
 use Rattle.cpg_codec.specs.Writing.{IsPut}
@@ -7,5 +7,5 @@ use Rattle.cpg_codec.proofs.writing.put_nodes.Given as goal
 abbrev pub invariant-loop-node : goal.invariant-loop-node
 invariant-loop-node g l = record {
   put : IsPut (g.O.Sink.state l.fn.sink).taken (g.O.Sink.state l.sink).taken l.fn.buffer l.buffer (flat_map table_bytes (take l.node l.fn.tables.nodes));
-  later : (g.O.Sink.state l.fn.sink).faults ≤ (g.O.Sink.state l.sink).faults;
+  kept : (g.O.Sink.state l.sink).faults ≡ (g.O.Sink.state l.fn.sink).faults;
 }

@@ -6,7 +6,7 @@ pub loop-at-preserved : goal.loop-at-preserved
 loop-at-preserved g c = record {
   within = search rules;
   taken = Took-next _ _ _ _ _ _ c.loop-at.invariant.taken (rw rest_of at c.in_ok-at.ensures.bytes);
-  later = search rules;
+  kept = search rules;
 }
 
 pub returns-in_err-at-clause-part : goal.returns-in_err-at-clause-part

@@ -20,7 +20,7 @@ returns-in-Ok-clause-keeps g c =
 pub returns-in-Ok-clause-followed : goal.returns-in-Ok-clause-followed
 returns-in-Ok-clause-followed g c =
     let s = c.in-Ok.ensures.whole in
-    record { fetch = s.fetch; named = s.named; history = s.history_is; ends = inl (s.is, refl, refl) }
+    record { fetch = s.fetch; named = s.named; history = s.history_is; ends = inl (s.is, refl, record { faultless = refl; taken = refl }) }
 
 pub returns-in-Err-clause-followed : goal.returns-in-Err-clause-followed
 returns-in-Err-clause-followed g c =

@@ -7,7 +7,7 @@ pub returns-in-Err-clause-along : goal.returns-in-Err-clause-along
 returns-in-Err-clause-along g c start name past a =
     let before = c.loop-count.invariant in
     breaks_on c.args.follower.now c.loop-count.follower name past (g.S.Shelf.state c.follow_piece.new.shelf).history start (g.O.Sink.state c.args.out.now) (g.O.Sink.state c.loop-count.out)
-    (g.O.Sink.state c.follow_piece.new.out) c.in-Err.broken before.same before.out_later
+    (g.O.Sink.state c.follow_piece.new.out) c.in-Err.broken before.same before.out_kept
     (c.in-Err.ensures.along start name past (before.along start name past a))
 
 pub returns-then-count-eq0-clause-along : goal.returns-then-count-eq0-clause-along
@@ -27,7 +27,7 @@ loop-count-preserved g c =
       same = record { head = after.same.head ∙ before.same.head; table = after.same.table ∙ before.same.table };
       along = λ start name past a. (after.along start name past (before.along start name past a)).along;
       later = omega (arith, before.later, after.later);
-      out_later = omega (arith, before.out_later, after.out_later);
+      out_kept = after.out_kept ∙ before.out_kept;
     }
 
 pub returns-in-Err-clause-rest : goal.returns-in-Err-clause-rest

@@ -1,4 +1,4 @@
-use Rattle.std.proofs.Common.{ℕ, List, ◌≤◌, ◌-◌}
+use Rattle.std.proofs.Common.{ℕ, List, ◌≡◌, ◌≤◌, ◌-◌}
 use Rattle.cpg_history.specs.Fetch.{Fetch}
 use Rattle.cpg_io.specs.Agreement.{LeavesRest}
 use Rattle.cpg_io.specs.Shelf.{SameLeave, SameNames}
@@ -16,7 +16,7 @@ invariant-loop-count g l = record {
   along : (start name : List ℕ) (past : List Fetch) → IsAlong name past (g.S.Shelf.state l.fn.shelf).history start (g.O.Sink.state l.fn.out).taken l.fn.follower
       → IsAlong name past (g.S.Shelf.state l.shelf).history start (g.O.Sink.state l.out).taken l.follower;
   later : (g.S.Shelf.state l.fn.shelf).faults ≤ (g.S.Shelf.state l.shelf).faults;
-  out_later : (g.O.Sink.state l.fn.out).faults ≤ (g.O.Sink.state l.out).faults;
+  out_kept : (g.O.Sink.state l.out).faults ≡ (g.O.Sink.state l.fn.out).faults;
 }
 
 abbrev pub decreases-loop-count : goal.decreases-loop-count

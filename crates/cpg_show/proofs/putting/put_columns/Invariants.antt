@@ -1,4 +1,4 @@
-use Rattle.std.proofs.Common.{◌≤◌, take}
+use Rattle.std.proofs.Common.{◌≡◌, take}
 use Rattle.std.specs.List.{flat_map}
 use Rattle.cpg_label.specs.CubeText.{column_line}
 use Rattle.cpg_label.specs.Lines.{IsLine}
@@ -8,6 +8,6 @@ use Rattle.cpg_show.proofs.putting.put_columns.Given as goal
 abbrev pub invariant-loop-column : goal.invariant-loop-column
 invariant-loop-column g l = record {
   put : IsPut (g.O.Sink.state l.fn.sink).taken (g.O.Sink.state l.sink).taken l.fn.buffer l.buffer (flat_map (column_line l.labels) (take l.column-index l.fn.columns));
-  later : (g.O.Sink.state l.fn.sink).faults ≤ (g.O.Sink.state l.sink).faults;
+  kept : (g.O.Sink.state l.sink).faults ≡ (g.O.Sink.state l.fn.sink).faults;
   line : IsLine l.labels l.line;
 }

@@ -1,4 +1,4 @@
-use Rattle.std.proofs.Common.{arith}
+use Rattle.std.proofs.Common.{◌∙◌}
 use Rattle.std.proofs.lemmas.Result.{err_from_is_err_and}
 use Rattle.cpg_show.specs.Sheet.{part_text}
 use Rattle.cpg_codec.proofs.Puts.{item_more, item_fails, Puts-failed}
@@ -8,7 +8,7 @@ pub loop-part-preserved : goal.loop-part-preserved
 loop-part-preserved g c = record {
   put = item_more (part_text c.args.labels.now) _ _ _ _ _ _ c.args.parts.now c.loop-part.part-index c.part-item.result c.part-item.is c.loop-part-test.true c.loop-part.invariant.put
       c.in_ok-put_part.ensures.put;
-  later = omega (arith, c.loop-part.invariant.later, c.put_part.ensures.cause.later);
+  kept = c.in_ok-put_part.ensures.cause.kept ∙ c.loop-part.invariant.kept;
   line = c.in_ok-put_part.ensures.line;
 }
 

@@ -12,7 +12,7 @@ returns-in_default-clause-along g c start name past a =
     let shelf = g.S.Shelf.state c.args.shelf.now in
     let rest = g.S.Shelf.state c.feed_piece.new.shelf in
     let out = g.O.Sink.state c.args.out.now in
-    unread name past shelf.history rest.history start out.taken c.args.self.now out out a c.in_default.ensures.failed refl
+    unread name past shelf.history rest.history start out.taken c.args.self.now out a c.in_default.ensures.failed refl
 
 pub returns-then-is_err-clause-along : goal.returns-then-is_err-clause-along
 returns-then-is_err-clause-along g c start name past a =
@@ -53,8 +53,11 @@ returns-in-Some-clause-along g c start name past a =
       is = (
         act_lines f.head n.live.progress.acts,
         fed_lawless name past rest.history start now out f.head f.table f.live.progress.acts f.told n.read n.live k c.in-Some.bad bad,
-        wrote_all name past rest.history start now out f.head f.table f.live.progress.acts f.told n.read n.live k
-            (subst (Took now out) (lines_told shelf rest f n c.in-Ok.fed.count c.in-Ok.ensures.piece) (on_ok c.tell.result told_all c.tell.ensures.whole)),
+        record {
+          faultless = on_ok c.tell.result told_all c.tell.ensures.cause.kept;
+          taken = wrote_all name past rest.history start now out f.head f.table f.live.progress.acts f.told n.read n.live k
+              (subst (Took now out) (lines_told shelf rest f n c.in-Ok.fed.count c.in-Ok.ensures.piece) (on_ok c.tell.result told_all c.tell.ensures.whole));
+        },
       );
     }
 
@@ -78,8 +81,11 @@ returns-then-self-gt-STREAM_LIMIT-clause-along g c start name past a =
       is = (
         act_lines f.head n.live.progress.acts,
         fed_long name past rest.history start now out f.head f.table f.live.progress.acts f.told n.read n.live k none over,
-        wrote_all name past rest.history start now out f.head f.table f.live.progress.acts f.told n.read n.live k
-            (subst (Took now out) (lines_told shelf rest f n c.in-Ok.fed.count c.in-Ok.ensures.piece) (on_ok c.tell.result told_all c.tell.ensures.whole)),
+        record {
+          faultless = on_ok c.tell.result told_all c.tell.ensures.cause.kept;
+          taken = wrote_all name past rest.history start now out f.head f.table f.live.progress.acts f.told n.read n.live k
+              (subst (Took now out) (lines_told shelf rest f n c.in-Ok.fed.count c.in-Ok.ensures.piece) (on_ok c.tell.result told_all c.tell.ensures.whole));
+        },
       );
     }
 
