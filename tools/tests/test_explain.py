@@ -348,7 +348,7 @@ to mend it: ask `why {file}` what held it up; `slack` says how far a wcet has to
                 self.assertTrue(got[0].startswith(said), got)
 
     def test_files_of_tools(self) -> None:
-        """A tool that passes a line on has its own form: the rules are no part, of two graphs the one that cpgc refuses is meant, and --header has a graph."""
+        """A tool that passes a line on has its own form: the rules are no part, of two graphs the one that cpgc refuses is meant, and --header and --graph have a graph."""
         rules = '[[edge]]\nfrom = "0.A"\nto = "1.b"\ntake = "latest"\n'
         late = (EXAMPLES / "late.toml").read_text()
         cases: list[tuple[str, dict[str, Content], str, str]] = [
@@ -362,6 +362,7 @@ to mend it: ask `why {file}` what held it up; `slack` says how far a wcet has to
             ("compare pair.toml pair.toml pair.pack cut.pack", {"cut.pack": lambda it: it[:-1]}, "refused 10 pack 146", "cut.pack:"),
             ("c-table pair.pack N1 --header late.toml", {}, "refused 17 other graph nodes", "pair.pack was made for another"),
             ("c-table --header=late.toml pair.pack N1", {}, "refused 17 other graph nodes", "pair.pack was made for another"),
+            ("c-table pair.pack N1 --graph late.toml", {}, "refused 17 other graph nodes", "pair.pack was made for another"),
         ]
         for command, files, line, said in cases:
             self.made({"rates.toml": rules, "late.toml": late, **files})

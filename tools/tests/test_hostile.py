@@ -196,7 +196,7 @@ class Hostile(Case):
             with self.subTest(name):
                 self.file("odd.toml", PAIR.replace('"N2"', f'"{name}"'))
                 self.file("odd.pack", self.cpgc("compile", "odd.toml").stdout)
-                self.assertIn(f'cpg_table_name[] = "{name}"', self.of("c-table", "odd.pack", "--", name))
+                self.assertIn(f"/* The table of node {name}. ", self.of("c-table", "odd.pack", "--", name))
                 self.assertTrue(self.of("c-table", "--sizes", "odd.pack", "--", name).startswith("-DCPG_MAX_PROCESSES=2U"))
                 play = self.cpgc("play", "odd.toml", "odd.pack", "s.toml", "--turns", "0").stdout
                 self.assertEqual(len(self.of("stream", "odd.pack", "--", name, stdin=play)), 42)
