@@ -67,12 +67,7 @@ fn longest(problem: &Problem, item: u32) -> u64 {
 }
 
 /// Whether a row begins before what the columns of another begin is over.
-fn begins_within(
-    problem: &Problem,
-    lines: &[SievedLine<'_>],
-    item: u32,
-    other: u32,
-) -> bool {
+fn begins_within(problem: &Problem, lines: &[SievedLine<'_>], item: u32, other: u32) -> bool {
     let (Some(line), Some(beside)) = (lines.get(item as usize), lines.get(other as usize)) else {
         return false;
     };

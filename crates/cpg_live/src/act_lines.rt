@@ -1,6 +1,5 @@
 //! Lines of a stream, in bytes that have room for them.
-ghost use Rattle.std.specs.Prelude.{◌≡◌, ◌+◌, ◌*◌, ◌≤◌, ◌++◌, codes, length};
-ghost use Rattle.std.specs.Fmt.{decimal};
+ghost use Rattle.std.specs.Prelude.{◌≡◌, ◌+◌, ◌*◌, ◌≤◌, ◌++◌, length};
 ghost use Rattle.std.specs.Vec.{vec_len, vec_capacity};
 ghost use Rattle.cpg_label.specs.ItemText.{item_of, done_text};
 ghost use Rattle.cpg_label.specs.Labels.{condition_name, head_labels, process_name};

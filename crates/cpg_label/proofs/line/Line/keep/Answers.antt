@@ -7,7 +7,7 @@ pub returns-clause-line : goal.returns-clause-line
 returns-clause-line c =
     let old = c.args.self.now in
     let end : c.index.result.now ≡ get_or old.ends.items c.args.count 0 = c.index.ensures ∙ get_or_default old.ends.items c.args.count c.index.result.now 0
-        (omega (arith, c.requires.line.are.count, c.requires.within)) in
+    (omega (arith, c.requires.line.are.count, c.requires.within)) in
     record {
       are = rw c.truncate-3.ensures.items (rw c.truncate.ensures.items (rw c.truncate-2.ensures.items (rw end
           (line_less c.args.labels.now old.literals.items old.text.items old.ends.items c.args.count c.requires.line.are c.requires.within))));
