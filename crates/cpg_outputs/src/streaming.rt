@@ -1,5 +1,5 @@
 //! A stream that a node follows, piece by piece.
-ghost use Rattle.std.specs.Prelude.{◌≡◌, ◌≤◌, Err, IfErr, IfOk};
+ghost use Rattle.std.specs.Prelude.{◌≡◌, ◌≤◌, Err, IfErr, IfOk, OnOk};
 ghost use Rattle.cpg_io.specs.Agreement.{AreFetched, LeavesRest};
 ghost use Rattle.cpg_io.specs.Causes.{Rose};
 ghost use Rattle.cpg_io.specs.Shelf.{SameLeave, SameNames};
