@@ -86,6 +86,8 @@ class CTable(Case):
         path = self.packed(PAIR)
         self.file("longer.toml", PAIR.replace("wcet = 10", "wcet = 11"))
         self.of("c-table", path, "N2", "--graph", "longer.toml", status=4, err="cpgc: refused 17 other graph processes\n")
+        self.file("none.toml", "faults")
+        self.of("c-table", path, "N2", "--graph", "none.toml", status=4, err="cpgc: refused 1 not toml\n")
         tables = pack.read(path)
         text = "\n".join(c_table.source(tables, 1)).replace("0x0fU", "0x10U")
         with Program(CPGC) as cpgc, self.assertRaises(cli.Failure) as refused:
