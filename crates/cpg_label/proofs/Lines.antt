@@ -5,7 +5,7 @@ use Rattle.std.proofs.Math.ListN.{get_or-append}
 use Rattle.std.proofs.Math.Seq.{get_or-append_seam, take-append_seam, take-length}
 use Rattle.std.proofs.lemmas.Bool.{cases_lt}
 use Rattle.std.proofs.lemmas.Grind.{flat_map-append}
-use Rattle.std.proofs.lemmas.List.{append_assoc, get_or-append-add, get_or-take, length-append, length-take-le, take-append-drop, take-append-le}
+use Rattle.std.proofs.lemmas.List.{append_assoc, get_or-take, length-append, length-take-le, take-append-drop, take-append-le}
 use Rattle.cpg_cube.specs.Cube.{IsRising}
 use Rattle.cpg_cube.specs.declared.literal.Literal.{Literal}
 use Rattle.cpg_label.specs.CubeText.{literal_text}

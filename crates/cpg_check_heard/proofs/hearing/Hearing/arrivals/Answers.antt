@@ -1,9 +1,10 @@
-use Rattle.std.proofs.Common.{◌<◌, [], get_or, All, arith, false}
+use Rattle.std.proofs.Common.{◌<◌, [], get_or, All, arith, false, subst, sym}
 use Rattle.cpg_base.proofs.Lists.{Contains-filter_parts, numbers-Contains}
 use Rattle.cpg_base.specs.Graph.{is_heard_by, item_at, item_count}
 use Rattle.cpg_base.specs.Numbers.{numbers_below}
 use Rattle.cpg_cube.specs.Fit.{IsKnown}
 use Rattle.cpg_cube.specs.Column.{Column}
+use Rattle.cpg_violation.specs.Lines.{IsLine}
 use Rattle.cpg_violation.proofs.Violations.{columns_known}
 use Rattle.cpg_check_heard.specs.declared.bound.LiteralBound.{LiteralBound}
 use Rattle.cpg_check_heard.specs.Arrivals.{do_tell}
@@ -29,7 +30,7 @@ add_row-requires c =
     let below : x < item_count g = heard_below g c.args.node x (c.requires.items c.loop-item.item-index 0 c.loop-item-test.true) in
     let t = c.index-teller.result.now in
     let is = teller_at g c.args.self.now.tables.now.nodes (item_count g) c.args.self.now.tellers.items x t c.requires.hearing.tellers below c.index-teller.ensures in
-    rw is.line.all is.line
+    subst (λ columns. IsLine columns t.line.now) (sym is.line.all) is.line
 
 pub loop-item-preserved : goal.loop-item-preserved
 loop-item-preserved c =
