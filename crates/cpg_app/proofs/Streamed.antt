@@ -190,10 +190,12 @@ module _ (r : Ran) (ends : EndsInStream r) where
   refused_stream : (broken : Broken) → Breaks head table (stream_of r stream) broken → IsSaid r.err r.status broken → r.status ≡ 4 → IsRefusedStream r
   refused_stream Broken.Shelf breaks said four = absurd (let two = status_sent r.err r.status 2 4 (line_of Read) said four (λ e. omega arith) in omega arith)
   refused_stream Broken.Sink breaks said four = absurd (let three = said.0 in omega arith)
-  refused_stream (Broken.Refused fault) breaks said four = record { follows = stream; fault = fault; lines = breaks.0; refused = breaks.1; out = wrote_all r stream breaks.0 breaks.2; err = (said.whole (λ three. omega arith)).1 }
+  refused_stream (Broken.Refused fault) breaks said four = record
+      { follows = stream; fault = fault; lines = breaks.0; refused = breaks.1; out = wrote_all r stream breaks.0 breaks.2; err = (said.whole (λ three. omega arith)).1 }
 
   unread_stream : (broken : Broken) → Breaks head table (stream_of r stream) broken → IsSaid r.err r.status broken → r.status ≡ 2 → IsUnreadStream r
-  unread_stream Broken.Shelf breaks said two = record { follows = stream; lines = breaks.0; lawful = breaks.1; out = wrote_all r stream breaks.0 breaks.2; err = (said.whole (λ three. omega arith)).1 }
+  unread_stream Broken.Shelf breaks said two = record
+      { follows = stream; lines = breaks.0; lawful = breaks.1; out = wrote_all r stream breaks.0 breaks.2; err = (said.whole (λ three. omega arith)).1 }
   unread_stream Broken.Sink breaks said two = absurd (let three = said.0 in omega arith)
   unread_stream (Broken.Refused fault) breaks said two = absurd (let four = status_sent r.err r.status 4 2 (fault_line fault) said two (λ e. omega arith) in omega arith)
 
