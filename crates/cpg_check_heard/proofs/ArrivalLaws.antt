@@ -6,16 +6,17 @@ use Rattle.std.proofs.Math.Bool.{or-false}
 use Rattle.std.proofs.lemmas.Bool.{and_from, and_right, lt-leb}
 use Rattle.std.proofs.lemmas.List.Elements.{All-append}
 use Rattle.std.proofs.lemmas.List.Folds.{list_any-append}
-use Rattle.cpg_base.specs.Graph.{Graph}
-use Rattle.cpg_base.specs.Scenario.{Scenario}
+use Rattle.cpg_base.specs.Duration.{duration}
+use Rattle.cpg_base.specs.Graph.{Graph, condition_of}
+use Rattle.cpg_base.specs.Scenario.{Scenario, number_of}
 use Rattle.cpg_cube.specs.Cube.{matches}
 use Rattle.cpg_cube.specs.Fit.{IsKnown}
 use Rattle.cpg_cube.specs.Column.{Column, column_at}
-use Rattle.cpg_table.specs.Heard.{value_fact}
+use Rattle.cpg_table.specs.Heard.{exactly, value_fact}
 use Rattle.cpg_check_heard.specs.declared.arrivals.Arrival.{Arrival}
 use Rattle.cpg_check_heard.specs.declared.bound.LiteralBound.{LiteralBound}
 use Rattle.cpg_check_heard.specs.declared.tellers.Telling.{Telling}
-use Rattle.cpg_check_heard.specs.declared.tellers.Telling.TheVariants.{Frame}
+use Rattle.cpg_check_heard.specs.declared.tellers.Telling.TheVariants.{End, Frame}
 use Rattle.cpg_check_heard.specs.Arrivals.{IsArrival, do_tell}
 use Rattle.cpg_check_heard.specs.Bounds.{tells}
 use Rattle.cpg_check_heard.specs.Tellings.{column_tells, is_telling, is_telling_at}
@@ -24,6 +25,11 @@ module _ (g : Graph) (time : ℕ) (b : LiteralBound) (s : Scenario) where
   -- a frame that comes later tells nothing
   pub late_frame : (delay : ℕ) (o : Option ℕ) (c : Column) → time < c.time + delay → is_telling g (Frame delay o) time b s c ≡ false
   late_frame delay o c l = and_right (matches c.cube s) (column_tells g (Frame delay o) time b s c) (ap (λ t. t && list_any (tells b) (c.cube ++ value_fact s o)) (lt-leb (c.time + delay) time l))
+
+  -- an end that comes later tells nothing
+  pub late_end : (p : ℕ) (c : Column) → time < c.time → is_telling g (End p) time b s c ≡ false
+  late_end p c l = and_right (matches c.cube s) (column_tells g (End p) time b s c)
+      (ap (λ t. t && list_any (tells b) (exactly p (number_of s p) ∷ value_fact s (condition_of g p))) (lt-leb (c.time + duration g p (number_of s p)) time (omega (arith, l))))
 
   -- one that has come tells what its column's literals do
   pub whole_frame : (delay : ℕ) (o : Option ℕ) (c : Column) → nat_le (c.time + delay) time ≡ true → list_any (tells b) c.cube ≡ true → matches c.cube s ≡ true →

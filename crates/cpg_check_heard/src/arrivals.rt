@@ -31,13 +31,13 @@ pub(crate) struct Arrival<'a> {
     pub(crate) telling: Telling,
 }
 
-/// Whether the frame of a column may have come by a time; not if that of a column at this start hasn't, and the column
-/// is no earlier.
-fn may_have_come(telling: Telling, start: u64, time: u64) -> bool
+/// Whether the end or the frame of a column may have come by a time; not if that of a column at this start hasn't, and the
+/// column is no earlier.
+pub(crate) fn may_have_come(telling: Telling, start: u64, time: u64) -> bool
     ensures { OnFalse result ((g : Graph) (b : LiteralBound) (s : Scenario) (c : Column) → start ≤ c.time → is_telling g telling time b s c ≡ false) }
 {
     match telling {
-        Telling::End { .. } => true,
+        Telling::End { .. } => start <= time,
         Telling::Frame { delay, .. } => has_come(start, delay, time),
     }
 }

@@ -7,11 +7,12 @@ ghost use Rattle.cpg_base.specs.Limits.{IsWithinLimits};
 ghost use Rattle.cpg_base.specs.Scenario.{Scenario, IsScenario};
 ghost use Rattle.cpg_cube.specs.Cube.{matches};
 ghost use Rattle.cpg_cube.specs.Fit.{IsKnown};
-ghost use Rattle.cpg_violation.specs.Sieves.{IsSieveOf};
+ghost use Rattle.cpg_violation.specs.Lines.{IsLine};
 ghost use Rattle.cpg_check_heard.specs.Bounds.{variable_of};
 ghost use Rattle.cpg_check_heard.specs.Tellings.{CanTell, IsPart, is_telling, is_telling_at, is_value, row_tells};
 ghost use Rattle.cpg_check_heard.specs.declared.tellers.Telling.TheVariants.{End, Frame};
 
+use crate::arrivals::may_have_come;
 use crate::bound::LiteralBound;
 use crate::tellers::{Teller, Telling, has_come};
 use cpg_base::{FIRST_VALUE, OutOfMemory, Problem};
@@ -165,7 +166,8 @@ pub(crate) fn add(told: &mut Vec<Cube>, part: Option<Cube>) -> Result<(), OutOfM
     Ok(())
 }
 
-/// Adds the parts of a row's cubes in which it tells a bound by a time, as far as they match together with a cube.
+/// Adds the parts of a row's cubes in which it tells a bound by a time, as far as they match together with a cube. No column is
+/// looked at if even the first is too late.
 pub(crate) fn add_row(
     alloc: Global,
     problem: &Problem,
@@ -178,7 +180,7 @@ pub(crate) fn add_row(
     requires can { CanTell problem.now bound teller.now.telling }
     requires variable { IsVariable problem.now (variable_of bound) }
     requires columns { All (λ c. IsKnown problem.now c.cube) teller.now.line.now.columns.now }
-    requires sieve { IsSieveOf teller.now.line.now.columns.now teller.now.line.now.sieve }
+    requires line { IsLine teller.now.line.now.columns.now teller.now.line.now }
     requires told { All (IsKnown problem.now) told.old.items }
     ensures known { IfOk result (λ _. All (IsKnown problem.now) told.new.items) }
     ensures told { IfOk result (λ _. (s : Scenario) → IsScenario problem.now s → matches cube.now s ≡ true
@@ -187,6 +189,9 @@ pub(crate) fn add_row(
         || row_tells problem.now teller.now.telling time bound teller.now.line.now.columns.now s)) }
 {
     let line = teller.line;
+    if !may_have_come(teller.telling, line.first, time) {
+        return Ok(());
+    }
     let places = line.sieve.candidates(alloc, line.columns, cube)?;
     for place in places.as_slice() {
         let part = part_at(problem, teller.telling, line.columns, *place, time, bound)?;

@@ -1,8 +1,10 @@
 use Rattle.std.proofs.Common.{◌||◌, Contains, get_or, sym, ap, ◌∙◌, subst}
 use Rattle.std.specs.List.{list_any}
+use Rattle.std.proofs.Math.Bool.{or-false}
 use Rattle.std.proofs.lemmas.List.{take_all}
 use Rattle.cpg_cube.specs.Cube.{matches}
-use Rattle.cpg_check_heard.specs.Tellings.{is_telling_at}
+use Rattle.cpg_check_heard.specs.Tellings.{is_telling, is_telling_at}
+use Rattle.cpg_check_heard.proofs.ArrivalLaws.{late_row}
 use Rattle.cpg_check_heard.proofs.PartLaws.{told_add, known_add, row_more, row_all}
 use Rattle.cpg_check_heard.proofs.parts.add_row.Goals as goal
 
@@ -27,3 +29,11 @@ returns-clause-told c = λ s i m.
     (ap (list_any (is_telling_at g c.args.teller.now.telling c.args.time c.args.bound c.args.teller.now.line.now.columns.now s)) (take_all c.loop-place.place-index places c.loop-place-test.false)
     ∙ row_all g c.args.teller.now.telling c.args.time c.args.bound c.args.teller.now.line.now.columns.now places s
     (λ j l t. subst (λ xs. Contains xs j) (sym c.as_slice-place-items.ensures.value) (c.in_ok-places.ensures s j l t m)))
+
+pub returns-then-not-may_have_come-clause-told : goal.returns-then-not-may_have_come-clause-told
+returns-then-not-may_have_come-clause-told c = λ s i m.
+    let g = c.args.problem.now in
+    let t = c.args.teller.now in
+    let told = list_any (λ b. matches b s) c.args.told.now.items in
+    sym (ap (λ x. told || x) (late_row (is_telling g t.telling c.args.time c.args.bound s) t.line.now.columns.now t.line.now.first c.requires.line.first
+    (c.if-not-may_have_come.ensures g c.args.bound s)) ∙ or-false told)

@@ -1,7 +1,8 @@
-use Rattle.std.proofs.Common.{◌≡◌, ◌<◌, ◌==◌, ◌&&◌, ◌||◌, ◌∙◌, [], arith, sym, ap, eq-eqb}
+use Rattle.std.proofs.Common.{◌≡◌, ◌<◌, ◌==◌, ◌&&◌, ◌||◌, ◌∙◌, [], arith, sym, ap, subst, eq-eqb}
 use Rattle.std.specs.List.{list_any}
 use Rattle.cpg_base.specs.Graph.{item_count, node_of, process_count, process_of_variable}
 use Rattle.cpg_cube.specs.Cube.{matches}
+use Rattle.cpg_violation.specs.Lines.{IsLine}
 use Rattle.cpg_violation.proofs.Violations.{columns_known}
 use Rattle.cpg_check_heard.specs.Bounds.{variable_of}
 use Rattle.cpg_check_heard.specs.Untold.{item_tells}
@@ -32,8 +33,8 @@ add_row-requires-clause-columns c =
     let is = teller_at g tables (item_count g) c.args.self.now.tellers.items p t c.requires.hearing.tellers below c.index-teller.ensures in
     rw (c.problem-problem.ensures.problem, is.line.all) (columns_known c.requires.hearing.admitted tables c.requires.hearing.tables p)
 
-pub add_row-requires-clause-sieve : goal.add_row-requires-clause-sieve
-add_row-requires-clause-sieve c =
+pub add_row-requires-clause-line : goal.add_row-requires-clause-line
+add_row-requires-clause-line c =
     let g = c.args.self.now.admitted.now.graph in
     let tables = c.args.self.now.tables.now.nodes in
     let p = c.process_of_variable-process.result in
@@ -41,7 +42,7 @@ add_row-requires-clause-sieve c =
     let own : p < process_count g = rw c.problem-problem.ensures.problem at c.process_of_variable-process.ensures.within in
     let below : p < item_count g = omega arith in
     let is = teller_at g tables (item_count g) c.args.self.now.tellers.items p t c.requires.hearing.tellers below c.index-teller.ensures in
-    rw is.line.all is.line.sieve
+    subst (λ columns. IsLine columns t.line.now) (sym is.line.all) is.line
 
 pub returns-clause-told : goal.returns-clause-told
 returns-clause-told c =
