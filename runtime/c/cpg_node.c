@@ -79,6 +79,12 @@ void cpg_begin(cpg_node *node, const cpg_table *table)
     node->table = table;
     node->from = 0U;
     node->next = 0U;
+    //@ for table: assert apart: d_is_apart(node, node->table);
+    //@ for table: assert sizes: d_has_sizes(node->table);
+    //@ for table: assert bytes: d_has_bytes(node->table);
+    //@ for table: assert items: d_has_items(node->table);
+    //@ for table: assert own: d_has_own(node->table);
+    //@ for table: assert dues: d_has_dues(node->table);
     //@ for table: assert holds: d_holds(node);
     /*@ loop invariant 0 <= i <= CPG_VARIABLES && cpg_is_open(node);
         for table: loop invariant holds: d_holds(node);
@@ -91,7 +97,12 @@ void cpg_begin(cpg_node *node, const cpg_table *table)
         node->heard[i].high = high;
         node->sure[i].low = 0U;
         node->sure[i].high = high;
+        //@ for table: assert sizes: d_has_sizes(node->table);
+        //@ for table: assert bytes: d_has_bytes(node->table);
+        //@ for table: assert own: d_has_own(node->table);
+        //@ for table: assert this: d_whole_range(node, i);
     }
+    //@ for table: assert whole: \forall integer p; 0 <= p < CPG_VARIABLES ==> d_whole_range(node, p);
     //@ ghost Whole: ;
     /*@ loop invariant 0 <= row <= node->table->rows;
         for table: loop invariant holds: d_holds(node);
@@ -114,6 +125,11 @@ void cpg_begin(cpg_node *node, const cpg_table *table)
     for (uint16_t row = 0U; row < node->table->own; row++) {
         node->execution[row].state = CPG_IDLE;
     }
+    //@ for table: assert whole: \forall integer p; 0 <= p < CPG_VARIABLES ==> d_whole_range(node, p);
+    //@ for table: assert numbers: d_has_numbers(node);
+    //@ for table: assert timed: d_are_timed(node);
+    //@ for table: assert flags: d_are_flags(node);
+    //@ for table: assert before: d_nothing_before(node, node->from - 1);
 }
 
 /* ---- What has been heard ---- */
@@ -430,6 +446,12 @@ static void tell(const cpg_node *node, cpg_event *event, cpg_kind kind, uint64_t
     event->item = node->table->item[row];
     event->column = column;
     event->value = value;
+    //@ for table: assert apart: d_is_apart(node, node->table);
+    //@ for table: assert sizes: d_has_sizes(node->table);
+    //@ for table: assert bytes: d_has_bytes(node->table);
+    //@ for table: assert items: d_has_items(node->table);
+    //@ for table: assert own: d_has_own(node->table);
+    //@ for table: assert dues: d_has_dues(node->table);
 }
 
 /* The first execution that still runs at its end with k faults, and wasn't told before. */
@@ -1167,6 +1189,10 @@ cpg_status cpg_ended(cpg_node *node, uint64_t time, uint16_t process, uint16_t f
     //@ for table: assert timed: d_are_timed(node);
     //@ for table: assert numbers: d_has_numbers(node);
     //@ for table: assert flags: d_are_flags(node);
+    //@ for table: assert sizes: d_has_sizes(node->table);
+    //@ for table: assert bytes: d_has_bytes(node->table);
+    //@ for table: assert own: d_has_own(node->table);
+    //@ for table: assert dues: d_has_dues(node->table);
     //@ for table: assert holds: d_holds(node);
     //@ for table: assert kept: d_is_kept(node);
     //@ for table: assert before: d_nothing_before(node, node->from - 1);

@@ -71,7 +71,11 @@ def without_table(text: str) -> str:
 
 
 def configure(place: Path, seconds: int) -> None:
-    """Writes what Why3 needs to know of the provers. Their time is that of the processor."""
+    """Writes what Why3 needs to know of the provers, whose time is that of the processor. What is the same goal in two settings is asked once."""
+    cache = place / "cache"
+    cache.mkdir()
+    os.environ["FRAMAC_WP_CACHE"] = "update"
+    os.environ["FRAMAC_WP_CACHEDIR"] = str(cache)
     parts = [f"[main]\nmagic = 14\nmemlimit = 2000\nrunning_provers_max = 4\ntimelimit = {seconds}\n"]
     for name, (file, words, driver) in PROVERS.items():
         command = f"prlimit --cpu={seconds} {file} {words} %f"
