@@ -62,7 +62,7 @@ def functions_of(source: str) -> list[str]:
 def functions_by_table(source: str) -> list[str]:
     """The functions with a behavior `table`."""
     text = (FOLDER / source).read_text()
-    return [found[1] for found in DEFINITION.finditer(text) if "behavior table:" in text[text.rfind("\n}\n", 0, found.start()):found.start()]]
+    return [found[1] for found in DEFINITION.finditer(text) if "behavior table:" in text[:found.start()].rpartition("\n}\n")[2]]
 
 
 def without_table(text: str) -> str:
