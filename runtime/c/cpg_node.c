@@ -118,18 +118,29 @@ void cpg_begin(cpg_node *node, const cpg_table *table)
         for table: loop invariant holds: d_holds(node);
         for table: loop invariant same: d_same_ranges{Whole,Here}(node);
         for table: loop invariant same: d_same_flags{Came,Here}(node);
-        for table: loop invariant same: node->from == 0 && node->next == 0;
+        for table: loop invariant at: d_is_at(node, 0, 0);
         for table: loop invariant \forall integer r; 0 <= r < row ==> node->execution[r].state == CPG_IDLE;
         loop assigns row, node->execution[0 .. CPG_MAX_OWN - 1];
         loop variant node->table->own - row; */
     for (uint16_t row = 0U; row < node->table->own; row++) {
+        //@ for table: assert own: d_has_own(node->table);
         node->execution[row].state = CPG_IDLE;
+        //@ for table: assert sizes: d_has_sizes(node->table);
+        //@ for table: assert own: \forall integer r; 0 <= r < t_own ==> node->table->process[r].durations == t_durations(r);
+        //@ for table: assert own: \forall integer r; 0 <= r < t_own ==> node->table->process[r].condition == t_condition(r);
+        //@ for table: assert own: d_has_own(node->table);
+        //@ for table: assert dues: d_has_dues(node->table);
     }
+    //@ for table: assert idle: \forall integer r; 0 <= r < t_own ==> node->execution[r].state == CPG_IDLE;
     //@ for table: assert whole: \forall integer p; 0 <= p < CPG_VARIABLES ==> d_whole_range(node, p);
     //@ for table: assert numbers: d_has_numbers(node);
     //@ for table: assert timed: d_are_timed(node);
     //@ for table: assert flags: d_are_flags(node);
+    //@ for table: assert kept: d_is_kept(node);
     //@ for table: assert before: d_nothing_before(node, node->from - 1);
+    //@ for table: assert over: d_columns_over(node);
+    //@ for table: assert ahead: d_reports_ahead(node);
+    //@ for table: assert starts: d_starts_over(node);
 }
 
 /* ---- What has been heard ---- */
