@@ -31,11 +31,12 @@ from typing import Any, Iterator
 from cpgc_tools import cli, program
 
 Setting = tuple[str, str]  # a machine model and a name of MACROS
+Run = tuple[str, Path, list[str], list[str]]  # of WP: its name, a source, functions of it, and more words
 
 FOLDER = Path(__file__).resolve().parents[2] / "runtime" / "c"
 SOURCES = ["cpg_node.c", "cpg_open.c"]
 MACHINES = ["x86_64", "x86_32"]
-MACROS = {
+MACROS: dict[str, list[str]] = {
     "default": [],
     # those of `c-table pair.pack N2 --sizes`
     "small": ["CPG_MAX_PROCESSES=2U", "CPG_MAX_CONDITIONS=1U", "CPG_MAX_OWN=1U", "CPG_MAX_ROWS=2U", "CPG_MAX_COLUMNS=4U"]}
@@ -88,7 +89,7 @@ def configure(place: Path, seconds: int) -> None:
 def command(source: Path, functions: list[str], words: list[str], setting: Setting, asked: argparse.Namespace) -> list[str]:
     machine, macros = setting
     flags = " ".join(["-std=c99", f"-I{FOLDER}", *(f"-D{macro}" for macro in MACROS[macros])])
-    provers = ",".join(f"{name}:1" for name in asked.by or PROVERS)
+    provers = ",".join(f"{name}:1" for name in asked.by or list(PROVERS))
     smoke = ["-wp-smoke-tests"] if asked.smoke else []
     return ["frama-c", "-machdep", machine, f"-cpp-extra-args={flags}", "-kernel-warn-key", "annot-error=abort", str(source), "-wp", "-wp-rte",
             *words, "-wp-prover", provers, "-wp-timeout", str(LONGEST), "-wp-par", str(asked.provers), *smoke, "-wp-fct", ",".join(functions)]
@@ -150,15 +151,17 @@ def words() -> argparse.Namespace:
     return parser.parse_args()
 
 
-def steps(place: Path, asked: argparse.Namespace) -> Iterator[tuple[str, Path, list[str], list[str]]]:
-    """The runs of WP for a setting: each with its name, the source, the functions and more words."""
-    for source in [] if asked.table else SOURCES:
+def on_memory(place: Path, asked: argparse.Namespace) -> Iterator[Run]:
+    for source in SOURCES:
         functions = [function for function in functions_of(source) if not asked.functions or function in asked.functions]
         if functions:
             file = place / source
             file.write_text(without_table((FOLDER / source).read_text()))
             yield f"{source}, memory", file, functions, []
-    for source in [] if asked.memory else SOURCES:
+
+
+def by_table(asked: argparse.Namespace) -> Iterator[Run]:
+    for source in SOURCES:
         for function in functions_by_table(source):
             if not asked.functions or function in asked.functions:
                 yield f"{function}, table", FOLDER / source, [function], ["-wp-bhv", "table", "-wp-split"]
@@ -167,7 +170,9 @@ def steps(place: Path, asked: argparse.Namespace) -> Iterator[tuple[str, Path, l
 def prove_all(place: Path, setting: Setting, asked: argparse.Namespace) -> tuple[int, int]:
     totals = (0, 0)
     began = time.monotonic()
-    for name, source, functions, more in steps(place, asked):
+    runs = [*on_memory(place, asked)] if not asked.table else []
+    runs += by_table(asked) if not asked.memory else []
+    for name, source, functions, more in runs:
         proved, all_, left = prove(source, functions, more, setting, asked)
         totals = totals[0] + proved, totals[1] + all_
         print(f"{name}: {proved} of {all_}", *(f"  left: {goal}" for goal in left), sep="\n", flush=True)
