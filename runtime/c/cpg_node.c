@@ -699,8 +699,12 @@ static bool take_act(cpg_node *node, uint32_t i, uint64_t now, cpg_event *event)
     }
     if (is_start(node, row)) {
         start(node, row, now);
+        //@ for table: assert ranges: d_same_ranges{Pre,Here}(node);
+        //@ for table: assert others: \forall integer r; 0 <= r < CPG_MAX_OWN && r != row ==> d_same_execution{Pre,Here}(node, r);
         //@ ghost Started: ;
         tell(node, event, CPG_START, now, row, node->table->due[i].column, 0U);
+        //@ for table: assert ranges: d_same_ranges{Started,Here}(node);
+        //@ for table: assert ranges: d_same_ranges{Pre,Here}(node);
         //@ for table: assert timed: d_are_timed(node);
         //@ for table: assert same: d_same_executions{Started,Here}(node);
         //@ for table: assert started: d_is_started(node, row, now);
@@ -1079,10 +1083,19 @@ static void hear_due(cpg_node *node, uint32_t i, uint32_t place, uint8_t value)
     //@ for table: assert cuts: d_cut_all{Pre,Here}(node, t_at(i));
     //@ for table: assert has: place < CPG_VARIABLES ==> node->heard[place].low <= value <= node->heard[place].high;
     //@ for table: assert small: place < CPG_VARIABLES ==> value <= 1;
+    //@ for table: assert same: d_same_executions{Pre,Here}(node);
+    //@ for table: assert numbers: d_has_numbers(node);
     //@ ghost Cut: ;
     learn(node, place, told);
     //@ for table: assert rest: \forall integer p; 0 <= p < CPG_VARIABLES && p != place ==> d_same_range{Cut,Here}(node, p);
+    //@ for table: assert same: d_same_executions{Cut,Here}(node);
+    //@ for table: assert same: d_same_executions{Pre,Here}(node);
     //@ for table: assert told: place < CPG_VARIABLES ==> d_know(node, place, value);
+    //@ for table: assert cut: \forall integer p; 0 <= p < CPG_VARIABLES ==> \at(node->heard[p].low,Cut) <= \at(node->heard[p].high,Cut);
+    //@ for table: assert numbers: \forall integer p; 0 <= p < CPG_VARIABLES && p != place ==> node->heard[p].low <= node->heard[p].high;
+    //@ for table: assert numbers: \forall integer p; CPG_MAX_PROCESSES <= p < CPG_VARIABLES && p != place ==> node->heard[p].high <= 1;
+    //@ for table: assert numbers: \forall integer p; 0 <= p < CPG_VARIABLES ==> node->heard[p].low <= node->heard[p].high;
+    //@ for table: assert numbers: \forall integer p; CPG_MAX_PROCESSES <= p < CPG_VARIABLES ==> node->heard[p].high <= 1;
     //@ for table: assert numbers: d_has_numbers(node);
     //@ for table: assert hears: d_hear_frame{Pre,Here}(node, t_at(i), place, value);
     //@ for table: assert timed: d_are_timed(node);
