@@ -79,6 +79,12 @@ void cpg_begin(cpg_node *node, const cpg_table *table)
     node->table = table;
     node->from = 0U;
     node->next = 0U;
+    //@ for table: assert apart: d_is_apart(node, node->table);
+    //@ for table: assert sizes: d_has_sizes(node->table);
+    //@ for table: assert bytes: d_has_bytes(node->table);
+    //@ for table: assert items: d_has_items(node->table);
+    //@ for table: assert own: d_has_own(node->table);
+    //@ for table: assert dues: d_has_dues(node->table);
     //@ for table: assert holds: d_holds(node);
     /*@ loop invariant 0 <= i <= CPG_VARIABLES && cpg_is_open(node);
         for table: loop invariant holds: d_holds(node);
@@ -91,7 +97,12 @@ void cpg_begin(cpg_node *node, const cpg_table *table)
         node->heard[i].high = high;
         node->sure[i].low = 0U;
         node->sure[i].high = high;
+        //@ for table: assert sizes: d_has_sizes(node->table);
+        //@ for table: assert bytes: d_has_bytes(node->table);
+        //@ for table: assert own: d_has_own(node->table);
+        //@ for table: assert this: d_whole_range(node, i);
     }
+    //@ for table: assert whole: \forall integer p; 0 <= p < CPG_VARIABLES ==> d_whole_range(node, p);
     //@ ghost Whole: ;
     /*@ loop invariant 0 <= row <= node->table->rows;
         for table: loop invariant holds: d_holds(node);
@@ -107,13 +118,29 @@ void cpg_begin(cpg_node *node, const cpg_table *table)
         for table: loop invariant holds: d_holds(node);
         for table: loop invariant same: d_same_ranges{Whole,Here}(node);
         for table: loop invariant same: d_same_flags{Came,Here}(node);
-        for table: loop invariant same: node->from == 0 && node->next == 0;
+        for table: loop invariant at: d_is_at(node, 0, 0);
         for table: loop invariant \forall integer r; 0 <= r < row ==> node->execution[r].state == CPG_IDLE;
         loop assigns row, node->execution[0 .. CPG_MAX_OWN - 1];
         loop variant node->table->own - row; */
     for (uint16_t row = 0U; row < node->table->own; row++) {
+        //@ for table: assert own: d_has_own(node->table);
         node->execution[row].state = CPG_IDLE;
+        //@ for table: assert sizes: d_has_sizes(node->table);
+        //@ for table: assert own: \forall integer r; 0 <= r < t_own ==> node->table->process[r].durations == t_durations(r);
+        //@ for table: assert own: \forall integer r; 0 <= r < t_own ==> node->table->process[r].condition == t_condition(r);
+        //@ for table: assert own: d_has_own(node->table);
+        //@ for table: assert dues: d_has_dues(node->table);
     }
+    //@ for table: assert idle: \forall integer r; 0 <= r < t_own ==> node->execution[r].state == CPG_IDLE;
+    //@ for table: assert whole: \forall integer p; 0 <= p < CPG_VARIABLES ==> d_whole_range(node, p);
+    //@ for table: assert numbers: d_has_numbers(node);
+    //@ for table: assert timed: d_are_timed(node);
+    //@ for table: assert flags: d_are_flags(node);
+    //@ for table: assert kept: d_is_kept(node);
+    //@ for table: assert before: d_nothing_before(node, node->from - 1);
+    //@ for table: assert over: d_columns_over(node);
+    //@ for table: assert ahead: d_reports_ahead(node);
+    //@ for table: assert starts: d_starts_over(node);
 }
 
 /* ---- What has been heard ---- */
@@ -430,6 +457,12 @@ static void tell(const cpg_node *node, cpg_event *event, cpg_kind kind, uint64_t
     event->item = node->table->item[row];
     event->column = column;
     event->value = value;
+    //@ for table: assert apart: d_is_apart(node, node->table);
+    //@ for table: assert sizes: d_has_sizes(node->table);
+    //@ for table: assert bytes: d_has_bytes(node->table);
+    //@ for table: assert items: d_has_items(node->table);
+    //@ for table: assert own: d_has_own(node->table);
+    //@ for table: assert dues: d_has_dues(node->table);
 }
 
 /* The first execution that still runs at its end with k faults, and wasn't told before. */
@@ -666,8 +699,12 @@ static bool take_act(cpg_node *node, uint32_t i, uint64_t now, cpg_event *event)
     }
     if (is_start(node, row)) {
         start(node, row, now);
+        //@ for table: assert ranges: d_same_ranges{Pre,Here}(node);
+        //@ for table: assert others: \forall integer r; 0 <= r < CPG_MAX_OWN && r != row ==> d_same_execution{Pre,Here}(node, r);
         //@ ghost Started: ;
         tell(node, event, CPG_START, now, row, node->table->due[i].column, 0U);
+        //@ for table: assert ranges: d_same_ranges{Started,Here}(node);
+        //@ for table: assert ranges: d_same_ranges{Pre,Here}(node);
         //@ for table: assert timed: d_are_timed(node);
         //@ for table: assert same: d_same_executions{Started,Here}(node);
         //@ for table: assert started: d_is_started(node, row, now);
@@ -1046,10 +1083,19 @@ static void hear_due(cpg_node *node, uint32_t i, uint32_t place, uint8_t value)
     //@ for table: assert cuts: d_cut_all{Pre,Here}(node, t_at(i));
     //@ for table: assert has: place < CPG_VARIABLES ==> node->heard[place].low <= value <= node->heard[place].high;
     //@ for table: assert small: place < CPG_VARIABLES ==> value <= 1;
+    //@ for table: assert same: d_same_executions{Pre,Here}(node);
+    //@ for table: assert numbers: d_has_numbers(node);
     //@ ghost Cut: ;
     learn(node, place, told);
     //@ for table: assert rest: \forall integer p; 0 <= p < CPG_VARIABLES && p != place ==> d_same_range{Cut,Here}(node, p);
+    //@ for table: assert same: d_same_executions{Cut,Here}(node);
+    //@ for table: assert same: d_same_executions{Pre,Here}(node);
     //@ for table: assert told: place < CPG_VARIABLES ==> d_know(node, place, value);
+    //@ for table: assert cut: \forall integer p; 0 <= p < CPG_VARIABLES ==> \at(node->heard[p].low,Cut) <= \at(node->heard[p].high,Cut);
+    //@ for table: assert numbers: \forall integer p; 0 <= p < CPG_VARIABLES && p != place ==> node->heard[p].low <= node->heard[p].high;
+    //@ for table: assert numbers: \forall integer p; CPG_MAX_PROCESSES <= p < CPG_VARIABLES && p != place ==> node->heard[p].high <= 1;
+    //@ for table: assert numbers: \forall integer p; 0 <= p < CPG_VARIABLES ==> node->heard[p].low <= node->heard[p].high;
+    //@ for table: assert numbers: \forall integer p; CPG_MAX_PROCESSES <= p < CPG_VARIABLES ==> node->heard[p].high <= 1;
     //@ for table: assert numbers: d_has_numbers(node);
     //@ for table: assert hears: d_hear_frame{Pre,Here}(node, t_at(i), place, value);
     //@ for table: assert timed: d_are_timed(node);
@@ -1167,6 +1213,10 @@ cpg_status cpg_ended(cpg_node *node, uint64_t time, uint16_t process, uint16_t f
     //@ for table: assert timed: d_are_timed(node);
     //@ for table: assert numbers: d_has_numbers(node);
     //@ for table: assert flags: d_are_flags(node);
+    //@ for table: assert sizes: d_has_sizes(node->table);
+    //@ for table: assert bytes: d_has_bytes(node->table);
+    //@ for table: assert own: d_has_own(node->table);
+    //@ for table: assert dues: d_has_dues(node->table);
     //@ for table: assert holds: d_holds(node);
     //@ for table: assert kept: d_is_kept(node);
     //@ for table: assert before: d_nothing_before(node, node->from - 1);

@@ -634,7 +634,8 @@ static void sort_dues(cpg_opened *opened)
 /* ---- Opening ---- */
 
 /* A table without rows. */
-/*@ requires \valid(opened) && cpg_points(opened);
+/*@ requires \valid(opened) && opened->table.item == &opened->item[0] && opened->table.process == &opened->process[0]
+        && opened->table.due == &opened->due[0];
     terminates \true;
     assigns opened->table.k, opened->table.processes, opened->table.conditions, opened->table.broadcast, opened->table.own,
         opened->table.acting, opened->table.rows, opened->table.dues, opened->nodes, opened->self, opened->edges,

@@ -171,8 +171,9 @@
     // D. opening, whole_range
     predicate d_whole_range{L}(cpg_node *n, integer p) =
         n->heard[p].low == 0 && n->heard[p].high == (p < CPG_MAX_PROCESSES ? t_k : 1);
+    predicate d_is_at{L}(cpg_node *n, integer from, integer next) = n->from == from && n->next == next;
     predicate d_opening{L}(cpg_node *n) =
-        n->from == 0 && n->next == 0 && (\forall integer p; 0 <= p < CPG_VARIABLES ==> d_whole_range(n, p))
+        d_is_at(n, 0, 0) && (\forall integer p; 0 <= p < CPG_VARIABLES ==> d_whole_range(n, p))
         && (\forall integer row; 0 <= row < t_own ==> n->execution[row].state == CPG_IDLE);
 
     // ---- What a call leaves as it was, between two states ----

@@ -1,14 +1,20 @@
 """Shows by Frama-C what the contracts of the node in C (runtime/c) say: that it is defined on any bytes, and what its turn part does.
 
-    tools/prove-runtime [FUNCTION ...] [--machine M ...] [--macros default|small ...] [--by PROVER ...] [--smoke] [--seconds S] [--provers N]
+    tools/prove-runtime [FUNCTION ...] [--memory | --table] [--machine M ...] [--macros default|small ...] [--by PROVER ...] [--smoke]
+        [--seconds S] [--provers N]
     tools/prove-runtime --wrong [FUNCTION ...] [--seconds S] [--provers N]
 
-WP runs with the checks of RTE on one function of cpg_node.c and cpg_open.c after another: for the sizes of x86_64 and x86_32, each with the
-default macros and with those of one small table, unless some are named. A line for each function says how many of its goals were proved, and
-a line after it names each goal that wasn't. The last line has the sum. The status is 0 if all were proved. With --smoke it also looks whether
-a contract can't be met, so that all of it would be proved in vain. With --wrong
-it tries the wrong bodies of runtime/c/test/wrong.py instead, and says of each which goals of its function are left: it is refused if there is
-one. If frama-c, why3 or a prover is missing, a line says so, and nothing is done.
+There are two parts, each for the sizes of x86_64 and x86_32, and for both with the default macros and with those of one small table, unless
+some are named. With --memory it does the first one alone, which is the quick way; with --table the second.
+
+- Memory: WP with the checks of RTE on cpg_node.c and cpg_open.c, without all that is said by a lawful table. A line for each file says how
+  many goals were proved.
+- Table: WP on the behavior `table` of one function of cpg_node.c after another, with a line for each.
+
+A line after it names each goal that wasn't proved. The last line has the sum. The status is 0 if all were proved. With --smoke it also looks
+whether a contract can't be met, so that all of it would be proved in vain. With --wrong it tries the wrong bodies of runtime/c/test/wrong.py
+instead, and says of each which goals of its function are left: it is refused if there is one. If frama-c, why3 or a prover is missing, a line
+says so, and nothing is done.
 
 Debian's packages: frama-c-base why3 cvc4 cvc5 z3.
 """
@@ -20,14 +26,17 @@ import subprocess
 import tempfile
 import time
 from pathlib import Path
-from typing import Any
+from typing import Any, Iterator
 
 from cpgc_tools import cli, program
+
+Setting = tuple[str, str]  # a machine model and a name of MACROS
+Run = tuple[str, Path, list[str], list[str]]  # of WP: its name, a source, functions of it, and more words
 
 FOLDER = Path(__file__).resolve().parents[2] / "runtime" / "c"
 SOURCES = ["cpg_node.c", "cpg_open.c"]
 MACHINES = ["x86_64", "x86_32"]
-MACROS = {
+MACROS: dict[str, list[str]] = {
     "default": [],
     # those of `c-table pair.pack N2 --sizes`
     "small": ["CPG_MAX_PROCESSES=2U", "CPG_MAX_CONDITIONS=1U", "CPG_MAX_OWN=1U", "CPG_MAX_ROWS=2U", "CPG_MAX_COLUMNS=4U"]}
@@ -41,6 +50,9 @@ LONGEST = 3600  # seconds of the clock for a goal, on a machine that does much e
 DEFINITION = re.compile(r"^(?:static )?\w+ (\w+)\([^;{]*\)\n\{", re.MULTILINE)
 COUNTS = re.compile(r"Proved goals:\s*(\d+) / (\d+)")
 LEFT = re.compile(r"^\[wp\] \[[^]]*\] Goal (\w+)(?! : Valid)\b", re.MULTILINE)
+# What is said by a lawful table: a behavior, at the end of its comment or alone in it, clauses of loops, and assertions.
+BY_TABLE = re.compile(r"/\*@ behavior table:.*?\*/|\n\s*behavior table:.*?(?= \*/)|for table: .*?;(?=\n| \*/)", re.DOTALL)
+EMPTY = re.compile(r"/\*@\s*\*/|//@\s*(?=\n)")
 BODY = r"^(?:static )?\w+ {}\([^;{{]*\)\n\{{.*?^\}}\n"
 
 
@@ -48,8 +60,23 @@ def functions_of(source: str) -> list[str]:
     return DEFINITION.findall((FOLDER / source).read_text())
 
 
+def functions_by_table(source: str) -> list[str]:
+    """The functions with a behavior `table`."""
+    text = (FOLDER / source).read_text()
+    return [found[1] for found in DEFINITION.finditer(text) if "behavior table:" in text[:found.start()].rpartition("\n}\n")[2]]
+
+
+def without_table(text: str) -> str:
+    """A source without what it says by a lawful table."""
+    return EMPTY.sub("", BY_TABLE.sub("", text))
+
+
 def configure(place: Path, seconds: int) -> None:
-    """Writes what Why3 needs to know of the provers. Their time is that of the processor."""
+    """Writes what Why3 needs to know of the provers, whose time is that of the processor. What is the same goal in two settings is asked once."""
+    cache = place / "cache"
+    cache.mkdir()
+    os.environ["FRAMAC_WP_CACHE"] = "update"
+    os.environ["FRAMAC_WP_CACHEDIR"] = str(cache)
     parts = [f"[main]\nmagic = 14\nmemlimit = 2000\nrunning_provers_max = 4\ntimelimit = {seconds}\n"]
     for name, (file, words, driver) in PROVERS.items():
         command = f"prlimit --cpu={seconds} {file} {words} %f"
@@ -59,20 +86,21 @@ def configure(place: Path, seconds: int) -> None:
     os.environ["WHY3CONFIG"] = str(conf)
 
 
-def command(source: Path, function: str, machine: str, macros: str, asked: argparse.Namespace) -> list[str]:
+def command(source: Path, functions: list[str], words: list[str], setting: Setting, asked: argparse.Namespace) -> list[str]:
+    machine, macros = setting
     flags = " ".join(["-std=c99", f"-I{FOLDER}", *(f"-D{macro}" for macro in MACROS[macros])])
-    provers = ",".join(f"{name}:1" for name in asked.by or PROVERS)
+    provers = ",".join(f"{name}:1" for name in asked.by or list(PROVERS))
     smoke = ["-wp-smoke-tests"] if asked.smoke else []
     return ["frama-c", "-machdep", machine, f"-cpp-extra-args={flags}", "-kernel-warn-key", "annot-error=abort", str(source), "-wp", "-wp-rte",
-            "-wp-split", "-wp-prover", provers, "-wp-timeout", str(LONGEST), "-wp-par", str(asked.provers), *smoke, "-wp-fct", function]
+            *words, "-wp-prover", provers, "-wp-timeout", str(LONGEST), "-wp-par", str(asked.provers), *smoke, "-wp-fct", ",".join(functions)]
 
 
-def prove(source: Path, function: str, machine: str, macros: str, asked: argparse.Namespace) -> tuple[int, int, list[str]]:
-    """The goals of a function that are proved, all of them, and the names of those that aren't."""
-    done = subprocess.run(command(source, function, machine, macros, asked), capture_output=True, text=True)
+def prove(source: Path, functions: list[str], words: list[str], setting: Setting, asked: argparse.Namespace) -> tuple[int, int, list[str]]:
+    """The goals of some functions that are proved, all of them, and the names of those that aren't."""
+    done = subprocess.run(command(source, functions, words, setting, asked), capture_output=True, text=True)
     counts = COUNTS.search(done.stdout)
     if done.returncode != 0 or counts is None:
-        cli.fail(f"frama-c failed on {function}\n{(done.stdout + done.stderr)[-2000:]}")
+        cli.fail(f"frama-c failed on {', '.join(functions)}\n{(done.stdout + done.stderr)[-2000:]}")
     return int(counts[1]), int(counts[2]), LEFT.findall(done.stdout)
 
 
@@ -99,7 +127,8 @@ def try_wrong(place: Path, asked: argparse.Namespace) -> int:
         if not asked.functions or wrong.function in asked.functions:
             file = place / "cpg_node.c"
             file.write_text(spoilt(source, wrong))
-            _, _, left = prove(file, wrong.function, asked.machine[0] if asked.machine else MACHINES[0], "default", asked)
+            setting = asked.machine[0] if asked.machine else MACHINES[0], "default"
+            _, _, left = prove(file, [wrong.function], ["-wp-split"], setting, asked)
             passed += not left
             print(f"{wrong.name}: {'refused by ' + wrong.function if left else 'not refused'}", *(f"  left: {goal}" for goal in left), sep="\n", flush=True)
     print(f"{passed} wrong bodies weren't refused")
@@ -109,6 +138,8 @@ def try_wrong(place: Path, asked: argparse.Namespace) -> int:
 def words() -> argparse.Namespace:
     parser = cli.Words(__doc__)
     parser.add_argument("functions", nargs="*", metavar="FUNCTION", help="a function of cpg_node.c or cpg_open.c (all by default)")
+    parser.add_argument("--memory", action="store_true", help="the contracts on memory alone")
+    parser.add_argument("--table", action="store_true", help="what is said by a lawful table alone")
     parser.add_argument("--machine", action="append", metavar="M", help="a machine model of frama-c (x86_64 and x86_32, which has the "
                         "sizes of a Cortex-M)")
     parser.add_argument("--macros", action="append", choices=list(MACROS), help="the macros CPG_MAX_.. (both by default)")
@@ -120,15 +151,32 @@ def words() -> argparse.Namespace:
     return parser.parse_args()
 
 
-def prove_all(asked: argparse.Namespace, machine: str, macros: str) -> tuple[int, int]:
+def on_memory(place: Path, asked: argparse.Namespace) -> Iterator[Run]:
+    for source in SOURCES:
+        functions = [function for function in functions_of(source) if not asked.functions or function in asked.functions]
+        if functions:
+            file = place / source
+            file.write_text(without_table((FOLDER / source).read_text()))
+            yield f"{source}, memory", file, functions, []
+
+
+def by_table(asked: argparse.Namespace) -> Iterator[Run]:
+    for source in SOURCES:
+        for function in functions_by_table(source):
+            if not asked.functions or function in asked.functions:
+                yield f"{function}, table", FOLDER / source, [function], ["-wp-bhv", "table", "-wp-split"]
+
+
+def prove_all(place: Path, setting: Setting, asked: argparse.Namespace) -> tuple[int, int]:
     totals = (0, 0)
     began = time.monotonic()
-    for source in SOURCES:
-        for function in functions_of(source):
-            if not asked.functions or function in asked.functions:
-                proved, all_, left = prove(FOLDER / source, function, machine, macros, asked)
-                totals = totals[0] + proved, totals[1] + all_
-                print(f"{function}: {proved} of {all_}", *(f"  left: {goal}" for goal in left), sep="\n", flush=True)
+    runs = [*on_memory(place, asked)] if not asked.table else []
+    runs += by_table(asked) if not asked.memory else []
+    for name, source, functions, more in runs:
+        proved, all_, left = prove(source, functions, more, setting, asked)
+        totals = totals[0] + proved, totals[1] + all_
+        print(f"{name}: {proved} of {all_}", *(f"  left: {goal}" for goal in left), sep="\n", flush=True)
+    machine, macros = setting
     print(f"{machine}, {macros} macros: {totals[0]} of {totals[1]} goals proved, in {time.monotonic() - began:.0f} s", flush=True)
     return totals
 
@@ -150,7 +198,7 @@ def main() -> int:
             return 1 if try_wrong(Path(place), asked) else 0
         for machine in asked.machine or MACHINES:
             for macros in asked.macros or MACROS:
-                proved, all_ = prove_all(asked, machine, macros)
+                proved, all_ = prove_all(Path(place), (machine, macros), asked)
                 totals = [totals[0] + proved, totals[1] + all_]
     print(f"{totals[0]} of {totals[1]} goals proved")
     return 0 if totals[0] == totals[1] else 1
