@@ -1130,6 +1130,7 @@ cpg_status cpg_hear(cpg_node *node, uint64_t time, uint16_t item, uint16_t colum
     i = find_heard(node, time, item, column);
     //@ for table: assert column: i < t_dues ==> t_is_column(node->table->due[i].at) && node->table->due[i].at == t_at(i);
     //@ for table: assert place: CPG_MAX_PROCESSES <= place <= CPG_VARIABLES && place == d_told_place(item);
+    //@ for table: assert only: \forall integer l; i < t_dues && d_arrives(node, l, time, item, column) ==> l == i;
     if ((i >= node->table->dues) || contradicts(node, node->table->due[i].at, place, value)) {
         return CPG_FRAME;
     }
