@@ -1128,10 +1128,21 @@ cpg_status cpg_hear(cpg_node *node, uint64_t time, uint16_t item, uint16_t colum
     }
     //@ for table: assert nothing: d_nothing_before(node, time);
     i = find_heard(node, time, item, column);
+    //@ for table: assert column: i < t_dues ==> t_is_column(node->table->due[i].at) && node->table->due[i].at == t_at(i);
+    //@ for table: assert place: CPG_MAX_PROCESSES <= place <= CPG_VARIABLES && place == d_told_place(item);
+    //@ for table: assert only: \forall integer l; i < t_dues && d_arrives(node, l, time, item, column) ==> l == i;
     if ((i >= node->table->dues) || contradicts(node, node->table->due[i].at, place, value)) {
         return CPG_FRAME;
     }
+    //@ for table: assert free: !d_is_contradicted(node, t_at(i), place, value);
     hear_due(node, i, place, value);
+    //@ for table: assert holds: d_holds(node);
+    //@ for table: assert same: d_same_executions{Pre,Here}(node);
+    //@ for table: assert hears: d_hear_frame{Pre,Here}(node, t_at(i), place, value);
+    //@ for table: assert before: d_nothing_before(node, node->from - 1);
+    //@ for table: assert over: d_columns_over(node);
+    //@ for table: assert ahead: d_reports_ahead(node);
+    //@ for table: assert starts: d_starts_over(node);
     return CPG_OK;
 }
 
