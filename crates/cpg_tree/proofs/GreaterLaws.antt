@@ -1,14 +1,14 @@
 -- What is added of two trees for the scenarios of two spaces.
-use Rattle.std.proofs.Common.{ℕ, ◌<◌, ◌≤◌, ◌≡◌, max, List, [], ◌∷◌, ◌++◌, length, Bool, arith, sym, ap, ◌∙◌, subst}
+use Rattle.std.proofs.Common.{ℕ, ◌<◌, ◌≤◌, ◌≡◌, max, List, length, arith, sym, ap, ◌∙◌, subst}
 use Rattle.cpg_base.specs.Scenario.{Scenario, number_of}
 use Rattle.cpg_tree.specs.Added.{Adds, ForksEnd, IsFilled, IsJoined, IsMapped, IsPart}
 use Rattle.cpg_tree.specs.AddedInBoth.{BoundedPartIs, IsJoinedIn}
 use Rattle.cpg_tree.specs.Asked.{AreOpen, IsInner, LiesInBoth, Rooms}
 use Rattle.cpg_tree.specs.Bounds.{IsBounded, bounds_in}
-use Rattle.cpg_tree.specs.Decision.{value_at, low_at, high_at, DoForksPass, IsFit}
+use Rattle.cpg_tree.specs.Decision.{value_at, low_at, high_at, IsFit}
 use Rattle.cpg_tree.specs.Flat.{flat}
 use Rattle.cpg_tree.specs.Greater.{IsAtLeast}
-use Rattle.cpg_tree.specs.Results.{IsFillOf, IsJoinIn}
+use Rattle.cpg_tree.specs.Results.{IsJoinIn}
 use Rattle.cpg_tree.specs.Space.{Space, Lies, above_cut, below_cut}
 use Rattle.cpg_tree.specs.TreeNode.{TreeNode, Leaf, Fork}
 use Rattle.cpg_tree.specs.declared.bounds.Span.{Span}

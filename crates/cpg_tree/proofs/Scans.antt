@@ -5,7 +5,7 @@ use Rattle.std.proofs.lemmas.Bool.{leb-true}
 use Rattle.std.proofs.lemmas.Bool.Decides.{nat_tests}
 use Rattle.std.proofs.lemmas.List.{append-nil}
 use Rattle.cpg_tree.specs.declared.item.TreeItem.{TreeItem}
-use Rattle.cpg_tree.specs.declared.item.TreeItem.TheVariants.{Value, Cut}
+use Rattle.cpg_tree.specs.declared.item.TreeItem.TheVariants.{Cut}
 use Rattle.cpg_tree.specs.TreeNode.{TreeNode, Leaf, Fork}
 use Rattle.cpg_tree.specs.Flat.{flat}
 use Rattle.cpg_tree.specs.Greater.{IsAtLeast, are_from, least_in, most_from, most_in}

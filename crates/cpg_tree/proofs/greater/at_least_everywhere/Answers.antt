@@ -1,4 +1,4 @@
-use Rattle.std.proofs.Common.{ℕ, max, rules, ◌∙◌, ◌++◌, List, ap}
+use Rattle.std.proofs.Common.{rules, ◌∙◌, ◌++◌, List, ap}
 use Rattle.cpg_tree.specs.declared.item.TreeItem.{TreeItem}
 use Rattle.cpg_tree.specs.Flat.{flat}
 use Rattle.cpg_tree.proofs.Forks.{of_answer}

@@ -1,4 +1,4 @@
-use Rattle.std.proofs.Common.{ℕ, max, ◌∙◌, ◌++◌, List, drop, take, ap}
+use Rattle.std.proofs.Common.{ℕ, ◌∙◌, ◌++◌, List, drop, take, ap}
 use Rattle.cpg_tree.specs.declared.item.TreeItem.{TreeItem}
 use Rattle.cpg_tree.specs.Flat.{flat}
 use Rattle.cpg_tree.proofs.BoundLaws.{first_bounds, second_bounds}

@@ -1,5 +1,5 @@
-use Rattle.std.proofs.Common.{ℕ, max, ◌∙◌, sym}
-use Rattle.cpg_tree.specs.TreeNode.{TreeNode, Leaf}
+use Rattle.std.proofs.Common.{ℕ, ◌∙◌, sym}
+use Rattle.cpg_tree.specs.TreeNode.{Leaf}
 use Rattle.cpg_tree.proofs.Flats.{flat-same}
 use Rattle.cpg_tree.proofs.Forks.{from_true, of_answer}
 use Rattle.cpg_tree.proofs.GreaterLaws.{first_added, first_whole, second_added, second_whole}

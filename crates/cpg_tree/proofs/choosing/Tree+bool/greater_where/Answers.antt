@@ -1,4 +1,4 @@
-use Rattle.std.proofs.Common.{ℕ, max, ◌≡◌, ◌∙◌, drop, take, ap, sym, subst}
+use Rattle.std.proofs.Common.{max, ◌∙◌, drop, take, ap, sym, subst}
 use Rattle.cpg_tree.specs.Tree.{TreeState, IsJoinWhere, DoPathsPass}
 use Rattle.cpg_tree.proofs.BoundLaws.{first_bounds, second_bounds}
 use Rattle.cpg_tree.proofs.Flats.{all_added}
