@@ -21,10 +21,7 @@ pub(crate) fn few<T: Copy>(tree: &Tree<T>, wide: Option<u32>) -> Result<(), Buil
     let Some(item) = wide else {
         return Ok(());
     };
-    let Some(leaves) = tree.leaves() else {
-        return Err(BuildFault::TooWide(item));
-    };
-    if leaves > MOST_LEAVES {
+    if tree.leaves() > MOST_LEAVES {
         return Err(BuildFault::TooWide(item));
     }
     Ok(())

@@ -30,7 +30,7 @@ fn ends_of_last(alloc: Global) -> Result<u64, OutOfMemory> {
     for process in 0..40 {
         ready = ended(alloc, process, &ready)?;
     }
-    Ok(ready.leaves().unwrap_or(0))
+    Ok(ready.leaves())
 }
 
 #[test]
@@ -54,7 +54,7 @@ fn picked(alloc: Global, on: &Tree<u64>, off: &Tree<u64>) -> Result<u64, OutOfMe
 {
     let chooser = value(alloc, 0, 2)?;
     let picked = Tree::pick(&chooser, on, off)?;
-    Ok(picked.leaves().unwrap_or(0))
+    Ok(picked.leaves())
 }
 
 /// How many leaves the greater of two trees has, each time known.
@@ -64,7 +64,7 @@ fn greater(on: &Tree<u64>, off: &Tree<u64>) -> Result<u64, OutOfMemory>
 {
     let greater = on.max(off)?;
     let known = greater.map(&|time: u64| Some(time))?;
-    Ok(known.leaves().unwrap_or(0))
+    Ok(known.leaves())
 }
 
 /// Both of two constants.
@@ -86,7 +86,7 @@ fn picks(rt: HostRuntime) -> Result<(), Fail> {
 fn leaves_of_half(alloc: Global) -> Result<u64, OutOfMemory> {
     let faults = fault(alloc, 3, 3)?;
     let halves = faults.map(&|count: u8| count / 2)?;
-    Ok(halves.leaves().unwrap_or(0))
+    Ok(halves.leaves())
 }
 
 #[test]

@@ -1,18 +1,23 @@
 -- Trees whose values are times of at least a number.
-use Rattle.std.proofs.Common.{ℕ, ◌≡◌, ◌∙◌, max, Bool, true, List, [], Option, Some, All, sym, subst}
-use Rattle.std.specs.Bool.{OnTrue}
-use Rattle.std.proofs.lemmas.List.Elements.{All-append, All-cons, All-nil}
+use Rattle.std.proofs.Common.{ℕ, ◌≡◌, max, List, [], ◌∷◌, ◌++◌, length, Option, Some, All, subst}
+use Rattle.std.proofs.lemmas.List.Elements.{All-append, All-cons, All-drop, All-head, All-nil, All-take}
+use Rattle.std.proofs.Math.Seq.{take-append_seam, drop-append_seam}
 use Rattle.cpg_cube.specs.declared.literal.Literal.{Literal}
 use Rattle.cpg_cube.specs.Narrow.{narrowed_by}
 use Rattle.cpg_tree.specs.TreeNode.{TreeNode, Leaf, Fork}
-use Rattle.cpg_tree.specs.declared.item.TreeItem.{TreeItem}
+use Rattle.cpg_tree.specs.declared.item.TreeItem.TheVariants.{Value, Cut}
 use Rattle.cpg_tree.specs.Flat.{flat}
-use Rattle.cpg_tree.specs.Later.{IsAtLeast, time_later}
+use Rattle.cpg_tree.specs.Later.{IsAtLeast, IsItemFrom, time_later}
 use Rattle.cpg_tree.specs.Paths.{up_to, above, paths_from}
 use Rattle.cpg_tree.specs.Tree.{Path}
-use Rattle.cpg_tree.proofs.Flats.{flat-same}
-use Rattle.cpg_tree.proofs.Forks.{from_true}
-use Rattle.cpg_tree.proofs.Passes.{of_true}
+
+-- what all of two lists have, all of each have
+module _ {A : Type 0} (P : A → Type 0) (front back : List A) (all : All P (front ++ back)) where
+  all_front : All P front
+  all_front = subst (All P) (take-append_seam front back) (All-take P (length front) (front ++ back) all)
+
+  all_back : All P back
+  all_back = subst (All P) (drop-append_seam front back) (All-drop P (length front) (front ++ back) all)
 
 module _ (least : ℕ) where
   abbrev pub IsFrom : Path (Option ℕ) → Type 0
@@ -25,15 +30,8 @@ module _ (least : ℕ) where
       (at_least_paths k below (narrowed_by (up_to v cut) cube) h.0) (at_least_paths k upper (narrowed_by (above k v cut) cube) h.1)
 
   -- what a list tells of its tree
-  abbrev pub AllFrom : List (TreeItem (Option ℕ)) → Type 0
-  AllFrom items = (n : TreeNode (Option ℕ)) → items ≡ flat n → IsAtLeast least n
-
-  pub from_value : (b : Bool) (x : Option ℕ) (items : List (TreeItem (Option ℕ))) → items ≡ flat (Leaf x) → OnTrue b (x ≡ Some (max (time_later 0 x) least)) → OnTrue b (AllFrom items)
-  from_value b x items leaf h = of_true b h (λ e n are. subst (IsAtLeast least) (flat-same (Leaf x) n (sym leaf ∙ are)) e)
-
-  pub from_sides : (low high : Bool) (v cut : ℕ) (x y : TreeNode (Option ℕ)) (items : List (TreeItem (Option ℕ))) → items ≡ flat (Fork v cut x y) → low ≡ true → (below above : List (TreeItem
-      (Option ℕ))) →
-      below ≡ flat x → above ≡ flat y →
-      OnTrue low (AllFrom below) → OnTrue high (AllFrom above) → OnTrue high (AllFrom items)
-  from_sides low high v cut x y items fork on below above one two of_low of_high =
-      of_true high of_high (λ h n are. subst (IsAtLeast least) (flat-same (Fork v cut x y) n (sym fork ∙ are)) (from_true low on of_low x one, h y two))
+  pub at_least_listed : (n : TreeNode (Option ℕ)) → All (IsItemFrom least) (flat n) → IsAtLeast least n
+  at_least_listed (Leaf x) h = All-head (IsItemFrom least) (Value x) [] h
+  at_least_listed (Fork v cut x y) h =
+      let sides = all_front (IsItemFrom least) (flat x ++ flat y) (Cut v cut (length (flat x)) ∷ []) h in
+      (at_least_listed x (all_front (IsItemFrom least) (flat x) (flat y) sides), at_least_listed y (all_back (IsItemFrom least) (flat x) (flat y) sides))

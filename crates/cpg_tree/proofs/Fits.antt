@@ -2,9 +2,10 @@
 use Rattle.std.proofs.Common.{ℕ, ◌+◌, ◌-◌, ◌<◌, ◌≤◌, ◌≡◌, ◌≢◌, true, ◌||◌, nat_lt, List, get_or, arith, refl, sym, ap, ◌∙◌, subst, set-set, inl, inr, ◌⊎◌, lt-ltb}
 use Rattle.std.specs.Prelude.{nat_le, slice_set, length}
 use Rattle.std.proofs.lemmas.Bool.{cases_eq, cases_lt, and_parts, and_from, or_cases, or_left, or_right, cond-true, cond-false, leb-true, ltb-true, le-leb, le-ltb}
+use Rattle.std.proofs.lemmas.Grind.{same_number_lists}
 use Rattle.std.proofs.lemmas.List.{get_or-set_same, get_or-set_other, get_or_past, length-set}
 use Rattle.cpg_tree.specs.TreeNode.{TreeNode, Leaf, Fork}
-use Rattle.cpg_tree.specs.Space.{Space, is_open_below, is_open_above, below_cut, above_cut, faults_of}
+use Rattle.cpg_tree.specs.Space.{Space, IsWhole, is_open_below, is_open_above, below_cut, above_cut, faults_of}
 use Rattle.cpg_tree.specs.Decision.{IsFit}
 
 -- a space as another, but for highs that are no lower, and no fewer faults left
@@ -174,3 +175,21 @@ fits_joined {T} below near far_above above room v cut next far is same less unde
       fits_higher below (below_cut room v cut) (below_cut room v far) (joined_below room v cut far less under) fit_below,
       fits_higher far_above (above_cut (above_cut room v cut) v far) (above_cut room v far) (joined_above room v cut far less under) fit.4,
     )
+
+-- a tree that fits one space of all scenarios fits any
+module _ (k : ℕ) (room other : Space) (one : IsWhole k room) (two : IsWhole k other) where
+  whole_high : (v : ℕ) → get_or room.high v 0 ≤ get_or other.high v 0
+  whole_high v = elim (cases_lt v 256) [
+    | inl there ↦ elim (cases_lt v 128) [
+      | inl count ↦ omega (arith, one.counts v count, two.counts v count)
+      | inr value ↦ omega (arith, one.values v value there, two.values v value there)
+    ]
+    | inr past ↦ omega (arith, get_or_past room.high v 0 (omega (arith, past, one.longer)))
+  ]
+
+  whole_low : (v : ℕ) → v < length room.low → get_or room.low v 0 ≡ get_or other.low v 0
+  whole_low v l = let there : v < 256 = omega (arith, l, one.long) in one.lows v there ∙ sym (two.lows v there)
+
+  pub fits_whole : {T : Type 0} (node : TreeNode T) → IsFit room node → IsFit other node
+  fits_whole node = fits_higher node room other
+      (record { low = same_number_lists room.low other.low (one.long ∙ sym two.long) whole_low; left = omega (arith, one.left, two.left); long = one.longer ∙ sym two.longer; high = whole_high })

@@ -1,14 +1,12 @@
 -- What a fork of two trees is, and that of the trees at the end of a list.
-use Rattle.std.proofs.Common.{ℕ, ◌+◌, ◌-◌, ◌<◌, ◌≤◌, ◌≡◌, ◌≢◌, max, min, List, [], ◌∷◌, ◌++◌, length, take, drop, Bool, true, arith, refl, sym, ap, ◌∙◌, subst, append_assoc}
+use Rattle.std.proofs.Common.{ℕ, ◌+◌, ◌-◌, ◌<◌, ◌≤◌, ◌≡◌, List, [], ◌∷◌, ◌++◌, length, take, drop, arith, refl, sym, ap, ◌∙◌, subst, append_assoc}
 use Rattle.std.proofs.lemmas.List.{length-append}
 use Rattle.cpg_base.specs.Scenario.{Scenario, number_of}
 use Rattle.cpg_tree.specs.TreeNode.{TreeNode, Leaf, Fork}
 use Rattle.cpg_tree.specs.declared.item.TreeItem.{TreeItem}
 use Rattle.cpg_tree.specs.declared.item.TreeItem.TheVariants.{Value, Cut}
-use Rattle.cpg_tree.specs.Decision.{value_at, low_at, high_at}
-use Rattle.cpg_tree.specs.Results.{IsForkOf}
 use Rattle.cpg_tree.specs.Flat.{flat}
-use Rattle.cpg_tree.specs.Added.{Adds, IsForked, IsSplit, IsMet}
+use Rattle.cpg_tree.specs.Added.{Adds, IsForked, IsSplit, RepeatsBelow}
 use Rattle.cpg_tree.proofs.Forks as forks
 use Rattle.cpg_tree.proofs.Fits.{fits_uncut, fits_joined}
 use Rattle.cpg_tree.proofs.Flats.{flat-same, last_same, rest_same, take_front, drop_front, cut_is_no_value}
@@ -112,7 +110,7 @@ module _ {T : Type 0} (start middle : ℕ) (old before : List (TreeItem T)) (bel
         (below, cutoff ∙ front_is, subst (λ (n : TreeNode T). IsForked v cut below n below) one (forked_same v cut below above))
 
     -- the side below is met again
-    pub forks_met : IsMet (drop start (take middle old)) (drop middle old) v cut → new ≡ take start old ++ drop (start + (middle - start)) old → Adds (IsForked v cut below above) before new
+    pub forks_met : RepeatsBelow (drop start (take middle old)) (drop middle old) v cut → new ≡ take start old ++ drop (start + (middle - start)) old → Adds (IsForked v cut below above) before new
     forks_met (far, rest, less, ends) taken =
         let whole : flat above ≡ flat below ++ rest ++ (Cut v far (length (flat below)) ∷ []) =
         sym above_is ∙ ends ∙ ap (λ (xs : List (TreeItem T)). xs ++ rest ++ (Cut v far (length xs) ∷ [])) below_is in

@@ -1,21 +1,21 @@
 -- What is added of two trees for the scenarios of two spaces.
-use Rattle.std.proofs.Common.{ℕ, ◌<◌, ◌≤◌, ◌≡◌, max, List, [], ◌∷◌, ◌++◌, length, Bool, sym, ap, ◌∙◌, subst}
+use Rattle.std.proofs.Common.{ℕ, ◌<◌, ◌≤◌, ◌≡◌, max, List, length, arith, sym, ap, ◌∙◌, subst}
 use Rattle.cpg_base.specs.Scenario.{Scenario, number_of}
-use Rattle.cpg_tree.specs.Added.{Adds, ForksEnd, IsFilled, IsJoined, IsPart}
+use Rattle.cpg_tree.specs.Added.{Adds, ForksEnd, IsFilled, IsJoined, IsMapped, IsPart}
 use Rattle.cpg_tree.specs.AddedInBoth.{BoundedPartIs, IsJoinedIn}
 use Rattle.cpg_tree.specs.Asked.{AreOpen, IsInner, LiesInBoth, Rooms}
 use Rattle.cpg_tree.specs.Bounds.{IsBounded, bounds_in}
-use Rattle.cpg_tree.specs.Decision.{value_at, low_at, high_at, DoForksPass, IsFit}
+use Rattle.cpg_tree.specs.Decision.{value_at, low_at, high_at, IsFit}
 use Rattle.cpg_tree.specs.Flat.{flat}
 use Rattle.cpg_tree.specs.Greater.{IsAtLeast}
-use Rattle.cpg_tree.specs.Results.{IsFillOf, IsJoinIn}
+use Rattle.cpg_tree.specs.Results.{IsJoinIn}
 use Rattle.cpg_tree.specs.Space.{Space, Lies, above_cut, below_cut}
 use Rattle.cpg_tree.specs.TreeNode.{TreeNode, Leaf, Fork}
 use Rattle.cpg_tree.specs.declared.bounds.Span.{Span}
 use Rattle.cpg_tree.specs.declared.item.TreeItem.{TreeItem}
 use Rattle.cpg_tree.proofs.Flats.{flat-same}
 use Rattle.cpg_tree.proofs.Forks.{both_whole, made_all_above, made_all_below, made_in_both, made_narrower, one_above_of, one_below_of, passes_parts, two_fork_of}
-use Rattle.cpg_tree.proofs.Greatness.{first_greater, first_leaf, second_greater, second_leaf}
+use Rattle.cpg_tree.proofs.Greatness.{first_greater, first_leaf, second_greater}
 use Rattle.cpg_tree.proofs.JoinLaws.{split_of}
 
 -- ---- parts with bounds
@@ -158,29 +158,52 @@ module _ {T U V : Type 0} (number : T → ℕ) (other_number : U → ℕ) (makes
   abbrev both_answers : T → U → V → Type 0
   both_answers x y z = makes (max (number x) (other_number y)) z
 
-  pub first_added : (x : T) (at : ℕ) → n ≡ Leaf x → at ≡ number x → Adds (IsFilled (λ (x : ℕ) (y : U) (z : V). makes (max x (other_number y)) z) room at m) old new →
-      Adds (IsJoined both_answers room n m) old new
-  first_added x at leaf value p = (
+  -- of one tree alone, if its number is the greater one
+  first_alone : (at : ℕ) → ((s : Scenario) → max at (number (value_at n s)) ≡ max (number (value_at n s)) (other_number (value_at m s))) → IsFit room n →
+      Adds (IsMapped (λ (x : T) (z : V). makes (max at (number x)) z) n) old new → Adds (IsJoined both_answers room n m) old new
+  first_alone at same fits p = (
     p.0,
     p.1,
     record {
-      made = first_leaf number other_number makes room n m p.0 x at leaf value p.2.made;
-      fit = p.2.fit;
+      made = record {
+        value = λ s d. subst (λ (k : ℕ). makes k (value_at p.0 s)) (same s) (p.2.made.value s tt);
+        lows = λ s v d. omega (arith, p.2.made.lows s v tt);
+        highs = λ k s v d. omega (arith, p.2.made.highs k s v tt);
+      };
+      fit = p.2.fit room fits;
+      pass = λ test own other. p.2.pass test own;
+    },
+  )
+
+  second_alone : (at : ℕ) → ((s : Scenario) → max at (other_number (value_at m s)) ≡ max (number (value_at n s)) (other_number (value_at m s))) → IsFit room m →
+      Adds (IsMapped (λ (y : U) (z : V). makes (max at (other_number y)) z) m) old new → Adds (IsJoined both_answers room n m) old new
+  second_alone at same fits p = (
+    p.0,
+    p.1,
+    record {
+      made = record {
+        value = λ s d. subst (λ (k : ℕ). makes k (value_at p.0 s)) (same s) (p.2.made.value s tt);
+        lows = λ s v d. omega (arith, p.2.made.lows s v tt);
+        highs = λ k s v d. omega (arith, p.2.made.highs k s v tt);
+      };
+      fit = p.2.fit room fits;
       pass = λ test own other. p.2.pass test other;
     },
   )
 
-  pub second_added : (y : U) (at : ℕ) → m ≡ Leaf y → at ≡ other_number y → Adds (IsFilled (λ (x : ℕ) (y : T) (z : V). makes (max x (number y)) z) room at n) old new →
+  pub first_added : (x : T) (at : ℕ) → n ≡ Leaf x → at ≡ number x → IsFit room m → Adds (IsMapped (λ (y : U) (z : V). makes (max at (other_number y)) z) m) old new →
       Adds (IsJoined both_answers room n m) old new
-  second_added y at leaf value p = (
-    p.0,
-    p.1,
-    record {
-      made = second_leaf number other_number makes room n m p.0 y at leaf value p.2.made;
-      fit = p.2.fit;
-      pass = λ test own other. p.2.pass test own;
-    },
-  )
+  first_added x at leaf value = second_alone at (λ s. omega (arith, value, ap (λ (c : TreeNode T). number (value_at c s)) leaf))
+
+  pub second_added : (y : U) (at : ℕ) → m ≡ Leaf y → at ≡ other_number y → IsFit room n → Adds (IsMapped (λ (x : T) (z : V). makes (max at (number x)) z) n) old new →
+      Adds (IsJoined both_answers room n m) old new
+  second_added y at leaf value = first_alone at (λ s. omega (arith, value, ap (λ (c : TreeNode U). other_number (value_at c s)) leaf))
+
+  pub first_whole : IsAtLeast number other_number n m → IsFit room n → Adds (IsMapped (λ (x : T) (z : V). makes (max 0 (number x)) z) n) old new → Adds (IsJoined both_answers room n m) old new
+  first_whole least = first_alone 0 (λ s. omega (arith, least s s))
+
+  pub second_whole : IsAtLeast other_number number m n → IsFit room m → Adds (IsMapped (λ (y : U) (z : V). makes (max 0 (other_number y)) z) m) old new → Adds (IsJoined both_answers room n m) old new
+  second_whole least = second_alone 0 (λ s. omega (arith, least s s))
 
   pub joined_added : Adds (IsJoinedIn both_answers (record { asked = room; walked = room }) n m) old new → Adds (IsJoined both_answers room n m) old new
   joined_added p = (

@@ -39,8 +39,3 @@ module _ {T U V : Type 0} (number : T → ℕ) (other_number : U → ℕ) (makes
       IsJoinOf (λ x y z. makes (max (number x) (other_number y)) z) room a b r
   first_leaf x n is at made = made_weaker (Lies room) _ _ _ _ _ _ r made
       (λ s z d e. subst (λ (m : ℕ). makes m z) (omega (arith, at, ap (λ (c : TreeNode T). number (value_at c s)) is)) e) (λ s u d. omega arith) (λ k s u d. omega arith)
-
-  pub second_leaf : (y : U) (n : ℕ) → b ≡ Leaf y → n ≡ other_number y → IsFillOf (λ x y z. makes (max x (number y)) z) room n a r →
-      IsJoinOf (λ x y z. makes (max (number x) (other_number y)) z) room a b r
-  second_leaf y n is at made = made_weaker (Lies room) _ _ _ _ _ _ r made
-      (λ s z d e. subst (λ (m : ℕ). makes m z) (omega (arith, at, ap (λ (c : TreeNode U). other_number (value_at c s)) is)) e) (λ s u d. omega arith) (λ k s u d. omega arith)

@@ -28,3 +28,4 @@ pub mod JoinLaws
 pub mod PickLaws
 pub mod GoodLists
 pub mod VariableLaws
+pub mod Scans

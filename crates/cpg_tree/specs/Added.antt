@@ -31,8 +31,8 @@ ForksEnd {T} start middle v cut old new = (before : List (TreeItem T)) (below ab
     Adds (IsForked v cut below above) before new
 
 -- the side below again, as the side below of a fork on the same variable farther up
-abbrev pub IsMet : {T : Type 0} → List (TreeItem T) → List (TreeItem T) → ℕ → ℕ → Type 0
-IsMet {T} below above v cut = (far : ℕ) × (rest : List (TreeItem T)) × (cut < far) × (above ≡ below ++ rest ++ (Cut v far (length below) ∷ []))
+abbrev pub RepeatsBelow : {T : Type 0} → List (TreeItem T) → List (TreeItem T) → ℕ → ℕ → Type 0
+RepeatsBelow {T} below above v cut = (far : ℕ) × (rest : List (TreeItem T)) × (cut < far) × (above ≡ below ++ rest ++ (Cut v far (length below) ∷ []))
 
 -- the answers of a function to the values of a tree
 pub record IsMapped {T U : Type 0} (answers : T → U → Type 0) (a : TreeNode T) (r : TreeNode U) : Type 0 where

@@ -11,7 +11,7 @@ use Rattle.cpg_tree.specs.Results.{IsJoinIn, IsJoinWhereOf}
 use Rattle.cpg_tree.specs.declared.bounds.Span.{Span}
 use Rattle.cpg_tree.specs.declared.item.TreeItem.{TreeItem}
 
--- the list of the part of a tree that a space comes to, and the spans of its forks if those of the tree's are told
+-- the list of the part of a tree that a space comes to, and the spans of its forks if the tree's spans are given
 abbrev pub BoundedPartIs : {T : Type 0} → Space → TreeNode T → List Span → List (TreeItem T) → List Span → Type 0
 BoundedPartIs {T} room a bounds part spans = (r : TreeNode T) × (part ≡ flat r) × IsPart room a r × ((number : T → ℕ) → bounds ≡ bounds_in number a → spans ≡ bounds_in number r)
 

@@ -22,6 +22,6 @@ bounds_in number (Fork v cut below above) = bounds_in number below ++ bounds_in 
 abbrev pub IsBounded : {T : Type 0} → (T → ℕ) → List (TreeItem T) → List Span → Type 0
 IsBounded {T} number items bounds = (n : TreeNode T) × (items ≡ flat n) × (bounds ≡ bounds_in number n)
 
--- the spans of both sides of a fork, if those of the side below are so many
+-- the spans of both sides of a fork: the first `forks` of them are those of the side below
 abbrev pub AreSides : List Span → ℕ → List Span → List Span → Type 0
 AreSides bounds forks below above = (front back : List Span) (fork : Span) → bounds ≡ front ++ back ++ (fork ∷ []) → forks ≡ length front → (below ≡ front) × (above ≡ back)

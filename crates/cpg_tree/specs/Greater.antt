@@ -1,7 +1,9 @@
 -- The least and the greatest number of a tree whose leaves are read as numbers.
-use Rattle.std.specs.Prelude.{ℕ, ◌≤◌, max, min}
+use Rattle.std.specs.Prelude.{ℕ, ◌≤◌, max, min, nat_le, Bool, true, ◌&&◌, List, [], ◌∷◌}
 use Rattle.cpg_base.specs.Scenario.{Scenario}
 use Rattle.cpg_tree.specs.TreeNode.{TreeNode, Leaf, Fork}
+use Rattle.cpg_tree.specs.declared.item.TreeItem.{TreeItem}
+use Rattle.cpg_tree.specs.declared.item.TreeItem.TheVariants.{Value, Cut}
 use Rattle.cpg_tree.specs.Decision.{value_at}
 
 -- the least number of a leaf
@@ -17,3 +19,15 @@ most_in number (Fork v cut below above) = max (most_in number below) (most_in nu
 -- each number of a tree is at least each number of another
 abbrev pub IsAtLeast : {T U : Type 0} → (T → ℕ) → (U → ℕ) → TreeNode T → TreeNode U → Type 0
 IsAtLeast number other_number a b = (s t : Scenario) → other_number (value_at b s) ≤ number (value_at a t)
+
+-- the greatest of a number and of those of a list's leaves
+abbrev pub most_from : {T : Type 0} → (T → ℕ) → ℕ → List (TreeItem T) → ℕ
+most_from number most [] = most
+most_from number most (Value x ∷ xs) = most_from number (max (number x) most) xs
+most_from number most (Cut v cut n ∷ xs) = most_from number most xs
+
+-- whether each number of a list's leaves is at least this
+abbrev pub are_from : {T : Type 0} → (T → ℕ) → ℕ → List (TreeItem T) → Bool
+are_from number least [] = true
+are_from number least (Value x ∷ xs) = nat_le least (number x) && are_from number least xs
+are_from number least (Cut v cut n ∷ xs) = are_from number least xs

@@ -6,12 +6,6 @@ use Rattle.cpg_tree.specs.TreeNode.{TreeNode}
 use Rattle.cpg_tree.specs.Space.{Space, Lies}
 use Rattle.cpg_tree.specs.Decision.{value_at, low_at, high_at}
 
--- equal values and ranges everywhere
-pub record AreSame {T : Type 0} (a b : TreeNode T) : Type 0 where
-  pub value : (s : Scenario) → value_at a s ≡ value_at b s
-  pub low : (s : Scenario) (v : ℕ) → low_at a s v ≡ low_at b s v
-  pub high : (k : ℕ) (s : Scenario) (v : ℕ) → high_at k a s v ≡ high_at k b s v
-
 -- the values of one tree up to a cut and of another above it, by ranges that are as wide as those of a fork at least
 pub record IsForkOf {T : Type 0} (v cut : ℕ) (below above r : TreeNode T) : Type 0 where
   pub value_below : (s : Scenario) → number_of s v ≤ cut → value_at r s ≡ value_at below s

@@ -1,7 +1,9 @@
 //! The least and the greatest number below each fork of a tree whose leaves are read as numbers.
 ghost use Rattle.std.specs.Prelude.{◌≡◌, ◌++◌, ℕ, max, min, nat_le, IfOk};
+ghost use Rattle.std.specs.Bool.{OnTrue};
 ghost use Rattle.cpg_tree.specs.Bounds.{AreSides, IsBounded, bounds_in, span_in};
 ghost use Rattle.cpg_tree.specs.Flat.{IsFlat, flat};
+ghost use Rattle.cpg_tree.specs.Greater.{IsAtLeast, are_from, most_from};
 ghost use Rattle.cpg_tree.specs.TreeNode.{TreeNode, Fork};
 
 use crate::item::TreeItem;
@@ -120,4 +122,46 @@ pub(crate) fn span_of<T: Copy, R: Reading<T>>(tree: BoundedTree<'_, T>, read: &R
             Top::Cut { .. } => unreachable!(),
         },
     }
+}
+
+/// The greatest of a number and of the numbers of a tree.
+fn most_from<T: Copy, R: Reading<T>>(items: &[TreeItem<T>], read: &R, number: u64) -> u64
+    ensures { result ≡ most_from (R.number read.now) number items.now }
+{
+    let mut most = number;
+    for item in items {
+        if let TreeItem::Value(value) = *item {
+            most = read.number(value).max(most);
+        }
+    }
+    most
+}
+
+/// Whether each number of a tree is at least this.
+fn are_from<T: Copy, R: Reading<T>>(items: &[TreeItem<T>], read: &R, least: u64) -> bool
+    ensures { result ≡ are_from (R.number read.now) least items.now }
+{
+    for item in items {
+        if let TreeItem::Value(value) = *item {
+            if read.number(value) < least {
+                return false;
+            }
+        }
+    }
+    true
+}
+
+/// Whether each number of a tree is at least each number of another.
+pub(crate) fn is_at_least<T: Copy, U: Copy, R: Reading<T>, S: Reading<U>>(
+    own: &[TreeItem<T>],
+    read: &R,
+    other: &[TreeItem<U>],
+    other_reading: &S,
+) -> bool
+    requires flat { IsFlat own.now }
+    requires other_flat { IsFlat other.now }
+    ensures { OnTrue result ((n : TreeNode T) (m : TreeNode U) → own.now ≡ flat n → other.now ≡ flat m →
+        IsAtLeast (R.number read.now) (S.number other_reading.now) n m) }
+{
+    are_from(own, read, most_from(other, other_reading, 0))
 }

@@ -20,9 +20,9 @@ use cpg_base::OutOfMemory;
 
 /// Two trees with the spans of their forks.
 #[derive(Clone, Copy)]
-pub(crate) struct TreePair<'a, T, U> {
-    pub(crate) own: BoundedTree<'a, T>,
-    pub(crate) other: BoundedTree<'a, U>,
+struct TreePair<'a, T, U> {
+    own: BoundedTree<'a, T>,
+    other: BoundedTree<'a, U>,
 }
 
 /// Adds what is made of the greater number of two trees where a chooser is true, and else one value, in the scenarios of two
@@ -115,7 +115,7 @@ impl Tree<bool> {
         let own_items = tree.items();
         let other_items = other.items();
         // one list for both takes fewer and larger blocks than two
-        let mut bounds = Vec::new(alloc);
+        let mut bounds = Vec::with_capacity(alloc, own_items.len() / 2 + other_items.len() / 2)?;
         push_bounds(own_items, read, &mut bounds)?;
         let forks = bounds.len();
         push_bounds(other_items, also, &mut bounds)?;

@@ -3,7 +3,7 @@ ghost use Rattle.std.specs.Prelude.{◌≡◌, ◌≤◌, ◌<◌, ◌+◌, ◌-
 ghost use Rattle.std.specs.Bool.{OnTrue};
 ghost use Rattle.cpg_tree.specs.declared.item.TreeItem.{TreeItem};
 ghost use Rattle.cpg_tree.specs.declared.item.TreeItem.TheVariants.{Cut};
-ghost use Rattle.cpg_tree.specs.Added.{ForksEnd, IsMet};
+ghost use Rattle.cpg_tree.specs.Added.{ForksEnd, RepeatsBelow};
 
 use crate::item::{TreeItem, are_same_items};
 use cpg_base::OutOfMemory;
@@ -20,9 +20,14 @@ fn sides_are_same<T: Copy + Eq>(items: &[TreeItem<T>], start: usize, middle: usi
 }
 
 /// Whether the side above is a fork on the variable farther up whose side below is equal to the side below.
-fn is_met<T: Copy + Eq>(below: &[TreeItem<T>], above: &[TreeItem<T>], variable: u8, cut: u8) -> bool
+fn repeats_below<T: Copy + Eq>(
+    below: &[TreeItem<T>],
+    above: &[TreeItem<T>],
+    variable: u8,
+    cut: u8,
+) -> bool
     requires { (x y : T) → T.eq x y ≡ true → x ≡ y }
-    ensures { OnTrue result (IsMet below.now above.now variable cut) }
+    ensures { OnTrue result (RepeatsBelow below.now above.now variable cut) }
 {
     let Some((last, sides)) = above.split_last() else {
         return false;
@@ -50,8 +55,8 @@ fn is_met<T: Copy + Eq>(below: &[TreeItem<T>], above: &[TreeItem<T>], variable: 
     are_same_items(below, sides.split_at(below.len()).0)
 }
 
-/// As `is_met`, of the two lists that a list ends in.
-fn sides_meet<T: Copy + Eq>(
+/// `repeats_below` for the last two trees of a list.
+fn above_repeats_below<T: Copy + Eq>(
     items: &[TreeItem<T>],
     start: usize,
     middle: usize,
@@ -61,10 +66,10 @@ fn sides_meet<T: Copy + Eq>(
     requires equal { (x y : T) → T.eq x y ≡ true → x ≡ y }
     requires order { start ≤ middle }
     requires long { middle ≤ length items.now }
-    ensures { OnTrue result (IsMet (drop start (take middle items.now)) (drop middle items.now) variable cut) }
+    ensures { OnTrue result (RepeatsBelow (drop start (take middle items.now)) (drop middle items.now) variable cut) }
 {
     let (front, above) = items.split_at(middle);
-    is_met(front.split_at(start).1, above, variable, cut)
+    repeats_below(front.split_at(start).1, above, variable, cut)
 }
 
 /// Takes items out.
@@ -79,8 +84,8 @@ fn take_out<T: Copy>(out: &mut Vec<TreeItem<T>>, from: usize, count: usize)
     out.truncate(left);
 }
 
-/// Adds a fork behind as many items of its side below, and those of its side above.
-pub fn push_cut<T: Copy>(
+/// Adds a fork whose side below has `count` items.
+fn push_cut<T: Copy>(
     out: &mut Vec<TreeItem<T>>,
     variable: u8,
     cut: u8,
@@ -138,7 +143,7 @@ fn are_apart<T: Copy + Eq>(below: TreeItem<T>, above: TreeItem<T>, variable: u8)
     }
 }
 
-/// As `are_apart`, of the two lists that a list ends in.
+/// `are_apart` for the last two trees of a list.
 #[inline]
 fn sides_are_apart<T: Copy + Eq>(items: &[TreeItem<T>], middle: usize, variable: u8) -> bool {
     if middle == 0 || middle >= items.len() {
@@ -187,7 +192,7 @@ fn fork_by_sides<T: Copy + Eq>(
         out.truncate(middle);
         return Ok(());
     }
-    if sides_meet(out.as_slice(), start, middle, variable, cut) {
+    if above_repeats_below(out.as_slice(), start, middle, variable, cut) {
         take_out(out, start, middle - start);
         return Ok(());
     }

@@ -1,8 +1,9 @@
 //! The greater of two trees whose leaves are read as numbers.
 ghost use Rattle.std.specs.Prelude.{◌≡◌, ◌≤◌, max, ℕ, Bool, All, IfOk, true, vec_len};
-ghost use Rattle.cpg_tree.specs.Added.{Adds, IsFilled, IsJoined};
+ghost use Rattle.cpg_tree.specs.Added.{Adds, IsFilled, IsJoined, IsMapped};
 ghost use Rattle.cpg_tree.specs.AddedInBoth.{BoundedPartIs, IsJoinedIn};
 ghost use Rattle.cpg_tree.specs.Bounds.{IsBounded, bounds_in};
+ghost use Rattle.cpg_tree.specs.Decision.{IsFit};
 ghost use Rattle.cpg_tree.specs.Flat.{IsFlat, flat};
 ghost use Rattle.cpg_tree.specs.Later.{time_later};
 ghost use Rattle.cpg_tree.specs.Tree.{DoPathsPass, HasOnePathEach, IsJoin, IsTidyPath};
@@ -10,10 +11,11 @@ ghost use Rattle.cpg_tree.specs.TreeNode.{TreeNode};
 
 use crate::Tree;
 use crate::asked::{Rooms, Way};
-use crate::bounds::{BoundedTree, push_bounds, sides, span_of};
+use crate::bounds::{BoundedTree, is_at_least, push_bounds, sides, span_of};
 use crate::fork::fork;
 use crate::item::TreeItem;
 use crate::join::fill_items;
+use crate::map::map_items;
 use crate::reading::{AsIs, Later, Reading};
 use crate::space::Space;
 use crate::top::{Top, top_of};
@@ -167,18 +169,67 @@ pub(crate) fn greater_by<
     }
 }
 
-/// Adds what is made of the greater number of two trees in the scenarios of a space.
-pub(crate) fn greater_items<
-    T: Copy,
-    U: Copy,
-    V: Copy + Eq,
-    R: Reading<T>,
-    S: Reading<U>,
-    F: Fn(u64) -> V,
->(
+/// Adds what is made of a value or the tree's number, whichever is greater, for all scenarios.
+fn at_least_everywhere<T: Copy, V: Copy + Eq, R: Reading<T>, F: Fn(u64) -> V>(
+    items: &[TreeItem<T>],
+    value: u64,
+    read: &R,
+    made: &F,
+    out: &mut Vec<TreeItem<V>>,
+) -> Result<(), OutOfMemory>
+    requires callable { F.IsAlwaysCallable made.now }
+    requires equal { (x y : V) → V.eq x y ≡ true → x ≡ y }
+    requires flat { IsFlat items.now }
+    ensures long { IfOk result (λ _. vec_len out.old ≤ vec_len out.new) }
+    ensures made { IfOk result (λ _. (n : TreeNode T) → items.now ≡ flat n →
+        Adds (IsMapped (λ y z. F.post made.now (max value (R.number read.now y)) z) n) out.old.items out.new.items) }
+{
+    out.reserve(items.len())?;
+    map_items(items, &|leaf: T| made(value.max(read.number(leaf))), out)
+}
+
+/// Adds what is made of the greater number of two trees in the scenarios of a space that the forks of both fit.
+fn greater_items<T: Copy, U: Copy, V: Copy + Eq, R: Reading<T>, S: Reading<U>, F: Fn(u64) -> V>(
     own: &[TreeItem<T>],
     other: &[TreeItem<U>],
-    space: &mut Space,
+    space: &Space,
+    how: &Greater<'_, R, S, F>,
+    out: &mut Vec<TreeItem<V>>,
+) -> Result<(), OutOfMemory>
+    requires callable { F.IsAlwaysCallable how.now.made.now }
+    requires equal { (x y : V) → V.eq x y ≡ true → x ≡ y }
+    requires flat { IsFlat own.now }
+    requires other_flat { IsFlat other.now }
+    requires fit { (n : TreeNode T) → own.now ≡ flat n → IsFit space.now n }
+    requires other_fit { (m : TreeNode U) → other.now ≡ flat m → IsFit space.now m }
+    ensures long { IfOk result (λ _. vec_len out.old ≤ vec_len out.new) }
+    ensures made { IfOk result (λ _. (n : TreeNode T) (m : TreeNode U) → own.now ≡ flat n → other.now ≡ flat m →
+        Adds (IsJoined (λ x y z. F.post how.now.made.now (max (R.number how.now.read.now x) (S.number how.now.other_reading.now y)) z) space.now n m)
+        out.old.items out.new.items) }
+{
+    if let Top::Value(value) = top_of(own) {
+        let number = how.read.number(value);
+        return at_least_everywhere(other, number, how.other_reading, how.made, out);
+    }
+    if let Top::Value(value) = top_of(other) {
+        let number = how.other_reading.number(value);
+        return at_least_everywhere(own, number, how.read, how.made, out);
+    }
+    // a look at the leaves alone, before anything is kept of each fork
+    if is_at_least(own, how.read, other, how.other_reading) {
+        return at_least_everywhere(own, 0, how.read, how.made, out);
+    }
+    if is_at_least(other, how.other_reading, own, how.read) {
+        return at_least_everywhere(other, 0, how.other_reading, how.made, out);
+    }
+    greater_by_bounds(own, other, space, how, out)
+}
+
+/// As `greater_items`, by the spans of the forks of both trees.
+fn greater_by_bounds<T: Copy, U: Copy, V: Copy + Eq, R: Reading<T>, S: Reading<U>, F: Fn(u64) -> V>(
+    own: &[TreeItem<T>],
+    other: &[TreeItem<U>],
+    space: &Space,
     how: &Greater<'_, R, S, F>,
     out: &mut Vec<TreeItem<V>>,
 ) -> Result<(), OutOfMemory>
@@ -188,19 +239,11 @@ pub(crate) fn greater_items<
     requires other_flat { IsFlat other.now }
     ensures long { IfOk result (λ _. vec_len out.old ≤ vec_len out.new) }
     ensures made { IfOk result (λ _. (n : TreeNode T) (m : TreeNode U) → own.now ≡ flat n → other.now ≡ flat m →
-        Adds (IsJoined (λ x y z. F.post how.now.made.now (max (R.number how.now.read.now x) (S.number how.now.other_reading.now y)) z) space.old n m)
+        Adds (IsJoined (λ x y z. F.post how.now.made.now (max (R.number how.now.read.now x) (S.number how.now.other_reading.now y)) z) space.now n m)
         out.old.items out.new.items) }
 {
-    if let Top::Value(value) = top_of(own) {
-        let number = how.read.number(value);
-        return at_least(other, space, number, how.other_reading, how.made, out);
-    }
-    if let Top::Value(value) = top_of(other) {
-        let number = how.other_reading.number(value);
-        return at_least(own, space, number, how.read, how.made, out);
-    }
     // one list for both takes fewer and larger blocks than two
-    let mut bounds = Vec::new(*out.allocator());
+    let mut bounds = Vec::with_capacity(*out.allocator(), own.len() / 2 + other.len() / 2)?;
     push_bounds(own, how.read, &mut bounds)?;
     let forks = bounds.len();
     push_bounds(other, how.other_reading, &mut bounds)?;
@@ -217,6 +260,7 @@ pub(crate) fn greater_items<
         asked: *space,
         walked: *space,
     };
+    out.reserve(own.items.len().max(other.items.len()))?;
     greater_by(own, other, &mut rooms, how, out)
 }
 
@@ -240,7 +284,7 @@ impl<T: Copy> Tree<T> {
         ensures pass { IfOk result (λ t. (test : ℕ → Bool) → DoPathsPass test self.now.paths → DoPathsPass test other.now.paths → DoPathsPass test t.paths) }
     {
         let faults = self.faults();
-        let mut space = Space::whole(faults);
+        let space = Space::whole(faults);
         let how = Greater {
             read,
             other_reading: also,
@@ -248,7 +292,7 @@ impl<T: Copy> Tree<T> {
         };
         let others = other.items();
         let mut items = Vec::new(self.alloc());
-        greater_items(self.items(), others, &mut space, &how, &mut items)?;
+        greater_items(self.items(), others, &space, &how, &mut items)?;
         Ok(Tree::of(self.alloc(), faults, items))
     }
 }

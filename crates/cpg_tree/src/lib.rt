@@ -20,7 +20,7 @@ mod top;
 mod tree;
 mod variables;
 
-pub use fork::{fork_of, push_cut};
+pub use fork::fork_of;
 pub use item::TreeItem;
 pub use part::part_in;
 pub use reading::{AsIs, Later, Reading, time_later};

@@ -1,10 +1,10 @@
 //! Trees of values by scenarios.
-ghost use Rattle.std.specs.Prelude.{◌≡◌, ◌≤◌, ◌<◌, ◌^◌, max, ℕ, Bool, Option, Some, All, IfNone, IfOk, IfSome, length, true};
+ghost use Rattle.std.specs.Prelude.{◌≡◌, ◌≤◌, ◌<◌, max, ℕ, Bool, Option, Some, All, IfOk, length, true};
 ghost use Rattle.std.specs.Bool.{OnTrue};
 ghost use Rattle.cpg_tree.specs.TreeNode.{TreeNode};
 ghost use Rattle.cpg_tree.specs.Decision.{IsGood};
 ghost use Rattle.cpg_tree.specs.Flat.{IsFlat, flat};
-ghost use Rattle.cpg_tree.specs.Later.{IsAtLeast, time_later};
+ghost use Rattle.cpg_tree.specs.Later.{IsAtLeast, IsItemFrom, time_later};
 ghost use Rattle.cpg_tree.specs.Paths.{paths_of};
 ghost use Rattle.cpg_tree.specs.ReadBack.{IsGoodList};
 ghost use Rattle.cpg_tree.specs.Tree.{HasOnePathEach, IsTidyPath, DoPathsPass, IsConstant, IsMap, IsJoin, IsValueAt};
@@ -109,12 +109,11 @@ impl<T: Copy> Tree<T> {
         Ok(Tree::of(self.alloc, self.faults(), copied))
     }
 
-    /// How many paths there are, and `None` exactly if a number of 64 bits can't tell it.
-    pub fn leaves(&self) -> Option<u64>
-        ensures some { IfSome result (λ n. n ≡ length self.now.paths) }
-        ensures none { IfNone result (2 ^ 64 ≤ length self.now.paths) }
+    /// How many paths there are.
+    pub fn leaves(&self) -> u64
+        ensures { result ≡ length self.now.paths }
     {
-        Some(leaf_count(self.items()) as u64)
+        leaf_count(self.items()) as u64
     }
 
     /// The answers of a function to the values of two trees.
@@ -176,20 +175,27 @@ fn is_time_from(time: Option<u64>, least: u64) -> bool
     least <= time
 }
 
+/// Whether an item is no value, or a time of at least this.
+fn is_item_from(item: TreeItem<Option<u64>>, least: u64) -> bool
+    ensures { OnTrue result (IsItemFrom least item) }
+{
+    match item {
+        TreeItem::Value(time) => is_time_from(time, least),
+        TreeItem::Cut { .. } => true,
+    }
+}
+
 /// Whether each value of a tree is a time of at least this.
 fn are_at_least(items: &[TreeItem<Option<u64>>], least: u64) -> bool
     requires { IsFlat items.now }
     ensures { OnTrue result ((n : TreeNode (Option ℕ)) → items.now ≡ flat n → IsAtLeast least n) }
 {
-    match top_of(items) {
-        Top::Value(time) => is_time_from(time, least),
-        Top::Cut { below, above, .. } => {
-            if !are_at_least(below, least) {
-                return false;
-            }
-            are_at_least(above, least)
+    for item in items {
+        if !is_item_from(*item, least) {
+            return false;
         }
     }
+    true
 }
 
 /// A time, 0 if there is none, or another, whichever is later.

@@ -77,7 +77,7 @@ fn push_columns(
 
 /// For how many columns of a tree there has to be room: there are no more than leaves.
 pub(crate) fn room_for(tree: &Tree<Option<u64>>) -> usize {
-    tree.leaves().unwrap_or(0) as usize
+    tree.leaves() as usize
 }
 
 /// The paths with a number, each with its own cube, from the left to the right. Room is taken for `room` of them at once.

@@ -1,4 +1,4 @@
-use Rattle.std.proofs.Common.{ℕ, max, ◌≡◌, ◌∙◌, drop, take, ap, sym, subst}
+use Rattle.std.proofs.Common.{max, ◌∙◌, drop, take, ap, sym, subst}
 use Rattle.cpg_tree.specs.Tree.{TreeState, IsJoinWhere, DoPathsPass}
 use Rattle.cpg_tree.proofs.BoundLaws.{first_bounds, second_bounds}
 use Rattle.cpg_tree.proofs.Flats.{all_added}
@@ -47,8 +47,8 @@ greater_where-requires-clause-own g c =
       n.0,
       n.1,
       c.split_at.ensures.front ∙ ap (take c.len-forks.result) c.deref.ensures.value ∙ first_bounds (g.R.Reading.number c.args.read.now)
-          (g.S.Reading.number c.args.also.now) n.0 m.0 c.new-bounds.result.items
-          c.push_bounds.new.bounds.items c.push_bounds-2.new.bounds.items c.len-forks.result c.new-bounds.ensures.items (c.in_ok-push_bounds.ensures.bounds n.0 n.1)
+          (g.S.Reading.number c.args.also.now) n.0 m.0 c.in_ok-bounds.bounds.items
+          c.push_bounds.new.bounds.items c.push_bounds-2.new.bounds.items c.len-forks.result c.in_ok-bounds.ensures.items (c.in_ok-push_bounds.ensures.bounds n.0 n.1)
           (c.in_ok-push_bounds-2.ensures.bounds m.0 m.1) (c.len-forks.ensures ∙ c.push_bounds.new.bounds.ok.0),
     )
 
@@ -59,7 +59,7 @@ greater_where-requires-clause-others g c =
       m.0,
       m.1,
       c.split_at.ensures.back ∙ ap (drop c.len-forks.result) c.deref.ensures.value ∙ second_bounds (g.R.Reading.number c.args.read.now)
-          (g.S.Reading.number c.args.also.now) n.0 m.0 c.new-bounds.result.items
-          c.push_bounds.new.bounds.items c.push_bounds-2.new.bounds.items c.len-forks.result c.new-bounds.ensures.items (c.in_ok-push_bounds.ensures.bounds n.0 n.1)
+          (g.S.Reading.number c.args.also.now) n.0 m.0 c.in_ok-bounds.bounds.items
+          c.push_bounds.new.bounds.items c.push_bounds-2.new.bounds.items c.len-forks.result c.in_ok-bounds.ensures.items (c.in_ok-push_bounds.ensures.bounds n.0 n.1)
           (c.in_ok-push_bounds-2.ensures.bounds m.0 m.1) (c.len-forks.ensures ∙ c.push_bounds.new.bounds.ok.0),
     )

@@ -1,4 +1,6 @@
-use Rattle.std.proofs.Common.{max}
+use Rattle.std.proofs.Common.{ℕ, max, ◌∙◌, subst}
+use Rattle.cpg_tree.specs.Space.{IsWhole}
+use Rattle.cpg_tree.proofs.Fits.{fits_whole}
 use Rattle.cpg_tree.proofs.Flats.{all_added}
 use Rattle.cpg_tree.proofs.Publics.{join_shown, join_passes, good_made}
 use Rattle.cpg_tree.proofs.tree.Tree.greater.Goals as goal
@@ -33,3 +35,14 @@ returns-clause-pass g c test =
     let are = all_added c.new-items.result.items c.greater_items.new.out.items r.0 c.new-items.ensures.items r.1 in
     join_passes c.args.self.now c.args.other.now n.0 m.0 (c.items.ensures.good n.0 n.1) (c.items-others.ensures.good m.0 m.1) (c.items.ensures.paths n.0 n.1) (c.items-others.ensures.paths m.0 m.1)
     c.faults-faults.result c.faults-faults.ensures r.0 c.of.result (c.of.ensures.is r.0 are) test (r.2.pass test)
+
+pub greater_items-requires-clause-fit : goal.greater_items-requires-clause-fit
+greater_items-requires-clause-fit g c n are =
+    let good = c.items.ensures.good n are in
+    fits_whole c.args.self.now.faults good.0 c.whole-space.result good.1 (subst (λ (k : ℕ). IsWhole k c.whole-space.result) c.faults-faults.ensures c.whole-space.ensures.is) n good.2
+
+pub greater_items-requires-clause-other_fit : goal.greater_items-requires-clause-other_fit
+greater_items-requires-clause-other_fit g c m others =
+    let good = c.items-others.ensures.good m others in
+    fits_whole c.args.other.now.faults good.0 c.whole-space.result good.1
+    (subst (λ (k : ℕ). IsWhole k c.whole-space.result) (c.faults-faults.ensures ∙ c.requires.same) c.whole-space.ensures.is) m good.2

@@ -1,0 +1,6 @@
+use Rattle.std.proofs.Common.{All, take}
+use Rattle.cpg_tree.specs.Later.{IsItemFrom}
+use Rattle.cpg_tree.proofs.tree.are_at_least.Given as goal
+
+abbrev pub invariant-loop-item : goal.invariant-loop-item
+invariant-loop-item l = All (IsItemFrom l.least) (take l.item-index l.items)
