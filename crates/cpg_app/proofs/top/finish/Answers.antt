@@ -65,8 +65,8 @@ returns-in-Ok-Table-clause-lawful g c words start at =
     let has : Has r at.command at.has.values = record { words = at.words; reads = at.has.reads } in
     let puts = text_of at.command at.has.values (Shown c.in-Ok-Table.made) tt
     (subst (Answers at.command at.has.values) c.in-Ok-Table.field-0-is (c.in-Ok-Table.ensures.output at.command at.has.values at.has.are)) in
-    let prints : Prints r (shown c.in-Ok-Table.made.admitted.graph c.in-Ok-Table.made.compiled) = record { command = at.command; values = at.has.values; has = has; puts = puts } in
-    written_lawful r (shown c.in-Ok-Table.made.admitted.graph c.in-Ok-Table.made.compiled) c.put_tables.result prints (c.put_tables.ensures) c.end-in-Ok-Table.ensures
+    let prints : Prints r (shown_by c.in-Ok-Table.made.admitted.graph c.in-Ok-Table.made.rows) = record { command = at.command; values = at.has.values; has = has; puts = puts } in
+    written_lawful r (shown_by c.in-Ok-Table.made.admitted.graph c.in-Ok-Table.made.rows) c.put_tables.result prints (c.put_tables.ensures) c.end-in-Ok-Table.ensures
 
 pub returns-in-Ok-NodeTable-clause-lawful : goal.returns-in-Ok-NodeTable-clause-lawful
 returns-in-Ok-NodeTable-clause-lawful g c words start at =
