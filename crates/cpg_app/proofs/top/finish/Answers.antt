@@ -4,7 +4,7 @@ use Rattle.cpg_show.specs.NodeText.{node_text}
 use Rattle.cpg_inputs.proofs.Keeping.{keeps_same}
 use Rattle.cpg_app.specs.declared.output.Output.TheVariants.{Lines, Table as Shown, NodeTable as OfNode, Pack}
 use Rattle.cpg_app.specs.Endings.{Has, Prints, Ran, seen}
-use Rattle.cpg_app.specs.Outputs.{Answers, shown}
+use Rattle.cpg_app.specs.Outputs.{Answers, shown_by}
 use Rattle.cpg_outputs.specs.Told.{IsWritten, sent}
 use Rattle.cpg_app.proofs.Answered.{followed_lawful, halt_named, is_open, may_follow}
 use Rattle.cpg_app.proofs.Finished.{stopped_lawful, written_lawful}
