@@ -16,3 +16,4 @@ pub mod TunedRows
 pub mod Finishes
 pub mod Figures
 pub mod Values
+pub mod Listed

@@ -21,7 +21,7 @@ use Rattle.cpg_show.specs.NodeText.{node_text}
 use Rattle.cpg_app.specs.declared.output.Output.{Output}
 use Rattle.cpg_app.specs.declared.output.Output.TheVariants.{Lines, Table as Shown, NodeTable as OfNode, Pack, Stream}
 use Rattle.cpg_app.specs.Causes.{IsNotUnrolled, IsUncompiled, OrMemory, StopsNaming, StopsVerdict, StopsWork}
-use Rattle.cpg_app.specs.Outputs.{Answers, IsAuditedText, IsFollower, IsMadeOf, IsNodeText, IsPlayedText, IsSafeText, IsTrialText, IsUnrolledText, Opens, Puts, PutsOut, packed, shown}
+use Rattle.cpg_app.specs.Outputs.{Answers, IsAuditedText, IsFollower, IsMadeOf, IsNodeText, IsPlayedText, IsSafeText, IsTrialText, IsUnrolledText, Opens, Puts, PutsOut, packed, shown, shown_by}
 use Rattle.cpg_app.specs.Tunes.{IsTuningText}
 
 -- ---- answers
@@ -36,7 +36,7 @@ if_err (Err e) f p = f e p
 
 put_on : {P Q : Text → Type 0} (o : Output) → ((text : Text) → P text → Q text) → Puts o P → Puts o Q
 put_on (Lines text) f p = f (string_bytes text) p
-put_on (Shown made) f p = f (shown made.admitted.graph made.compiled) p
+put_on (Shown made) f p = f (shown_by made.admitted.graph made.rows) p
 put_on (OfNode tables node) f p = (p.0, f (node_text tables node) p.1)
 put_on (Pack tables) f p = f (spelling tables) p
 put_on (Stream follower path) f p = p

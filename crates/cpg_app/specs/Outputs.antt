@@ -18,10 +18,11 @@ use Rattle.cpg_hyper.specs.declared.part.Part.{Part}
 use Rattle.cpg_hyper.specs.Refusals.{ShowsUnrolled}
 use Rattle.cpg_scenario.specs.Text.{scenario_text}
 use Rattle.cpg_scenario.specs.declared.reading.Played.{Played}
+use Rattle.cpg_expand.specs.declared.built_rows.BuiltRows.{BuiltRows}
 use Rattle.cpg_core.specs.declared.compiling.Compiled.{Compiled}
 use Rattle.cpg_core.specs.Compilation.{IsCompilation}
 use Rattle.cpg_cluster.specs.Correct.{IsCorrect, IsLively, IsSteady, EndsAsPlanned}
-use Rattle.cpg_show.specs.TableText.{table_text}
+use Rattle.cpg_show.specs.TableText.{table_text, text_of_rows}
 use Rattle.cpg_show.specs.NodeText.{node_text}
 use Rattle.cpg_log.specs.Log.{Log}
 use Rattle.cpg_audit.specs.Gives.{Gives}
@@ -67,6 +68,10 @@ pub record IsMadeOf (a : Admission) (spell : Graph → Compiled → Text) (bytes
 -- the text of tables
 abbrev pub shown : Graph → Compiled → Text
 shown g c = table_text g c.order c.built.tables.nodes c.built.worst
+
+-- the text of tables that have these rows
+abbrev pub shown_by : Graph → BuiltRows → Text
+shown_by g r = text_of_rows g r.order r.rows.items r.worst.time
 
 -- the pack of tables
 abbrev pub packed : Graph → Compiled → Text
@@ -142,7 +147,7 @@ PutsOut (Audit graph pack log) values text = OnLogged values (λ a t l. IsAudite
 -- the text or the pack that is put out is as stated; if it is a node's table, the tables have that node
 abbrev pub Puts : Output → (Text → Type 0) → Type 0
 Puts (Lines text) Is = Is (string_bytes text)
-Puts (Shown made) Is = Is (shown made.admitted.graph made.compiled)
+Puts (Shown made) Is = Is (shown_by made.admitted.graph made.rows)
 Puts (OfNode tables node) Is = (node < length tables.head.nodes) × Is (node_text tables node)
 Puts (Pack tables) Is = Is (spelling tables)
 Puts (Stream follower path) Is = ⊥

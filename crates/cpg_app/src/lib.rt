@@ -6,6 +6,7 @@ ghost use Rattle.cpg_app.specs.Joined.{FrontsAreRefused, PacksAreTaken, ShowAndC
 mod auditing;
 mod column_counts;
 mod halt;
+mod heads;
 mod output;
 mod periods;
 mod playing;

@@ -2,11 +2,11 @@
 ghost use Rattle.std.specs.Prelude.{◌<◌, length};
 ghost use Rattle.cpg_codec.specs.Spelling.{spelling};
 ghost use Rattle.cpg_show.specs.NodeText.{node_text};
-ghost use Rattle.cpg_app.specs.Outputs.{shown};
+ghost use Rattle.cpg_app.specs.Outputs.{shown_by};
 ghost use Rattle.cpg_outputs.specs.Told.{IsWritten, sent};
 
 use cpg_codec::{WriteFault, write_pack};
-use cpg_core::Compiled;
+use cpg_expand::BuiltRows;
 use cpg_io::Sink;
 use cpg_live::Follower;
 use cpg_rules::Admitted;
@@ -16,13 +16,13 @@ use cpg_words::Word;
 use std::alloc::Global;
 use std::mem::forget;
 
-/// An admitted graph, and the answer of its compile.
+/// An admitted graph, and the rows of its compile.
 #[derive(Drop)]
 pub struct Made {
     /// The graph.
     pub admitted: Admitted,
-    /// Its tables.
-    pub compiled: Compiled,
+    /// The rows of its tables.
+    pub rows: BuiltRows,
 }
 
 /// What a command puts out.
@@ -30,7 +30,7 @@ pub struct Made {
 pub enum Output {
     /// A text.
     Lines(String),
-    /// The tables of a graph, as a text.
+    /// The tables of a graph, as a text that is written by their rows.
     Table(Made),
     /// The table of a node, as a text.
     NodeTable {
@@ -50,15 +50,17 @@ pub enum Output {
     },
 }
 
-// The run ends when it has written its output, and the system then takes back its memory at once. The tables are therefore
+// The run ends when it has written its output, and the system then takes back its memory at once. Tables and rows are therefore
 // forgotten: dropping them would visit every column.
 
 /// Writes the tables of a graph as a text.
 pub fn put_tables<O: Sink>(alloc: Global, made: Made, out: &mut O) -> Result<(), WriteFault>
-    ensures { IsWritten (sent (O.state out.old) (O.state out.new)) result (shown made.admitted.graph made.compiled) }
+    ensures { IsWritten (sent (O.state out.old) (O.state out.new)) result (shown_by made.admitted.graph made.rows) }
 {
-    let compiled = &made.compiled;
-    let written = write_table(alloc, &made.admitted, &compiled.built, &compiled.order, out);
+    let rows = &made.rows;
+    let order = &rows.order;
+    let worst = rows.worst.time;
+    let written = write_table(alloc, &made.admitted, order, rows.rows.as_slice(), worst, out);
     forget(made);
     written
 }

@@ -13,6 +13,7 @@ ghost use Rattle.cpg_app.specs.Outputs.{packed, shown, Answers, AreJudgedSafe, A
 
 use crate::auditing::audit_text;
 use crate::halt::halt_of_compile;
+use crate::heads::head_is_lawful;
 use crate::output::{Made, Output};
 use crate::periods::unrolled_text;
 use crate::playing::play_text;
@@ -21,7 +22,7 @@ use crate::tuning::tune_admitted;
 use cpg_base::Name;
 use cpg_check::{Verdict, check};
 use cpg_codec::tables_are_lawful;
-use cpg_core::{Compiled, compile};
+use cpg_core::{Compiled, compile, compile_rows};
 use cpg_head::Head;
 use cpg_inputs::{Inputs, Purpose};
 use cpg_live::Follower;
@@ -35,12 +36,25 @@ use cpg_words::Word;
 use std::alloc::Global;
 use std::mem::forget;
 
+/// The table text of an admitted graph, by the rows of its tables, which aren't assembled.
+fn text_of(alloc: Global, admitted: Admitted) -> Result<Output, Halt>
+    ensures text { IfOk result (λ o. Puts o (IsMadeOf admitted shown)) }
+    ensures halt { IfErr result (IsUncompiled admitted) }
+{
+    // its contract says that the graph is admitted
+    let graph = admitted.problem();
+    head_is_lawful(graph);
+    match compile_rows(alloc, &admitted) {
+        Ok(rows) => Ok(Output::Table(Made { admitted, rows })),
+        Err(fault) => Err(halt_of_compile(admitted, fault)),
+    }
+}
+
 /// Compiles an admitted graph.
-fn compile_graph(alloc: Global, admitted: Admitted) -> Result<Made, Halt>
-    ensures same { IfOk result (λ made. made.admitted ≡ admitted) }
-    ensures compiled { IfOk result (λ made. IsCompilation admitted.graph admitted.order made.compiled) }
-    ensures pack { IfOk result (λ made. ArePackOf admitted.graph made.compiled.built.tables) }
-    ensures safe { IfOk result (λ made. AreSafe admitted.graph made.compiled.built.tables.nodes) }
+fn compile_graph(alloc: Global, admitted: Admitted) -> Result<Compiled, Halt>
+    ensures compiled { IfOk result (IsCompilation admitted.graph admitted.order) }
+    ensures pack { IfOk result (λ c. ArePackOf admitted.graph c.built.tables) }
+    ensures safe { IfOk result (λ c. AreSafe admitted.graph c.built.tables.nodes) }
     ensures halt { IfErr result (IsUncompiled admitted) }
 {
     // its contract says that the graph is admitted
@@ -48,19 +62,10 @@ fn compile_graph(alloc: Global, admitted: Admitted) -> Result<Made, Halt>
     match compile(alloc, &admitted) {
         Ok(compiled) => {
             tables_are_lawful(&compiled.built.tables);
-            Ok(Made { admitted, compiled })
+            Ok(compiled)
         }
         Err(fault) => Err(halt_of_compile(admitted, fault)),
     }
-}
-
-/// The table text of an admitted graph.
-fn text_of(alloc: Global, admitted: Admitted) -> Result<Output, Halt>
-    ensures text { IfOk result (λ o. Puts o (IsMadeOf admitted shown)) }
-    ensures halt { IfErr result (IsUncompiled admitted) }
-{
-    let made = compile_graph(alloc, admitted)?;
-    Ok(Output::Table(made))
 }
 
 /// The pack of an admitted graph.
@@ -68,8 +73,7 @@ fn pack_of(alloc: Global, admitted: Admitted) -> Result<Output, Halt>
     ensures pack { IfOk result (λ o. Puts o (IsMadeOf admitted packed)) }
     ensures halt { IfErr result (IsUncompiled admitted) }
 {
-    let made = compile_graph(alloc, admitted)?;
-    let Made { compiled, .. } = made;
+    let compiled = compile_graph(alloc, admitted)?;
     let Compiled { built, .. } = compiled;
     let Built { tables, .. } = built;
     Ok(Output::Pack(tables))

@@ -71,10 +71,10 @@ module _ (g : Graph) (within : IsWithinLimits g) (formed : WellFormed g) (rows :
     each = λ node l. subst (IsTableWith g rows node) (sym (get_or-map-below table_of (length g.nodes) node empty_table l)) (table_with node l);
   }
 
-  abbrev written : Tables
+  abbrev pub written : Tables
   written = record { head = head_of g; nodes = nodes }
 
-  is_written : AreTablesWith g rows written
+  pub is_written : AreTablesWith g rows written
   is_written = tables_with g within formed rows w nodes are_nodes written refl refl
 
 -- ---- the rows

@@ -14,9 +14,8 @@ use Rattle.cpg_table.specs.declared.rule.Rule.{Rule}
 use Rattle.cpg_base.specs.WellFormed.{WellFormed, HasSingleJoins}
 use Rattle.cpg_order.specs.Urgency.{IsTopological, IsUrgencyOrder, first_order}
 use Rattle.cpg_reach.specs.Wide.{IsNarrow}
-use Rattle.cpg_core.specs.declared.compiling.Compiled.{Compiled}
 use Rattle.cpg_core.specs.Compiled.{IsCompileOrder, IsMeasured, IsLateUnder, IsInTimeUnder}
-use Rattle.cpg_core.specs.Compilation.{IsCompilation, IsMadeOf}
+use Rattle.cpg_core.specs.Compilation.{IsCompilation}
 use Rattle.cpg_core.proofs.Local.{know_locally}
 use Rattle.cpg_expand.specs.declared.expanding.Grown.{Grown}
 use Rattle.cpg_expand.specs.declared.measuring.Peak.{Peak}
@@ -142,8 +141,3 @@ module _ (g : Graph) (w : WellFormed g) (urgency : List ℕ) (top : IsTopologica
     fit = fit;
     local = know_locally g w joins urgency by top first_top order taken b built;
   }
-
-  -- the tables of what is found under it
-  pub made : (t : Grown) (c : Compiled) → IsMadeOf g urgency t c → t.excess.time ≡ 0 → IsCompileOrder g urgency t.order → IsCompilation g urgency c
-  made t c is_made e taken = compilation c.order (subst (IsCompileOrder g urgency) (sym is_made.order) taken) c.built
-      (subst (λ o. IsBuiltFor g urgency o c.built) (sym is_made.order) is_made.built) is_made.fit (is_made.excess ∙ e)

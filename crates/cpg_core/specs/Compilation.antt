@@ -1,8 +1,12 @@
--- What a compile answers: tables for the compile's order, or why there are none.
+-- What a compile answers: tables for the compile's order, or the rows of such tables, or why there are none.
 use Rattle.std.specs.Prelude.{ℕ, ◌≡◌, ◌≢◌, ◌⊎◌, List, None, ⊤}
 use Rattle.cpg_base.specs.Graph.{Graph}
 use Rattle.cpg_order.specs.Urgency.{first_order}
+use Rattle.cpg_table.specs.Lawful.{Tables}
 use Rattle.cpg_table.specs.Valid.{IsValid}
+use Rattle.cpg_table.specs.Writing.{AreTablesWith, AreWritable}
+use Rattle.cpg_expand.specs.BuiltRows.{built_of}
+use Rattle.cpg_expand.specs.declared.built_rows.BuiltRows.{BuiltRows}
 use Rattle.cpg_expand.specs.declared.expanding.Grown.{Grown}
 use Rattle.cpg_expand.specs.GrownFor.{IsGrownFor}
 use Rattle.cpg_expand.specs.Large.{HasLargeTree}
@@ -44,12 +48,15 @@ ShowsCompileFault g urgency (TooWide x) = IsLeastWide g (first_order g urgency) 
 ShowsCompileFault g urgency (Late scenario process finish) = IsLate g urgency × IsShownLate g urgency scenario process finish
 ShowsCompileFault g urgency OutOfMemory = ⊤
 
--- ---- steps of the compile
+-- ---- the rows of the compile
 
--- the tables of what was found under an order
-pub record IsMadeOf (g : Graph) (urgency : List ℕ) (grown : Grown) (c : Compiled) : Type 0 where
-  pub order : c.order ≡ grown.order
-  pub built : IsBuiltFor g urgency grown.order c.built
-  pub fit : DoTablesFit g c.built.tables.nodes
-  pub excess : c.built.excess ≡ grown.excess.time
-  pub worst : c.built.worst ≡ grown.worst.time
+-- tables, with the order and the figures of rows
+abbrev pub compiled_of : BuiltRows → Tables → Compiled
+compiled_of r t = record { built = built_of r t; order = r.order }
+
+-- All tables that have these rows are, with the order and the figures, a compilation. There are such tables.
+pub record AreCompiledRows (g : Graph) (urgency : List ℕ) (r : BuiltRows) : Type 0 where
+  pub writable : AreWritable g r.rows.items
+  pub compilation : (t : Tables) → AreTablesWith g r.rows.items t → IsCompilation g urgency (compiled_of r t)
+  pub tables : Tables
+  pub written : AreTablesWith g r.rows.items tables

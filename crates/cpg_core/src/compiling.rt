@@ -6,12 +6,13 @@ ghost use Rattle.cpg_expand.specs.GrownFor.{IsGrownFor};
 ghost use Rattle.cpg_tracks.specs.Tracks.{HasManyTracks};
 ghost use Rattle.cpg_core.specs.Accepted.{order_taken};
 ghost use Rattle.cpg_core.specs.Compiled.{IsCompileOrder, IsHelpless, IsInTimeUnder, IsLateUnder};
-ghost use Rattle.cpg_core.specs.Compilation.{IsCompilation, IsMadeOf, ShowsCompileFault};
+ghost use Rattle.cpg_core.specs.Compilation.{AreCompiledRows, IsCompilation, ShowsCompileFault};
+ghost use Rattle.cpg_expand.specs.BuiltRows.{AreBuiltRows};
 
 use crate::CompileFault;
 use crate::choosing::{choose, wide_if_urgent};
 use cpg_base::{Order, OutOfMemory};
-use cpg_expand::{Grown, grow, grow_bounded};
+use cpg_expand::{BuiltRows, Grown, grow, grow_bounded};
 use cpg_rules::Admitted;
 use cpg_run::{BuildFault, Built};
 use cpg_tracks::track_outcomes;
@@ -99,38 +100,22 @@ pub(crate) fn grow_first(alloc: Global, admitted: &Admitted) -> Result<Grown, Co
     Ok(grown)
 }
 
-/// The tables of the track order.
-fn tables_of_tracks(
+/// The rows of the first order. `TooWide` shows that they have too many columns.
+fn rows_of_first(
     alloc: Global,
     admitted: &Admitted,
     grown: Grown,
-) -> Result<Compiled, OutOfMemory>
-    requires topological { IsTopological admitted.now.graph grown.order }
-    requires narrow { IsNarrow admitted.now.graph grown.order }
-    requires grown { IsGrownFor admitted.now.graph admitted.now.order grown.order grown }
-    ensures { IfOk result (IsMadeOf admitted.now.graph admitted.now.order grown) }
-{
-    let order = grown.order.copy()?;
-    let built = grown.build(alloc, admitted)?;
-    Ok(Compiled { built, order })
-}
-
-/// The tables of the first order. `TooWide` shows that their rows have too many columns.
-fn tables_of_first(
-    alloc: Global,
-    admitted: &Admitted,
-    grown: Grown,
-) -> Result<Compiled, CompileFault>
+) -> Result<BuiltRows, CompileFault>
     requires topological { IsTopological admitted.now.graph grown.order }
     requires first { grown.order ≡ first_order admitted.now.graph admitted.now.order }
     requires grown { IsGrownFor admitted.now.graph admitted.now.order grown.order grown }
     requires in_time { grown.excess.time ≡ 0 }
-    ensures made { IfOk result (IsMadeOf admitted.now.graph admitted.now.order grown) }
+    ensures rows { IfOk result (AreBuiltRows admitted.now.graph admitted.now.order grown.order) }
+    ensures excess { IfOk result (λ r. r.excess ≡ grown.excess) }
     ensures fault { IfErr result (ShowsCompileFault admitted.now.graph admitted.now.order) }
 {
-    let order = grown.order.copy()?;
     match grown.build_bounded(alloc, admitted) {
-        Ok(built) => Ok(Compiled { built, order }),
+        Ok(rows) => Ok(rows),
         Err(BuildFault::TooWide(item)) => Err(CompileFault::TooWide(item)),
         Err(BuildFault::OutOfMemory) => Err(CompileFault::OutOfMemory),
     }
@@ -163,24 +148,24 @@ pub(crate) fn shown_late(alloc: Global, admitted: &Admitted) -> CompileFault
     }
 }
 
-/// The tables of the first order, if nothing is late under it.
-fn compile_first(alloc: Global, admitted: &Admitted) -> Result<Compiled, CompileFault>
+/// The rows of the first order, if nothing is late under it.
+fn compile_first(alloc: Global, admitted: &Admitted) -> Result<BuiltRows, CompileFault>
     requires taken { IsCompileOrder admitted.now.graph admitted.now.order (first_order admitted.now.graph admitted.now.order) }
     requires in_time { IsInTimeUnder admitted.now.graph admitted.now.order (first_order admitted.now.graph admitted.now.order) }
-    ensures compiled { IfOk result (IsCompilation admitted.now.graph admitted.now.order) }
+    ensures rows { IfOk result (AreCompiledRows admitted.now.graph admitted.now.order) }
     ensures fault { IfErr result (ShowsCompileFault admitted.now.graph admitted.now.order) }
 {
     // its clause tells that the graph is admitted
     let _order = admitted.first_order();
     let first = grow_first(alloc, admitted)?;
-    let compiled = tables_of_first(alloc, admitted, first)?;
-    Ok(compiled)
+    let rows = rows_of_first(alloc, admitted, first)?;
+    Ok(rows)
 }
 
-/// The tables of the first order of a graph that has no track order.
-fn compile_untracked(alloc: Global, admitted: &Admitted) -> Result<Compiled, CompileFault>
+/// The rows of the first order of a graph that has no track order.
+fn compile_untracked(alloc: Global, admitted: &Admitted) -> Result<BuiltRows, CompileFault>
     requires { HasManyTracks admitted.now.graph }
-    ensures compiled { IfOk result (IsCompilation admitted.now.graph admitted.now.order) }
+    ensures rows { IfOk result (AreCompiledRows admitted.now.graph admitted.now.order) }
     ensures fault { IfErr result (ShowsCompileFault admitted.now.graph admitted.now.order) }
 {
     // its clause tells that the graph is admitted
@@ -189,63 +174,63 @@ fn compile_untracked(alloc: Global, admitted: &Admitted) -> Result<Compiled, Com
     if first.excess.time > 0 {
         return Err(late(admitted, first));
     }
-    let compiled = tables_of_first(alloc, admitted, first)?;
-    Ok(compiled)
+    let rows = rows_of_first(alloc, admitted, first)?;
+    Ok(rows)
 }
 
-/// The tables of a track order that is taken, if nothing is late under it.
-fn compile_tracks(alloc: Global, admitted: &Admitted, order: Order) -> Result<Compiled, OutOfMemory>
+/// The rows of a track order that is taken, if nothing is late under it.
+fn compile_tracks(alloc: Global, admitted: &Admitted, order: Order) -> Result<BuiltRows, OutOfMemory>
     requires first { admitted.now.graph.order ≡ None → IsNarrow admitted.now.graph (first_order admitted.now.graph admitted.now.order) }
     requires topological { IsTopological admitted.now.graph order }
     requires narrow { IsNarrow admitted.now.graph order }
     requires taken { IsCompileOrder admitted.now.graph admitted.now.order order }
     requires in_time { IsInTimeUnder admitted.now.graph admitted.now.order order }
-    ensures { IfOk result (IsCompilation admitted.now.graph admitted.now.order) }
+    ensures { IfOk result (AreCompiledRows admitted.now.graph admitted.now.order) }
 {
     // its clause tells that the graph is admitted
     let _order = admitted.first_order();
     let grown = grow_tracks(alloc, admitted, order)?;
-    let compiled = tables_of_tracks(alloc, admitted, grown)?;
-    Ok(compiled)
+    let rows = grown.build(alloc, admitted)?;
+    Ok(rows)
 }
 
-/// The tables of the order that is taken, the track order or else the first one, if nothing is late under it.
+/// The rows of the order that is taken, the track order or else the first one, if nothing is late under it.
 fn compile_taken(
     alloc: Global,
     admitted: &Admitted,
     order: Option<Order>,
-) -> Result<Compiled, CompileFault>
+) -> Result<BuiltRows, CompileFault>
     requires first { admitted.now.graph.order ≡ None → IsNarrow admitted.now.graph (first_order admitted.now.graph admitted.now.order) }
     requires topological { IfSome order (IsTopological admitted.now.graph) }
     requires narrow { IfSome order (IsNarrow admitted.now.graph) }
     requires taken { IsCompileOrder admitted.now.graph admitted.now.order (order_taken (first_order admitted.now.graph admitted.now.order) order) }
     requires in_time { IsInTimeUnder admitted.now.graph admitted.now.order (order_taken (first_order admitted.now.graph admitted.now.order) order) }
-    ensures compiled { IfOk result (IsCompilation admitted.now.graph admitted.now.order) }
+    ensures rows { IfOk result (AreCompiledRows admitted.now.graph admitted.now.order) }
     ensures fault { IfErr result (ShowsCompileFault admitted.now.graph admitted.now.order) }
 {
     match order {
         Some(order) => {
-            let compiled = compile_tracks(alloc, admitted, order)?;
-            Ok(compiled)
+            let rows = compile_tracks(alloc, admitted, order)?;
+            Ok(rows)
         }
         None => {
-            let compiled = compile_first(alloc, admitted)?;
-            Ok(compiled)
+            let rows = compile_first(alloc, admitted)?;
+            Ok(rows)
         }
     }
 }
 
-/// The tables of a graph under the order that compiles it: the order that the graph gives; else the track order if it gives a lesser
+/// The rows of a graph under the order that compiles it: the order that the graph gives; else the track order if it gives a lesser
 /// greatest excess than the urgency order, or an equal one and an earlier greatest finish; and else the urgency order. Under it every
 /// process ends by its due in every scenario, and each node starts and sends the same if it has seen the same. The latest times of at
 /// most 256 tracks tell which order that is; the trees of the other aren't made.
-pub fn compile(alloc: Global, admitted: &Admitted) -> Result<Compiled, CompileFault>
-    ensures compiled { IfOk result (IsCompilation admitted.now.graph admitted.now.order) }
+pub fn compile_rows(alloc: Global, admitted: &Admitted) -> Result<BuiltRows, CompileFault>
+    ensures rows { IfOk result (AreCompiledRows admitted.now.graph admitted.now.order) }
     ensures fault { IfErr result (ShowsCompileFault admitted.now.graph admitted.now.order) }
 {
     let Some(tracks) = track_outcomes(alloc, admitted)? else {
-        let compiled = compile_untracked(alloc, admitted)?;
-        return Ok(compiled);
+        let rows = compile_untracked(alloc, admitted)?;
+        return Ok(rows);
     };
     if let Some(item) = wide_if_urgent(alloc, admitted)? {
         return Err(CompileFault::TooWide(item));
@@ -254,6 +239,26 @@ pub fn compile(alloc: Global, admitted: &Admitted) -> Result<Compiled, CompileFa
     if taken.figures.excess > 0 {
         return Err(shown_late(alloc, admitted));
     }
-    let compiled = compile_taken(alloc, admitted, taken.order)?;
+    let rows = compile_taken(alloc, admitted, taken.order)?;
+    Ok(rows)
+}
+
+/// The tables of the rows of a compile.
+fn assembled(alloc: Global, admitted: &Admitted, rows: BuiltRows) -> Result<Compiled, OutOfMemory>
+    requires { AreCompiledRows admitted.now.graph admitted.now.order rows }
+    ensures { IfOk result (IsCompilation admitted.now.graph admitted.now.order) }
+{
+    let order = rows.order.copy()?;
+    let built = rows.assemble(alloc, admitted)?;
+    Ok(Compiled { built, order })
+}
+
+/// The tables of a graph: those of the rows that `compile_rows` makes.
+pub fn compile(alloc: Global, admitted: &Admitted) -> Result<Compiled, CompileFault>
+    ensures compiled { IfOk result (IsCompilation admitted.now.graph admitted.now.order) }
+    ensures fault { IfErr result (ShowsCompileFault admitted.now.graph admitted.now.order) }
+{
+    let rows = compile_rows(alloc, admitted)?;
+    let compiled = assembled(alloc, admitted, rows)?;
     Ok(compiled)
 }

@@ -47,3 +47,4 @@ pub mod EarlierFound
 pub mod LargeShown
 pub mod LargeParts
 pub mod WideRowsMade
+pub mod RowsBuilt

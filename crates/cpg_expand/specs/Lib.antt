@@ -24,3 +24,4 @@ pub mod GrownFor
 pub mod Waited
 pub mod Large
 pub mod WideRows
+pub mod BuiltRows

@@ -2,13 +2,15 @@
 ghost use Rattle.std.specs.Prelude.{ℕ, ◌≡◌, IfOk, IfErr, None};
 ghost use Rattle.cpg_expand.specs.GrownFor.{IsGrownFor, IsWidth};
 ghost use Rattle.cpg_expand.specs.Large.{HasLargeTree, ShowsLarge};
-ghost use Rattle.cpg_expand.specs.WideRows.{DoTablesFit, HaveWideRows};
+ghost use Rattle.cpg_expand.specs.BuiltRows.{AreBuiltRows};
+ghost use Rattle.cpg_expand.specs.WideRows.{HaveWideRows};
 ghost use Rattle.cpg_expand.specs.Grown.{IsGrown};
 ghost use Rattle.cpg_base.specs.Graph.{process_count};
 ghost use Rattle.cpg_order.specs.Urgency.{IsTopological};
 ghost use Rattle.cpg_reach.specs.Wide.{IsLeastWide, IsNarrow};
 ghost use Rattle.cpg_run.specs.Built.{IsBuiltFor, ShowsBuildFault};
 
+use crate::BuiltRows;
 use crate::growing::{GrownForest, grown};
 use crate::measuring::{Peak, excess, worst};
 use crate::rows::rows;
@@ -17,11 +19,9 @@ use cpg_base::{Order, OutOfMemory};
 use cpg_reach::too_wide;
 use cpg_rules::Admitted;
 use cpg_run::{BuildFault, Built};
-use cpg_table::tables_of;
 use std::alloc::Global;
 
-/// All that is found under an order but its tables, which are far larger: the trees that they are made of, and how good the
-/// order is.
+/// All that is found under an order but its rows: the trees that they are made of, and how good the order is.
 #[derive(Drop)]
 pub struct Grown {
     /// The order.
@@ -110,54 +110,48 @@ pub fn grow_bounded(alloc: Global, admitted: &Admitted, order: Order) -> Result<
 }
 
 impl Grown {
-    /// The exact tables, with the frozen times and the measures. Each tree is given back once its row is made. If an item has
+    /// The exact rows, with the frozen times and the measures. Each tree is given back once its row is made. If an item has
     /// too many views, the columns of rows are counted as they are made, and `TooWide` shows the least such item if a row has
     /// more than 16,384, or all rows of all tables more than 524,288.
-    pub fn build_bounded(self, alloc: Global, admitted: &Admitted) -> Result<Built, BuildFault>
+    pub fn build_bounded(self, alloc: Global, admitted: &Admitted) -> Result<BuiltRows, BuildFault>
         requires topological { IsTopological admitted.now.graph self.order }
         requires grown { IsGrownFor admitted.now.graph admitted.now.order self.order self }
-        ensures built { IfOk result (λ built. IsBuiltFor admitted.now.graph admitted.now.order self.order built) }
-        ensures measures { IfOk result (λ built. (built.excess ≡ self.excess.time) × (built.worst ≡ self.worst.time)) }
-        ensures fit { IfOk result (λ built. DoTablesFit admitted.now.graph built.tables.nodes) }
+        ensures rows { IfOk result (AreBuiltRows admitted.now.graph admitted.now.order self.order) }
+        ensures measures { IfOk result (λ r. (r.excess ≡ self.excess) × (r.worst ≡ self.worst)) }
         ensures fault { IfErr result (ShowsBuildFault
             (λ x. IsLeastWide admitted.now.graph self.order x × HaveWideRows admitted.now.graph admitted.now.order self.trees.forest.times)) }
     {
         let problem = admitted.problem();
         let urgency = admitted.order();
         let Grown {
+            order,
             wide,
             trees,
             worst,
             excess,
-            ..
         } = self;
         let GrownForest { frozen, forest } = trees;
         let times = forest.into_times();
         let rows = rows(alloc, problem, urgency, times, wide)?;
-        let tables = tables_of(alloc, problem, rows)?;
-        Ok(Built {
-            tables,
+        Ok(BuiltRows {
+            order,
+            rows,
             frozen,
-            worst: worst.time,
-            worst_in: worst.scenario,
-            worst_by: worst.process,
-            excess: excess.time,
-            excess_in: excess.scenario,
-            excess_by: excess.process,
+            worst,
+            excess,
         })
     }
 
     /// As `build_bounded`, if no item has too many views.
-    pub fn build(self, alloc: Global, admitted: &Admitted) -> Result<Built, OutOfMemory>
+    pub fn build(self, alloc: Global, admitted: &Admitted) -> Result<BuiltRows, OutOfMemory>
         requires topological { IsTopological admitted.now.graph self.order }
         requires narrow { IsNarrow admitted.now.graph self.order }
         requires grown { IsGrownFor admitted.now.graph admitted.now.order self.order self }
-        ensures built { IfOk result (λ built. IsBuiltFor admitted.now.graph admitted.now.order self.order built) }
-        ensures measures { IfOk result (λ built. (built.excess ≡ self.excess.time) × (built.worst ≡ self.worst.time)) }
-        ensures fit { IfOk result (λ built. DoTablesFit admitted.now.graph built.tables.nodes) }
+        ensures rows { IfOk result (AreBuiltRows admitted.now.graph admitted.now.order self.order) }
+        ensures measures { IfOk result (λ r. (r.excess ≡ self.excess) × (r.worst ≡ self.worst)) }
     {
         match self.build_bounded(alloc, admitted) {
-            Ok(built) => Ok(built),
+            Ok(rows) => Ok(rows),
             Err(BuildFault::TooWide(_)) => unreachable!(),
             Err(BuildFault::OutOfMemory) => Err(OutOfMemory),
         }
@@ -173,7 +167,10 @@ pub fn expand(alloc: Global, admitted: &Admitted, order: &Order) -> Result<Built
     ensures narrow { IfOk result (λ _. IsNarrow admitted.now.graph order.now) }
     ensures fault { IfErr result (ShowsBuildFault (IsLeastWide admitted.now.graph order.now)) }
 {
+    // its clause tells that the graph is admitted
+    let _problem = admitted.problem();
     let grown = grow(alloc, admitted, order.copy()?)?;
-    let built = grown.build(alloc, admitted)?;
+    let rows = grown.build(alloc, admitted)?;
+    let built = rows.assemble(alloc, admitted)?;
     Ok(built)
 }

@@ -6,6 +6,7 @@
 mod activity;
 mod along;
 mod bounding;
+mod built_rows;
 mod descent;
 mod earlier;
 mod ending;
@@ -24,5 +25,6 @@ mod waited;
 
 pub use activity::active_item;
 pub use bounding::leaf_limit_is_this;
+pub use built_rows::BuiltRows;
 pub use expanding::{Grown, expand, grow, grow_bounded};
 pub use measuring::Peak;

@@ -6,7 +6,8 @@ use Rattle.cpg_base.specs.Numbers.{numbers_below}
 use Rattle.cpg_base.specs.Graph.{Graph, item_at, item_count, home, is_sent_item}
 use Rattle.cpg_base.specs.declared.item.Item.{Item}
 use Rattle.cpg_base.specs.declared.item.Item.TheVariants.{Start, Message, Broadcast}
-use Rattle.cpg_table.specs.Table.{NodeTable, columns_of}
+use Rattle.cpg_table.specs.Table.{NodeTable, Row, columns_of}
+use Rattle.cpg_table.specs.Writing.{row_for}
 use Rattle.cpg_label.specs.Labels.{labels_of, process_name}
 use Rattle.cpg_label.specs.CubeText.{columns_text}
 use Rattle.cpg_label.specs.ItemText.{act_text}
@@ -40,3 +41,13 @@ worst_line worst = codes "worst " ++ decimal worst ++ codes "\n"
 -- the text of tables: the order, the greatest finish, and the items by number
 abbrev pub table_text : Graph → List ℕ → List NodeTable → ℕ → List ℕ
 table_text g order tables worst = order_line g order ++ worst_line worst ++ flat_map (item_text g tables) (numbers_below (item_count g))
+
+-- ---- by rows
+
+-- the lines of an item with the columns of its row
+abbrev pub lines_of_row : Graph → List Row → ℕ → List ℕ
+lines_of_row g rows x = if is_shown g x then head_line g x ++ columns_text (labels_of g) (row_for rows x).columns else []
+
+-- the text of tables that have these rows, one for each item by number
+abbrev pub text_of_rows : Graph → List ℕ → List Row → ℕ → List ℕ
+text_of_rows g order rows worst = order_line g order ++ worst_line worst ++ flat_map (lines_of_row g rows) (numbers_below (item_count g))

@@ -6,16 +6,17 @@ ghost use Rattle.cpg_io.specs.Causes.{Rose};
 ghost use Rattle.cpg_io.specs.Sink.{Took, TookPrefix};
 ghost use Rattle.cpg_label.specs.Labels.{labels_of, process_name};
 ghost use Rattle.cpg_show.specs.Sheet.{part_text, sheet_text};
-ghost use Rattle.cpg_show.specs.TableText.{head_line, is_shown, item_text, order_line, table_text, worst_line};
+ghost use Rattle.cpg_show.specs.TableText.{head_line, is_shown, lines_of_row, order_line, text_of_rows, worst_line};
+ghost use Rattle.cpg_table.specs.Writing.{row_for};
 
 use crate::sheet::{Sheet, SheetPart, write_sheet};
 use cpg_base::{Item, Order, OutOfMemory, Problem};
 use cpg_codec::WriteFault;
+use cpg_cube::Entry;
 use cpg_io::Sink;
 use cpg_label::{Labels, write_act};
 use cpg_rules::Admitted;
-use cpg_run::Built;
-use cpg_table::Tables;
+use cpg_table::Row;
 use std::alloc::{AllocError, Global};
 
 /// Whether an item is started or sent.
@@ -80,27 +81,37 @@ fn head_line_of(
     Ok(line)
 }
 
+/// The columns of an item; none if it has no row.
+fn columns_of(rows: &[Row], item: u32) -> &[Entry]
+    ensures { result.now ≡ (row_for rows.now item).columns }
+{
+    match rows.get(item as usize) {
+        Some(row) => row.entries(),
+        None => &[],
+    }
+}
+
 /// The rows of what is started and sent, by number of the item.
-fn rows_of<'a>(
+fn parts_of<'a>(
     alloc: Global,
     problem: &Problem,
     labels: &Labels<'_>,
-    tables: &'a Tables,
+    rows: &'a [Row],
 ) -> Result<Vec<SheetPart<'a>>, OutOfMemory>
     requires { labels.now ≡ labels_of problem.now }
-    ensures { IfOk result (λ parts. flat_map (part_text labels.now) parts.items ≡ flat_map (item_text problem.now tables.entry.now.nodes)
+    ensures { IfOk result (λ parts. flat_map (part_text labels.now) parts.items ≡ flat_map (lines_of_row problem.now rows.entry.now)
         (numbers_below (item_count problem.now))) }
 {
-    let mut rows = Vec::new(alloc);
+    let mut parts = Vec::new(alloc);
     for item in 0..problem.item_count() {
         if is_shown(problem, item) {
-            rows.push(SheetPart {
+            parts.push(SheetPart {
                 head: head_line_of(alloc, problem, labels, item)?,
-                columns: tables.columns_of(item),
+                columns: columns_of(rows, item),
             })?;
         }
     }
-    Ok(rows)
+    Ok(parts)
 }
 
 /// The order, and the greatest finish in time units.
@@ -123,14 +134,15 @@ fn front_of(
 fn sheet_of<'a>(
     alloc: Global,
     problem: &'a Problem,
-    built: &'a Built,
     order: &Order,
+    rows: &'a [Row],
+    worst: u64,
 ) -> Result<Sheet<'a>, OutOfMemory>
-    ensures { IfOk result (λ sheet. sheet_text sheet ≡ table_text problem.entry.now order.now built.entry.now.tables.nodes built.entry.now.worst) }
+    ensures { IfOk result (λ sheet. sheet_text sheet ≡ text_of_rows problem.entry.now order.now rows.entry.now worst) }
 {
     let labels = Labels::of(alloc, problem)?;
-    let front = front_of(alloc, &labels, order.processes(), built.worst)?;
-    let parts = rows_of(alloc, problem, &labels, &built.tables)?;
+    let front = front_of(alloc, &labels, order.processes(), worst)?;
+    let parts = parts_of(alloc, problem, &labels, rows)?;
     Ok(Sheet {
         labels,
         front,
@@ -138,27 +150,27 @@ fn sheet_of<'a>(
     })
 }
 
-/// Writes the order, the greatest finish in time units, and the rows of what is started and sent, by number of the item.
-/// Of tables that weren't made for the graph it writes the rows of its items, and leaves out names that it doesn't have.
+/// Writes the order, the greatest finish in time units, and the rows of what is started and sent, by number of the item: the text of
+/// the tables that have these rows. An item beyond them has no columns, and names that the graph doesn't have are left out.
 ///
 /// `Failed` only if the sink's count of faults rose. The sink has taken a proper prefix of the text then. On
 /// `OutOfMemory` the sink is as it was.
 pub fn write_table<O: Sink>(
     alloc: Global,
     admitted: &Admitted,
-    built: &Built,
     order: &Order,
+    rows: &[Row],
+    worst: u64,
     sink: &mut O,
 ) -> Result<(), WriteFault>
-    ensures whole { OnOk result (Took (O.state sink.old).taken (O.state sink.new).taken
-        (table_text admitted.now.graph order.now built.now.tables.nodes built.now.worst)) }
+    ensures whole { OnOk result (Took (O.state sink.old).taken (O.state sink.new).taken (text_of_rows admitted.now.graph order.now rows.now worst)) }
     ensures part { result ≡ Err WriteFault.Failed →
-        TookPrefix (O.state sink.old).taken (O.state sink.new).taken (table_text admitted.now.graph order.now built.now.tables.nodes built.now.worst) }
+        TookPrefix (O.state sink.old).taken (O.state sink.new).taken (text_of_rows admitted.now.graph order.now rows.now worst) }
     ensures kept { OnOk result ((O.state sink.new).faults ≡ (O.state sink.old).faults) }
     ensures cause { result ≡ Err WriteFault.Failed → Rose (O.state sink.old).faults (O.state sink.new).faults }
     ensures same { result ≡ Err WriteFault.OutOfMemory → sink.new ≡ sink.old }
     ensures later { (O.state sink.old).faults ≤ (O.state sink.new).faults }
 {
-    let sheet = sheet_of(alloc, admitted.problem(), built, order)?;
+    let sheet = sheet_of(alloc, admitted.problem(), order, rows, worst)?;
     write_sheet(alloc, &sheet, sink)
 }

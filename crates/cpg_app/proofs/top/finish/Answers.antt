@@ -4,7 +4,7 @@ use Rattle.cpg_show.specs.NodeText.{node_text}
 use Rattle.cpg_inputs.proofs.Keeping.{keeps_same}
 use Rattle.cpg_app.specs.declared.output.Output.TheVariants.{Lines, Table as Shown, NodeTable as OfNode, Pack}
 use Rattle.cpg_app.specs.Endings.{Has, Prints, Ran, seen}
-use Rattle.cpg_app.specs.Outputs.{Answers, shown}
+use Rattle.cpg_app.specs.Outputs.{Answers, shown_by}
 use Rattle.cpg_outputs.specs.Told.{IsWritten, sent}
 use Rattle.cpg_app.proofs.Answered.{followed_lawful, halt_named, is_open, may_follow}
 use Rattle.cpg_app.proofs.Finished.{stopped_lawful, written_lawful}
@@ -65,8 +65,8 @@ returns-in-Ok-Table-clause-lawful g c words start at =
     let has : Has r at.command at.has.values = record { words = at.words; reads = at.has.reads } in
     let puts = text_of at.command at.has.values (Shown c.in-Ok-Table.made) tt
     (subst (Answers at.command at.has.values) c.in-Ok-Table.field-0-is (c.in-Ok-Table.ensures.output at.command at.has.values at.has.are)) in
-    let prints : Prints r (shown c.in-Ok-Table.made.admitted.graph c.in-Ok-Table.made.compiled) = record { command = at.command; values = at.has.values; has = has; puts = puts } in
-    written_lawful r (shown c.in-Ok-Table.made.admitted.graph c.in-Ok-Table.made.compiled) c.put_tables.result prints (c.put_tables.ensures) c.end-in-Ok-Table.ensures
+    let prints : Prints r (shown_by c.in-Ok-Table.made.admitted.graph c.in-Ok-Table.made.rows) = record { command = at.command; values = at.has.values; has = has; puts = puts } in
+    written_lawful r (shown_by c.in-Ok-Table.made.admitted.graph c.in-Ok-Table.made.rows) c.put_tables.result prints (c.put_tables.ensures) c.end-in-Ok-Table.ensures
 
 pub returns-in-Ok-NodeTable-clause-lawful : goal.returns-in-Ok-NodeTable-clause-lawful
 returns-in-Ok-NodeTable-clause-lawful g c words start at =

@@ -4,9 +4,9 @@ use Rattle.cpg_app.proofs.work.pack_of.Goals as goal
 pub returns-clause-pack : goal.returns-clause-pack
 returns-clause-pack c =
     record {
-      compiled = c.in_ok-made.made.compiled;
-      compilation = c.in_ok-made.ensures.compiled;
-      pack = c.in_ok-made.ensures.pack;
-      safe = c.in_ok-made.ensures.safe;
+      compiled = c.in_ok-compiled.compiled;
+      compilation = c.in_ok-compiled.ensures.compiled;
+      pack = c.in_ok-compiled.ensures.pack;
+      safe = c.in_ok-compiled.ensures.safe;
       spelled = refl;
     }

@@ -1,14 +1,5 @@
-use Rattle.std.proofs.Common.{ap}
-use Rattle.cpg_app.specs.Outputs.{shown}
+use Rattle.cpg_app.proofs.Listed.{shown_of_rows}
 use Rattle.cpg_app.proofs.work.text_of.Goals as goal
 
-pub returns-clause-text : goal.returns-clause-text
-returns-clause-text c =
-    let made = c.in_ok-made.made.compiled in
-    record {
-      compiled = made;
-      compilation = c.in_ok-made.ensures.compiled;
-      pack = c.in_ok-made.ensures.pack;
-      safe = c.in_ok-made.ensures.safe;
-      spelled = ap (λ x. shown x.graph made) c.in_ok-made.ensures.same;
-    }
+pub returns-in-Ok-clause-text : goal.returns-in-Ok-clause-text
+returns-in-Ok-clause-text c = shown_of_rows c.args.admitted c.problem-graph.ensures.admitted.well_formed (rw c.problem-graph.ensures.problem at c.head_is_lawful.ensures) c.in-Ok.rows c.in-Ok.ensures.rows

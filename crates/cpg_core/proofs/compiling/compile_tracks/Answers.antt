@@ -3,18 +3,18 @@ use Rattle.cpg_order.specs.Urgency.{IsTopological, first_order}
 use Rattle.cpg_reach.specs.Wide.{IsNarrow}
 use Rattle.cpg_expand.specs.GrownFor.{IsGrownFor}
 use Rattle.cpg_core.specs.Compiled.{IsCompileOrder}
-use Rattle.cpg_core.proofs.Compilations.{made}
 use Rattle.cpg_core.proofs.Figures.{tracked_in_time}
+use Rattle.cpg_core.proofs.RowsCompiled.{compiled_rows}
 use Rattle.cpg_core.proofs.compiling.compile_tracks.Goals as goal
 
-pub tables_of_tracks-requires-clause-topological : goal.tables_of_tracks-requires-clause-topological
-tables_of_tracks-requires-clause-topological c = subst (IsTopological c.args.admitted.now.graph) (sym c.in_ok-grown.ensures.same) c.requires.topological
+pub build-requires-clause-topological : goal.build-requires-clause-topological
+build-requires-clause-topological c = subst (IsTopological c.args.admitted.now.graph) (sym c.in_ok-grown.ensures.same) c.requires.topological
 
-pub tables_of_tracks-requires-clause-narrow : goal.tables_of_tracks-requires-clause-narrow
-tables_of_tracks-requires-clause-narrow c = subst (IsNarrow c.args.admitted.now.graph) (sym c.in_ok-grown.ensures.same) c.requires.narrow
+pub build-requires-clause-narrow : goal.build-requires-clause-narrow
+build-requires-clause-narrow c = subst (IsNarrow c.args.admitted.now.graph) (sym c.in_ok-grown.ensures.same) c.requires.narrow
 
-pub tables_of_tracks-requires-clause-grown : goal.tables_of_tracks-requires-clause-grown
-tables_of_tracks-requires-clause-grown c =
+pub build-requires-clause-grown : goal.build-requires-clause-grown
+build-requires-clause-grown c =
     subst (λ order. IsGrownFor c.args.admitted.now.graph c.args.admitted.now.order order c.in_ok-grown.grown) (sym c.in_ok-grown.ensures.same) c.in_ok-grown.ensures
 
 pub returns : goal.returns
@@ -25,5 +25,5 @@ returns c =
     let top : IsTopological g (first_order g urgency) = rw c.first_order-order.ensures.order at c.first_order-order.ensures.topological in
     let zero = tracked_in_time g a.well_formed urgency a.topological top c.args.order c.requires.topological c.in_ok-grown.grown c.in_ok-grown.ensures 0 c.requires.in_time.0 c.requires.in_time.1
     refl in
-    made g a.well_formed urgency a.topological top c.requires.first a.joins a.urgency c.in_ok-grown.grown c.in_ok-compiled.compiled c.in_ok-compiled.ensures zero
+    compiled_rows g urgency c.args.admitted.now.guards a top c.requires.first c.in_ok-grown.grown c.in_ok-rows.rows c.in_ok-rows.ensures.rows c.in_ok-rows.ensures.measures.0 zero
     (subst (IsCompileOrder g urgency) (sym c.in_ok-grown.ensures.same) c.requires.taken)

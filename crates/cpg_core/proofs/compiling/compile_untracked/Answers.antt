@@ -1,20 +1,20 @@
 use Rattle.std.proofs.Common.{◌≡◌, sym, subst, inl, inr, arith}
 use Rattle.cpg_order.specs.Urgency.{IsTopological, first_order}
 use Rattle.cpg_core.specs.Compiled.{IsCompileOrder}
-use Rattle.cpg_core.proofs.Compilations.{made}
 use Rattle.cpg_core.proofs.Figures.{grown_many}
+use Rattle.cpg_core.proofs.RowsCompiled.{compiled_rows}
 use Rattle.cpg_core.proofs.compiling.compile_untracked.Goals as goal
 
 pub late-requires-clause-helpless : goal.late-requires-clause-helpless
 late-requires-clause-helpless c = inr (inl c.requires)
 
-pub returns-clause-compiled : goal.returns-clause-compiled
-returns-clause-compiled c =
+pub returns-clause-rows : goal.returns-clause-rows
+returns-clause-rows c =
     let g = c.args.admitted.now.graph in
     let urgency = c.args.admitted.now.order in
     let a = c.first_order-order.ensures.admitted in
     let top : IsTopological g (first_order g urgency) = rw c.first_order-order.ensures.order at c.first_order-order.ensures.topological in
     let zero : c.in_ok-first.first.excess.time ≡ 0 = omega (arith, c.if-first-gt0.false) in
     let is = grown_many g a.well_formed urgency a.topological top c.in_ok-first.first c.in_ok-first.ensures.grown c.in_ok-first.ensures.narrow c.requires in
-    made g a.well_formed urgency a.topological top c.in_ok-first.ensures.narrow a.joins a.urgency c.in_ok-first.first c.in_ok-compiled.compiled c.in_ok-compiled.ensures.made zero
+    compiled_rows g urgency c.args.admitted.now.guards a top c.in_ok-first.ensures.narrow c.in_ok-first.first c.in_ok-rows.rows c.in_ok-rows.ensures.rows c.in_ok-rows.ensures.excess zero
     (subst (IsCompileOrder g urgency) (sym c.in_ok-first.ensures.grown.same) is.taken)

@@ -1,8 +1,29 @@
-use Rattle.std.proofs.Common.{sym}
+use Rattle.std.proofs.Common.{◌≡◌, ◌∙◌, subst, sym}
+use Rattle.cpg_order.specs.Urgency.{IsTopological}
+use Rattle.cpg_run.specs.Built.{IsBuiltFor}
+use Rattle.cpg_expand.proofs.RowsBuilt.{assembled, built_writable}
 use Rattle.cpg_expand.proofs.expanding.expand.Goals as goal
 
 pub build-requires-clause-narrow : goal.build-requires-clause-narrow
 build-requires-clause-narrow c = rw (sym c.in_ok-grown.ensures.grown.same) at c.in_ok-grown.ensures.narrow
+
+pub assemble-requires : goal.assemble-requires
+assemble-requires c =
+    let g = c.args.admitted.now.graph in
+    let grown = c.in_ok-grown.grown in
+    let same : grown.order ≡ c.args.order.now = c.in_ok-grown.ensures.grown.same ∙ c.in_ok-copy.ensures in
+    built_writable g c.args.admitted.now.order c.args.admitted.now.guards c.problem-problem.ensures.admitted grown.order (subst (IsTopological g) (sym same) c.requires.topological)
+    c.in_ok-rows.rows c.in_ok-rows.ensures.rows
+
+pub returns-clause-built : goal.returns-clause-built
+returns-clause-built c =
+    let g = c.args.admitted.now.graph in
+    let urgency = c.args.admitted.now.order in
+    let grown = c.in_ok-grown.grown in
+    let same : grown.order ≡ c.args.order.now = c.in_ok-grown.ensures.grown.same ∙ c.in_ok-copy.ensures in
+    subst (λ o. IsBuiltFor g urgency o c.in_ok-built.built) same
+    (assembled g urgency c.args.admitted.now.guards c.problem-problem.ensures.admitted grown.order (subst (IsTopological g) (sym same) c.requires.topological)
+    c.in_ok-rows.rows c.in_ok-rows.ensures.rows c.in_ok-built.built c.in_ok-built.ensures)
 
 pub returns-clause-narrow : goal.returns-clause-narrow
 returns-clause-narrow c = rw c.in_ok-copy.ensures at c.in_ok-grown.ensures.narrow

@@ -2,7 +2,7 @@ use Rattle.std.proofs.Common.{◌≡◌, subst, arith}
 use Rattle.cpg_order.specs.Urgency.{first_order}
 use Rattle.cpg_core.specs.Accepted.{order_taken}
 use Rattle.cpg_core.specs.Compiled.{IsMeasured}
-use Rattle.cpg_core.proofs.compiling.compile.Goals as goal
+use Rattle.cpg_core.proofs.compiling.compile_rows.Goals as goal
 
 pub shown_late-requires-clause-late : goal.shown_late-requires-clause-late
 shown_late-requires-clause-late c = (c.in_ok-taken.ensures.late c.if-taken-gt0.true).0

@@ -1,0 +1,20 @@
+use Rattle.std.proofs.Common.{All, subst}
+use Rattle.std.proofs.lemmas.List.Elements.{All-get_or, All-map}
+use Rattle.cpg_base.specs.Graph.{process_at, process_count}
+use Rattle.cpg_base.specs.Name.{IsName}
+use Rattle.cpg_base.specs.Numbers.{numbers_below}
+use Rattle.cpg_base.specs.declared.process.Process.{Process}
+use Rattle.cpg_head.specs.GraphHead.{head_process}
+use Rattle.cpg_head.proofs.HeadWithin.{All-below, head_within}
+use Rattle.cpg_app.proofs.heads.head_is_lawful.Goals as goal
+
+pub returns : goal.returns
+returns c =
+    let g = c.args.graph.now in
+    let named : All (λ (p : Process). IsName p.name) g.processes = subst (All (λ (p : Process). IsName p.name)) c.processes.ensures.processes c.processes_are_named.ensures in
+    record {
+      within = head_within g c.nodes.ensures.within;
+      nodes = subst (All IsName) c.nodes.ensures.nodes c.nodes_are_named.ensures;
+      processes = All-map (λ p. IsName p.name) (head_process g) (numbers_below (process_count g))
+          (All-below (λ p. IsName (process_at g p).name) (process_count g) (λ p l. All-get_or (λ (q : Process). IsName q.name) g.processes p _ l named));
+    }

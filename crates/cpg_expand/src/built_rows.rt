@@ -1,0 +1,53 @@
+//! The rows that tables are assembled of.
+ghost use Rattle.std.specs.Prelude.{IfOk};
+ghost use Rattle.cpg_expand.specs.BuiltRows.{IsAssembledOf};
+ghost use Rattle.cpg_table.specs.Writing.{AreWritable};
+
+use crate::measuring::Peak;
+use cpg_base::{Order, OutOfMemory};
+use cpg_rules::Admitted;
+use cpg_run::{Built, FrozenTimes};
+use cpg_table::{Row, tables_of};
+use std::alloc::Global;
+
+/// All that is built under an order but its tables, which repeat a row for each node that hears its item.
+#[derive(Drop)]
+pub struct BuiltRows {
+    /// The order.
+    pub order: Order,
+    /// The row of each item, by number.
+    pub rows: Vec<Row>,
+    /// The times of frozen items.
+    pub frozen: FrozenTimes,
+    /// The greatest finish of all runs, in time units, with its first scenario by the urgency order.
+    pub worst: Peak,
+    /// The greatest excess of all runs, likewise.
+    pub excess: Peak,
+}
+
+impl BuiltRows {
+    /// The tables of the rows, with the frozen times and the measures.
+    pub fn assemble(self, alloc: Global, admitted: &Admitted) -> Result<Built, OutOfMemory>
+        requires { AreWritable admitted.now.graph self.rows.items }
+        ensures { IfOk result (IsAssembledOf admitted.now.graph self) }
+    {
+        let BuiltRows {
+            rows,
+            frozen,
+            worst,
+            excess,
+            ..
+        } = self;
+        let tables = tables_of(alloc, admitted.problem(), rows)?;
+        Ok(Built {
+            tables,
+            frozen,
+            worst: worst.time,
+            worst_in: worst.scenario,
+            worst_by: worst.process,
+            excess: excess.time,
+            excess_in: excess.scenario,
+            excess_by: excess.process,
+        })
+    }
+}
