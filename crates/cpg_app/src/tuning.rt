@@ -1,7 +1,5 @@
 //! The tuning that a command asks for.
-ghost use Rattle.std.specs.Prelude.{◌≡◌, ◌≢◌, All, IfOk, IfErr, IfSome, IfNone, None, string_bytes};
-ghost use Rattle.cpg_order.specs.Urgency.{first_order};
-ghost use Rattle.cpg_reach.specs.Wide.{IsLeastWide, IsNarrow};
+ghost use Rattle.std.specs.Prelude.{◌≡◌, All, IfOk, IfErr, string_bytes};
 ghost use Rattle.cpg_rules.specs.Admission.{IsAdmitted};
 ghost use Rattle.cpg_tune.specs.Tuned.{IsTuning};
 ghost use Rattle.cpg_tune.specs.RetunedLaws.{ShowsNoFault};
@@ -14,7 +12,6 @@ use crate::output::Output;
 use cpg_base::{OutOfMemory, Problem};
 use cpg_core::{CompileFault, greatest_finish};
 use cpg_outputs::tuning_text;
-use cpg_reach::too_wide;
 use cpg_refusal::Halt;
 use cpg_rules::{Admitted, RuleFault, admit};
 use cpg_tune::{Judge, Judged, Tuned, tune};
@@ -35,29 +32,12 @@ fn admit_again(alloc: Global, problem: &Problem) -> Result<Admitted, OutOfMemory
     }
 }
 
-/// The least item that is too wide by its views under the order that a graph gives. A graph that gives no order isn't examined
-/// here: its compile reports such an item.
-fn wide_as_given(alloc: Global, admitted: &Admitted) -> Result<Option<u32>, OutOfMemory>
-    ensures some { IfOk result (λ found. IfSome found (IsLeastWide admitted.now.graph (first_order admitted.now.graph admitted.now.order))) }
-    ensures none { IfOk result (λ found. IfNone found
-        (admitted.now.graph.order ≢ None → IsNarrow admitted.now.graph (first_order admitted.now.graph admitted.now.order))) }
-{
-    if admitted.given().is_none() {
-        return Ok(None);
-    }
-    let found = too_wide(alloc, admitted, admitted.first_order())?;
-    Ok(found)
-}
-
 /// The answer for an admitted graph.
 fn compile_answer(alloc: Global, admitted: &Admitted) -> Result<Judged, OutOfMemory>
     ensures { IfOk result (IsCompileAnswer admitted.now.graph admitted.now.order) }
 {
     // its clause tells that the graph is admitted
     let _order = admitted.first_order();
-    if let Some(item) = wide_as_given(alloc, admitted)? {
-        return Ok(Judged::Wide(item));
-    }
     match greatest_finish(alloc, admitted) {
         Ok(finish) => Ok(Judged::Worst(finish)),
         Err(CompileFault::TooWide(item)) => Ok(Judged::Wide(item)),

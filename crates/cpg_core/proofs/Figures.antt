@@ -9,9 +9,12 @@ use Rattle.cpg_tracks.specs.Tracks.{HasManyTracks, HasTrackOrder}
 use Rattle.cpg_expand.specs.GrownFor.{IsGrownFor}
 use Rattle.cpg_expand.specs.declared.expanding.Grown.{Grown}
 use Rattle.cpg_latest.specs.Laws.{HasFigures}
-use Rattle.cpg_core.specs.Accepted.{IsAccepted, IsTaken, order_taken}
+use Rattle.cpg_core.specs.Accepted.{IsAccepted, IsTaken, ShowsNoFinish, order_taken}
+use Rattle.cpg_core.specs.Compilation.{ShowsCompileFault}
 use Rattle.cpg_core.specs.Compiled.{IsBetter, IsLateUnder, IsMeasured}
 use Rattle.cpg_core.specs.declared.choosing.TakenOrder.{TakenOrder}
+use Rattle.cpg_core.specs.declared.fault.CompileFault.{CompileFault}
+use Rattle.cpg_core.specs.declared.fault.CompileFault.TheVariants.{TooWide, Late, OutOfMemory}
 use Rattle.cpg_core.proofs.Compilations.{found_measured}
 use Rattle.cpg_core.proofs.CompiledLaws.{not_preferred_given, not_preferred_many, not_preferred_wide, not_preferred_worse, one_measure, preferred}
 use Rattle.cpg_core.proofs.MeasuredFrom.{measured_from}
@@ -55,13 +58,13 @@ module _ (g : Graph) (w : WellFormed g) (urgency : List ℕ) (top : IsTopologica
       late = λ l. ((e, v, own, l), inr (inr (order, track, inl (x, wide))));
     }
 
-    module _ (order : List ℕ) (track : HasTrackOrder g order) (order_top : IsTopological g order) (own_narrow : IsNarrow g order) (f u : ℕ) (figures : HasFigures g order f u) where
+    module _ (order : List ℕ) (track : HasTrackOrder g order) (order_top : IsTopological g order) (f u : ℕ) (figures : HasFigures g order f u) where
       other : IsMeasured g urgency order f u
       other = figures_measure g w urgency order order_top f u figures
 
       pub first_better : (IsBetter f u e v → ⊥) → IsTaken g urgency by_first
       first_better worse = record {
-        taken = inr (refl, not_preferred_worse g w urgency top first_top narrow e v own order track own_narrow f u other worse);
+        taken = inr (refl, not_preferred_worse g w urgency top first_top narrow e v own order track f u other worse);
         measured = own;
         topological = tt;
         narrow = tt;
@@ -84,9 +87,9 @@ module _ (g : Graph) (w : WellFormed g) (urgency : List ℕ) (top : IsTopologica
       }
 
       -- the track order is
-      pub tracks_better : g.order ≡ None → IsBetter f u e v → IsTaken g urgency (record { figures = record { excess = f; worst = u }; order = Some order })
-      tracks_better ungiven better = record {
-        taken = inl (preferred g w urgency top first_top narrow e v own order track own_narrow f u other ungiven better);
+      pub tracks_better : IsNarrow g order → g.order ≡ None → IsBetter f u e v → IsTaken g urgency (record { figures = record { excess = f; worst = u }; order = Some order })
+      tracks_better own_narrow ungiven better = record {
+        taken = inl (preferred g w urgency top first_top narrow e v own order track f u other own_narrow ungiven better);
         measured = other;
         topological = order_top;
         narrow = own_narrow;
@@ -97,8 +100,8 @@ module _ (g : Graph) (w : WellFormed g) (urgency : List ℕ) (top : IsTopologica
       }
 
     -- the track order is the first one
-    pub first_same : g.order ≡ None → (order : List ℕ) → HasTrackOrder g order → order ≡ first_order g urgency → IsTaken g urgency by_first
-    first_same ungiven order track same = first_better (first_order g urgency) (subst (HasTrackOrder g) same track) first_top (narrow ungiven) e v first
+    pub first_same : (order : List ℕ) → HasTrackOrder g order → order ≡ first_order g urgency → IsTaken g urgency by_first
+    first_same order track same = first_better (first_order g urgency) (subst (HasTrackOrder g) same track) first_top e v first
         (λ better. elim better [ inl less ↦ omega (arith, less) | inr earlier ↦ omega (arith, earlier.1) ])
 
   -- ---- what is found by the trees of the first order
@@ -136,3 +139,9 @@ accepted g urgency t narrow a e =
     let order = order_taken (first_order g urgency) t.order in
     let is : IsMeasured g urgency order 0 t.figures.worst = subst (λ n. IsMeasured g urgency order n t.figures.worst) e a.measured in
     record { order = order; compiled = record { narrow = narrow; taken = a.taken; in_time = (t.figures.worst, is) }; measured = is }
+
+-- why a graph in which no item is too wide isn't compiled is why it has no greatest finish
+pub no_finish : (g : Graph) (urgency : List ℕ) (fault : CompileFault) → IsNarrow g (first_order g urgency) → ShowsCompileFault g urgency fault → ShowsNoFinish g urgency fault
+no_finish g urgency (TooWide x) narrow shows = shows.0
+no_finish g urgency (Late scenario process finish) narrow shows = (narrow, shows)
+no_finish g urgency OutOfMemory narrow shows = tt

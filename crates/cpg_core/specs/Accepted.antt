@@ -1,10 +1,13 @@
 -- The compile's order by its figures, and what is said of a graph whose compile succeeds without its tables.
-use Rattle.std.specs.Prelude.{ℕ, ◌<◌, List, Option, Some, None, IfSome}
+use Rattle.std.specs.Prelude.{ℕ, ◌<◌, List, Option, Some, None, IfSome, ⊤}
 use Rattle.cpg_base.specs.Graph.{Graph}
 use Rattle.cpg_order.specs.Urgency.{IsTopological, first_order}
-use Rattle.cpg_reach.specs.Wide.{IsNarrow}
+use Rattle.cpg_reach.specs.Wide.{IsLeastWide, IsNarrow}
+use Rattle.cpg_core.specs.Compilation.{ShowsCompileFault}
 use Rattle.cpg_core.specs.Compiled.{IsCompileOrder, IsCompiled, IsHelpless, IsLateUnder, IsMeasured}
 use Rattle.cpg_core.specs.declared.choosing.TakenOrder.{TakenOrder}
+use Rattle.cpg_core.specs.declared.fault.CompileFault.{CompileFault}
+use Rattle.cpg_core.specs.declared.fault.CompileFault.TheVariants.{TooWide, Late, OutOfMemory}
 
 -- the track order where that is taken, and else the first order
 abbrev pub order_taken : List ℕ → Option (List ℕ) → List ℕ
@@ -25,3 +28,11 @@ pub record IsAccepted (g : Graph) (urgency : List ℕ) (worst : ℕ) : Type 0 wh
   pub order : List ℕ
   pub compiled : IsCompiled g urgency order
   pub measured : IsMeasured g urgency order 0 worst
+
+-- Why a graph has no greatest finish: the first item that is too wide by its views under the first order; or there is none, and the
+-- graph is late, as its compile shows.
+abbrev pub ShowsNoFinish : Graph → List ℕ → CompileFault → Type 0
+ShowsNoFinish g urgency (TooWide x) = IsLeastWide g (first_order g urgency) x
+ShowsNoFinish g urgency (Late scenario process finish) =
+    IsNarrow g (first_order g urgency) × ShowsCompileFault g urgency (CompileFault.Late scenario process finish)
+ShowsNoFinish g urgency OutOfMemory = ⊤

@@ -91,17 +91,17 @@ fn taken_of_tracks(
     if are_same(&order, first_order) {
         return Ok(TakenOrder::first(first));
     }
+    let figures = latest(alloc, admitted, &order, tracks)?;
+    if !is_better(&figures, &first) {
+        return Ok(TakenOrder::first(first));
+    }
     if let Some(_) = too_wide(alloc, admitted, &order)? {
         return Ok(TakenOrder::first(first));
     }
-    let figures = latest(alloc, admitted, &order, tracks)?;
-    if is_better(&figures, &first) {
-        return Ok(TakenOrder {
-            figures,
-            order: Some(order),
-        });
-    }
-    Ok(TakenOrder::first(first))
+    Ok(TakenOrder {
+        figures,
+        order: Some(order),
+    })
 }
 
 /// The compile's order with its figures, given the outcomes of a graph's tracks.

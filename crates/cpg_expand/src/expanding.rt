@@ -81,6 +81,19 @@ fn grow_with(
     Ok(grown)
 }
 
+/// As `grow`, if no item is too wide.
+pub fn grow_narrow(alloc: Global, admitted: &Admitted, order: Order) -> Result<Grown, OutOfMemory>
+    requires topological { IsTopological admitted.now.graph order }
+    requires narrow { IsNarrow admitted.now.graph order }
+    ensures { IfOk result (IsGrownFor admitted.now.graph admitted.now.order order) }
+{
+    match grow_with(alloc, admitted, order, None) {
+        Ok(grown) => Ok(grown),
+        Err(BuildFault::TooWide(_)) => unreachable!(),
+        Err(BuildFault::OutOfMemory) => Err(OutOfMemory),
+    }
+}
+
 /// The trees under an order, and how good it is. `TooWide` shows the least item whose row would have too many columns, before
 /// any tree is made.
 pub fn grow(alloc: Global, admitted: &Admitted, order: Order) -> Result<Grown, BuildFault>
@@ -92,7 +105,7 @@ pub fn grow(alloc: Global, admitted: &Admitted, order: Order) -> Result<Grown, B
     if let Some(item) = too_wide(alloc, admitted, &order)? {
         return Err(BuildFault::TooWide(item));
     }
-    let grown = grow_with(alloc, admitted, order, None)?;
+    let grown = grow_narrow(alloc, admitted, order)?;
     Ok(grown)
 }
 

@@ -26,5 +26,5 @@ mod waited;
 pub use activity::active_item;
 pub use bounding::leaf_limit_is_this;
 pub use built_rows::BuiltRows;
-pub use expanding::{Grown, expand, grow, grow_bounded};
+pub use expanding::{Grown, expand, grow, grow_bounded, grow_narrow};
 pub use measuring::Peak;

@@ -1,6 +1,6 @@
 -- Sets of variables by their marks.
 use Rattle.std.proofs.Common.{ℕ, ◌+◌, ◌<◌, ◌≤◌, ◌≡◌, ◌⊎◌, ◌==◌, Bool, true, false, ◌||◌, List, [], ◌∷◌, length, get_or, set, refl, sym, ap, ap₂, ◌∙◌, ⊎_elim, inl, inr, arith}
-use Rattle.std.proofs.lemmas.Bool.{cases_lt, both_ways, or_right}
+use Rattle.std.proofs.lemmas.Bool.{cases_lt, both_ways}
 use Rattle.std.proofs.lemmas.Bool.Decides.{eqb_tells}
 use Rattle.std.proofs.lemmas.List.{get_or-set_same, get_or-set_other, get_or_past}
 use Rattle.cpg_base.specs.Numbers.{numbers_below}
@@ -56,28 +56,20 @@ united_first old others = record { done = λ u l. absurd (omega arith); left = �
 below_next : (v u : ℕ) → u < v + 1 → (u < v) ⊎ (u ≡ v)
 below_next v u l = ⊎_elim (λ (k : u < v). inl k) (λ (k : v ≤ u). inr (omega arith)) (cases_lt u v)
 
-pub united_set : (old others marks : List Bool) (v : ℕ) → v < length marks → get_or others v false ≡ true → United old others marks v → United old others (set marks v true) (v + 1)
-united_set old others marks v l t h = record {
+pub united_next : (old others marks : List Bool) (v : ℕ) (mark : Bool) → v < length marks → mark ≡ (get_or marks v false || get_or others v false) →
+    United old others marks v → United old others (set marks v mark) (v + 1)
+united_next old others marks v mark l is h = record {
   done = λ u k. ⊎_elim
-      (λ (m : u < v). get_or-set_other marks v u true false (λ e. omega arith) ∙ h.done u m)
-      (λ (e : u ≡ v). ap (λ w. get_or (set marks v true) w false) e ∙ get_or-set_same marks v true false l ∙
-      sym (or_right (get_or old u false) (get_or others u false) (ap (λ w. get_or others w false) e ∙ t)))
+      (λ (m : u < v). get_or-set_other marks v u mark false (λ e. omega arith) ∙ h.done u m)
+      (λ (e : u ≡ v). ap (λ w. get_or (set marks v mark) w false) e ∙ get_or-set_same marks v mark false l ∙ is
+      ∙ ap (λ b. b || get_or others v false) (h.left v (omega arith)) ∙ ap (λ w. get_or old w false || get_or others w false) (sym e))
       (below_next v u k);
-  left = λ u k. get_or-set_other marks v u true false (λ e. omega arith) ∙ h.left u (omega arith);
+  left = λ u k. get_or-set_other marks v u mark false (λ e. omega arith) ∙ h.left u (omega arith);
 }
 
 or_nothing : (a b : Bool) → b ≡ false → (a || b) ≡ a
 or_nothing true b e = refl
 or_nothing false b e = e
-
-pub united_kept : (old others marks : List Bool) (v : ℕ) → get_or others v false ≡ false → United old others marks v → United old others marks (v + 1)
-united_kept old others marks v t h = record {
-  done = λ u k. ⊎_elim
-      (λ (m : u < v). h.done u m)
-      (λ (e : u ≡ v). h.left u (omega arith) ∙ sym (or_nothing (get_or old u false) (get_or others u false) (ap (λ w. get_or others w false) e ∙ t)))
-      (below_next v u k);
-  left = λ u k. h.left u (omega arith);
-}
 
 pub united_all : (old others marks : List Bool) (v : ℕ) → length others ≤ v → United old others marks v → (u : ℕ) → get_or marks u false ≡ (get_or old u false || get_or others u false)
 united_all old others marks v l h u = ⊎_elim

@@ -33,9 +33,7 @@ fn unite(marks: &mut [bool], others: &[bool])
     ensures { (v : ℕ) → get_or marks.new v false ≡ (get_or marks.old v false || get_or others.now v false) }
 {
     for variable in 0..marks.len() {
-        if others[variable] {
-            marks[variable] = true;
-        }
+        marks[variable] |= others[variable];
     }
 }
 

@@ -3,8 +3,8 @@ use Rattle.cpg_order.specs.Urgency.{IsTopological, first_order}
 use Rattle.cpg_core.proofs.Figures.{accepted, grown_many}
 use Rattle.cpg_core.proofs.worst.grown_finish.Goals as goal
 
-pub late-requires-clause-helpless : goal.late-requires-clause-helpless
-late-requires-clause-helpless c = inr (inl c.requires)
+pub late_narrow-requires-clause-helpless : goal.late_narrow-requires-clause-helpless
+late_narrow-requires-clause-helpless c = inr (inl c.requires.many)
 
 pub returns-clause-accepted : goal.returns-clause-accepted
 returns-clause-accepted c =
@@ -12,5 +12,5 @@ returns-clause-accepted c =
     let urgency = c.args.admitted.now.order in
     let a = c.first_order-order.ensures.admitted in
     let top : IsTopological g (first_order g urgency) = rw c.first_order-order.ensures.order at c.first_order-order.ensures.topological in
-    accepted g urgency (record { figures = record { excess = c.in_ok-first.first.excess.time; worst = c.in_ok-first.first.worst.time }; order = None }) c.in_ok-first.ensures.narrow
-    (grown_many g a.well_formed urgency a.topological top c.in_ok-first.first c.in_ok-first.ensures.grown c.in_ok-first.ensures.narrow c.requires) (omega (arith, c.if-first-gt0.false))
+    accepted g urgency (record { figures = record { excess = c.in_ok-first.first.excess.time; worst = c.in_ok-first.first.worst.time }; order = None }) (λ _. c.requires.narrow)
+    (grown_many g a.well_formed urgency a.topological top c.in_ok-first.first c.in_ok-first.ensures (λ _. c.requires.narrow) c.requires.many) (omega (arith, c.if-first-gt0.false))
