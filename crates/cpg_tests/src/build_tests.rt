@@ -1,8 +1,9 @@
 //! The pair, built over all scenarios, worked by hand, and both builders on a graph of two nodes with a
 //! choice, two faults, releases, deadlines and frozen items.
 
+use crate::claims::{Claim, holds};
 use crate::columns::are_rows;
-use crate::fixtures::{MIXED, PAIR, admitted};
+use crate::fixtures::{MIXED, PAIR};
 use crate::list_tests::listed;
 use cpg_all_runs::has_few_scenarios;
 use cpg_base::Scenario;
@@ -12,7 +13,6 @@ use cpg_rules::Admitted;
 use cpg_run::Built;
 use cpg_table::{NodeTable, Row};
 use std::alloc::Global;
-use std::test::Fail;
 
 /// What is built under the urgency order over all scenarios.
 #[tactic(auto, using(crate::proofs::Unfrozen::urgent_topological))]
@@ -57,19 +57,17 @@ fn has_rows(built: &Built) -> bool {
     are_rows(first.sends(), &[sent.as_slice()]) && are_rows(second.hears(), &[heard.as_slice()])
 }
 
-fn is_pair(built: Option<&Built>) -> bool {
-    match built {
-        Some(built) => has_peaks(built) && has_rows(built),
+/// Whether what is built of a graph by lists is what the pair has.
+pub fn is_pair(alloc: Global, admitted: &Admitted) -> bool {
+    match built_by_list(alloc, admitted) {
+        Some(built) => has_peaks(&built) && has_rows(&built),
         None => false,
     }
 }
 
 #[test]
-fn the_pair_is_listed(rt: HostRuntime) -> Result<(), Fail> {
-    let admitted = admitted(rt.alloc(), PAIR)?;
-    let built = built_by_list(rt.alloc(), &admitted);
-    assert!(rt; is_pair(built.as_ref()));
-    Ok(())
+fn the_pair_is_listed(rt: HostRuntime) {
+    assert!(rt; holds(rt.alloc(), PAIR, Claim::Pair));
 }
 
 /// The time that a row has in a scenario.
@@ -124,29 +122,38 @@ fn are_measured_alike(first: &Built, second: &Built) -> bool {
 }
 
 /// Whether what two builders answer has the same measures, and the same times in each of these scenarios.
-fn agree(first: Option<&Built>, second: Option<&Built>, scenarios: &[Scenario]) -> bool {
-    match (first, second) {
-        (Some(first), Some(second)) => {
-            are_measured_alike(first, second)
-                && scenarios
-                    .iter()
-                    .all(|scenario| agree_in(first, second, scenario))
-        }
-        _ => false,
+fn agree(first: &Built, second: &Built, scenarios: &[Scenario]) -> bool {
+    are_measured_alike(first, second)
+        && scenarios
+            .iter()
+            .all(|scenario| agree_in(first, second, scenario))
+}
+
+/// Whether trees tell the same in these scenarios.
+fn trees_agree(alloc: Global, admitted: &Admitted, scenarios: &[Scenario], listed: &Built) -> bool {
+    match built_by_trees(alloc, admitted) {
+        Some(built) => agree(listed, &built, scenarios),
+        None => false,
     }
 }
 
 /// Whether both builders tell the same in these scenarios.
-fn builders_agree(alloc: Global, admitted: &Admitted, scenarios: &[Scenario]) -> bool {
-    let first = built_by_list(alloc, admitted);
-    let second = built_by_trees(alloc, admitted);
-    agree(first.as_ref(), second.as_ref(), scenarios)
+fn builders_agree_in(alloc: Global, admitted: &Admitted, scenarios: &[Scenario]) -> bool {
+    match built_by_list(alloc, admitted) {
+        Some(built) => trees_agree(alloc, admitted, scenarios, &built),
+        None => false,
+    }
+}
+
+/// Whether both builders tell the same of a graph in all scenarios.
+pub fn builders_agree(alloc: Global, admitted: &Admitted) -> bool {
+    match listed(alloc, admitted) {
+        Ok(scenarios) => builders_agree_in(alloc, admitted, scenarios.as_slice()),
+        Err(_) => false,
+    }
 }
 
 #[test]
-fn trees_tell_what_lists_tell(rt: HostRuntime) -> Result<(), Fail> {
-    let admitted = admitted(rt.alloc(), MIXED)?;
-    let scenarios = listed(rt.alloc(), &admitted)?;
-    assert!(rt; builders_agree(rt.alloc(), &admitted, scenarios.as_slice()));
-    Ok(())
+fn trees_tell_what_lists_tell(rt: HostRuntime) {
+    assert!(rt; holds(rt.alloc(), MIXED, Claim::Agreement));
 }

@@ -1,11 +1,9 @@
 //! Graphs as files have them, and tables as a pack.
-use cpg_base::Problem;
 use cpg_codec::read_pack;
 use cpg_reader::read_problem;
 use cpg_rules::{Admitted, admit};
-use cpg_table::NodeTable;
+use cpg_table::{NodeTable, Tables};
 use std::alloc::Global;
-use std::test::Fail;
 
 /// A sends B, on another node, a message, which is item 2, and one of them may fail once.
 pub const PAIR: &str = r#"faults = 1
@@ -86,14 +84,12 @@ edge = [
 ]
 "#;
 
-fn problem(alloc: Global, text: &str) -> Result<Problem, Fail> {
-    Ok(read_problem(alloc, text.as_bytes()).map_err(|_| "graph")?)
-}
-
-/// The graph of a text.
-pub fn admitted(alloc: Global, text: &str) -> Result<Admitted, Fail> {
-    let problem = problem(alloc, text)?;
-    Ok(admit(alloc, problem).ok().ok_or("graph")?)
+/// The graph of a text, if it is one and is admitted.
+pub fn admitted(alloc: Global, text: &str) -> Option<Admitted> {
+    match read_problem(alloc, text.as_bytes()) {
+        Ok(problem) => admit(alloc, problem).ok(),
+        Err(_) => None,
+    }
 }
 
 /// A, of at most one fault, is on the first node, and B on the second. The message is sent at 40 if A has no fault and at 80
@@ -106,10 +102,18 @@ const PACK: [u8; 147] = [
     1, 0, 2, 0, 0, 0, 0, 0, 0, 0, 50, 1, 0, 0, 0, 0, 0, 0, 0, 0, 0, 0, 90, 1, 0, 1, 1,
 ];
 
+/// The tables of the pack.
+fn tables(alloc: Global) -> Option<Tables> {
+    match Vec::from_slice(alloc, &PACK) {
+        Ok(bytes) => read_pack(alloc, bytes).ok(),
+        Err(_) => None,
+    }
+}
+
 /// The table of the second node.
-pub fn second_table(alloc: Global) -> Result<NodeTable, Fail> {
-    let bytes = Vec::from_slice(alloc, &PACK)?;
-    let tables = read_pack(alloc, bytes).map_err(|_| "pack")?;
-    let mut nodes = tables.into_nodes();
-    Ok(nodes.pop().ok_or("node")?)
+pub fn second_table(alloc: Global) -> Option<NodeTable> {
+    match tables(alloc) {
+        Some(tables) => tables.into_nodes().pop(),
+        None => None,
+    }
 }

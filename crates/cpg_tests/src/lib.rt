@@ -5,6 +5,8 @@
 #[cfg(test)]
 mod build_tests;
 #[cfg(test)]
+mod claims;
+#[cfg(test)]
 mod columns;
 #[cfg(test)]
 mod fixtures;

@@ -8,8 +8,9 @@ ghost use Rattle.cpg_all_runs.specs.FirstAlike.{AreFirstAlike};
 ghost use Rattle.cpg_all_runs.specs.Listing.{AreScenarios};
 ghost use Rattle.cpg_all_runs.specs.Runs.{AreRuns};
 
+use crate::claims::{Claim, holds};
 use crate::columns::{Column, are_rows};
-use crate::fixtures::{FROZEN, PAIR, admitted};
+use crate::fixtures::{FROZEN, PAIR};
 use cpg_all_runs::{
     Peak, excess, first_alike, frozen_times, has_few_scenarios, runs, scenarios, worst,
 };
@@ -20,7 +21,6 @@ use cpg_rules::Admitted;
 use cpg_run::{FrozenTimes, RunTimes};
 use cpg_table::Row;
 use std::alloc::Global;
-use std::test::Fail;
 
 /// All scenarios.
 pub fn listed(alloc: Global, admitted: &Admitted) -> Result<Vec<Scenario>, OutOfMemory>
@@ -34,83 +34,11 @@ pub fn listed(alloc: Global, admitted: &Admitted) -> Result<Vec<Scenario>, OutOf
     }
 }
 
-/// Which of all scenarios have equal runs.
-fn alike(
-    alloc: Global,
-    admitted: &Admitted,
-    scenarios: &[Scenario],
-) -> Result<Vec<usize>, OutOfMemory>
-    requires { AreScenarios admitted.now.graph scenarios.now }
-    ensures { IfOk result (λ firsts. AreFirstAlike admitted.now.graph scenarios.now firsts.items) }
-{
-    first_alike(alloc, admitted, scenarios)
-}
-
-/// The frozen times under the urgency order.
-#[tactic(auto, using(crate::proofs::Unfrozen::urgent_topological))]
-fn frozen_over(
-    alloc: Global,
-    admitted: &Admitted,
-    plan: &Plan,
-    scenarios: &[Scenario],
-) -> Result<FrozenTimes, OutOfMemory>
-    requires plan { plan.now ≡ plan_of admitted.now.graph }
-    requires scenarios { AreScenarios admitted.now.graph scenarios.now }
-    ensures frozen { IfOk result (λ frozen. AreFrozenTimes admitted.now.graph admitted.now.order frozen) }
-    ensures early { IfOk result (λ frozen. AreEarly frozen) }
-{
-    let firsts = alike(alloc, admitted, scenarios)?;
-    let (order, firsts) = (admitted.order(), firsts.as_slice());
-    let frozen = frozen_times(alloc, admitted, order, plan, scenarios, firsts)?;
-    Ok(frozen)
-}
-
-/// The runs under the frozen times.
-#[tactic(auto, using(crate::proofs::Unfrozen::urgent_topological))]
-fn runs_over(
-    alloc: Global,
-    admitted: &Admitted,
-    plan: &Plan,
-    frozen: &FrozenTimes,
-    scenarios: &[Scenario],
-) -> Result<Vec<RunTimes>, OutOfMemory>
-    requires plan { plan.now ≡ plan_of admitted.now.graph }
-    requires frozen { AreFrozenTimes admitted.now.graph admitted.now.order frozen.now }
-    requires early { AreEarly frozen.now }
-    requires scenarios { AreScenarios admitted.now.graph scenarios.now }
-    ensures { IfOk result (λ runs. AreRuns admitted.now.graph admitted.now.order frozen.now scenarios.now runs.items) }
-{
-    let firsts = alike(alloc, admitted, scenarios)?;
-    let (order, firsts) = (admitted.order(), firsts.as_slice());
-    let runs = runs(alloc, admitted, order, plan, frozen, scenarios, firsts)?;
-    Ok(runs)
-}
-
-/// The rows of the runs.
-#[tactic(auto, using(crate::proofs::Unfrozen::urgent_topological))]
-fn rows_over(
-    alloc: Global,
-    admitted: &Admitted,
-    plan: &Plan,
-    frozen: &FrozenTimes,
-    scenarios: &[Scenario],
-    runs: &[RunTimes],
-) -> Result<Vec<Row>, OutOfMemory>
-    requires plan { plan.now ≡ plan_of admitted.now.graph }
-    requires frozen { AreFrozenTimes admitted.now.graph admitted.now.order frozen.now }
-    requires early { AreEarly frozen.now }
-    requires scenarios { AreScenarios admitted.now.graph scenarios.now }
-    requires runs { AreRuns admitted.now.graph admitted.now.order frozen.now scenarios.now runs.now }
-{
-    let order = admitted.order();
-    rows(alloc, admitted, order, plan, frozen, scenarios, runs)
-}
-
 /// What a peak tells: its time, its process, how often B fails in its scenario, and how often all processes do.
-type Told = (u64, Option<u32>, u8, u32);
+pub type Told = (u64, Option<u32>, u8, u32);
 
 /// What is found of a graph.
-struct Found {
+pub struct Found {
     message: Option<u64>,
     worst: Told,
     excess: Told,
@@ -146,20 +74,99 @@ fn told(peak: &Peak) -> Told {
     )
 }
 
-/// Whether the peaks of runs are these.
-fn are_peaks(
+/// Whether the worst peak of runs is this.
+fn is_worst(
     alloc: Global,
     admitted: &Admitted,
     scenarios: &[Scenario],
     runs: &[RunTimes],
-    want: &Found,
-) -> Result<bool, OutOfMemory>
+    want: Told,
+) -> bool
     requires scenarios { AreScenarios admitted.now.graph scenarios.now }
     requires runs { length runs.now ≡ length scenarios.now }
 {
-    let worst = worst(alloc, admitted, scenarios, runs)?;
-    let excess = excess(alloc, admitted, scenarios, runs)?;
-    Ok(told(&worst) == want.worst && told(&excess) == want.excess)
+    match worst(alloc, admitted, scenarios, runs) {
+        Ok(peak) => told(&peak) == want,
+        Err(_) => false,
+    }
+}
+
+/// Whether the greatest excess of runs is this.
+fn is_excess(
+    alloc: Global,
+    admitted: &Admitted,
+    scenarios: &[Scenario],
+    runs: &[RunTimes],
+    want: Told,
+) -> bool
+    requires scenarios { AreScenarios admitted.now.graph scenarios.now }
+    requires runs { length runs.now ≡ length scenarios.now }
+{
+    match excess(alloc, admitted, scenarios, runs) {
+        Ok(peak) => told(&peak) == want,
+        Err(_) => false,
+    }
+}
+
+/// Whether the rows of runs are these.
+#[tactic(auto, using(crate::proofs::Unfrozen::urgent_topological))]
+fn has_rows(
+    alloc: Global,
+    admitted: &Admitted,
+    plan: &Plan,
+    frozen: &FrozenTimes,
+    scenarios: &[Scenario],
+    runs: &[RunTimes],
+    want: &[&[Column]],
+) -> bool
+    requires plan { plan.now ≡ plan_of admitted.now.graph }
+    requires frozen { AreFrozenTimes admitted.now.graph admitted.now.order frozen.now }
+    requires early { AreEarly frozen.now }
+    requires scenarios { AreScenarios admitted.now.graph scenarios.now }
+    requires runs { AreRuns admitted.now.graph admitted.now.order frozen.now scenarios.now runs.now }
+{
+    let order = admitted.order();
+    match rows(alloc, admitted, order, plan, frozen, scenarios, runs) {
+        Ok(rows) => are_rows(rows.as_slice(), want),
+        Err(_) => false,
+    }
+}
+
+/// Whether the runs under these frozen times have these peaks and rows.
+#[tactic(auto, using(crate::proofs::Unfrozen::urgent_topological))]
+fn has_runs(
+    alloc: Global,
+    admitted: &Admitted,
+    plan: &Plan,
+    frozen: &FrozenTimes,
+    scenarios: &[Scenario],
+    firsts: &[usize],
+    want: &Found,
+) -> bool
+    requires plan { plan.now ≡ plan_of admitted.now.graph }
+    requires frozen { AreFrozenTimes admitted.now.graph admitted.now.order frozen.now }
+    requires early { AreEarly frozen.now }
+    requires scenarios { AreScenarios admitted.now.graph scenarios.now }
+    requires firsts { AreFirstAlike admitted.now.graph scenarios.now firsts.now }
+{
+    let order = admitted.order();
+    match runs(alloc, admitted, order, plan, frozen, scenarios, firsts) {
+        Ok(runs) => {
+            let runs = runs.as_slice();
+            is_worst(alloc, admitted, scenarios, runs, want.worst)
+                && is_excess(alloc, admitted, scenarios, runs, want.excess)
+                && has_rows(
+                    alloc,
+                    admitted,
+                    plan,
+                    frozen,
+                    scenarios,
+                    runs,
+                    want.rows.as_slice(),
+                )
+        }
+        Err(_) => false,
+    }
 }
 
 /// Whether the start of A isn't frozen, and the message is at this time.
@@ -169,81 +176,80 @@ fn are_times(frozen: &FrozenTimes, message: Option<u64>) -> bool
     frozen.of(0).is_none() && frozen.of(2) == message
 }
 
-/// Whether each of three scenarios has a run of its own.
-fn are_unlike(
-    alloc: Global,
-    admitted: &Admitted,
-    scenarios: &[Scenario],
-) -> Result<bool, OutOfMemory>
-    requires { AreScenarios admitted.now.graph scenarios.now }
-{
-    let firsts = alike(alloc, admitted, scenarios)?;
-    Ok(firsts.as_slice() == [0, 1, 2].as_slice())
-}
-
-/// Whether the runs under these frozen times have these peaks and rows.
-fn are_runs(
+/// Whether the frozen times under the urgency order and the runs are so.
+#[tactic(auto, using(crate::proofs::Unfrozen::urgent_topological))]
+fn is_found_by_plan(
     alloc: Global,
     admitted: &Admitted,
     plan: &Plan,
-    frozen: &FrozenTimes,
     scenarios: &[Scenario],
+    firsts: &[usize],
     want: &Found,
-) -> Result<bool, OutOfMemory>
+) -> bool
+    requires items { item_count admitted.now.graph ≡ 3 }
     requires plan { plan.now ≡ plan_of admitted.now.graph }
-    requires frozen { AreFrozenTimes admitted.now.graph admitted.now.order frozen.now }
-    requires early { AreEarly frozen.now }
     requires scenarios { AreScenarios admitted.now.graph scenarios.now }
+    requires firsts { AreFirstAlike admitted.now.graph scenarios.now firsts.now }
 {
-    let runs = runs_over(alloc, admitted, plan, frozen, scenarios)?;
-    let rows = rows_over(alloc, admitted, plan, frozen, scenarios, runs.as_slice())?;
-    let peaks = are_peaks(alloc, admitted, scenarios, runs.as_slice(), want)?;
-    Ok(peaks && are_rows(rows.as_slice(), want.rows.as_slice()))
+    let order = admitted.order();
+    match frozen_times(alloc, admitted, order, plan, scenarios, firsts) {
+        Ok(frozen) => {
+            are_times(&frozen, want.message)
+                && has_runs(alloc, admitted, plan, &frozen, scenarios, firsts, want)
+        }
+        Err(_) => false,
+    }
 }
 
-/// Whether all that is found over these scenarios is so.
+/// Whether all that is found over these scenarios is so, each of which has a run of its own.
 fn is_found_over(
     alloc: Global,
     admitted: &Admitted,
     scenarios: &[Scenario],
+    firsts: &[usize],
     want: &Found,
-) -> Result<bool, OutOfMemory>
+) -> bool
+    requires items { item_count admitted.now.graph ≡ 3 }
+    requires scenarios { AreScenarios admitted.now.graph scenarios.now }
+    requires firsts { AreFirstAlike admitted.now.graph scenarios.now firsts.now }
+{
+    if firsts != [0, 1, 2].as_slice() {
+        return false;
+    }
+    match Plan::of(alloc, admitted.problem()) {
+        Ok(plan) => is_found_by_plan(alloc, admitted, &plan, scenarios, firsts, want),
+        Err(_) => false,
+    }
+}
+
+/// Whether all that is found over all scenarios is so.
+fn is_found_in(alloc: Global, admitted: &Admitted, scenarios: &[Scenario], want: &Found) -> bool
     requires items { item_count admitted.now.graph ≡ 3 }
     requires scenarios { AreScenarios admitted.now.graph scenarios.now }
 {
-    let plan = Plan::of(alloc, admitted.problem())?;
-    let frozen = frozen_over(alloc, admitted, &plan, scenarios)?;
-    let runs = are_runs(alloc, admitted, &plan, &frozen, scenarios, want)?;
-    Ok(runs && are_times(&frozen, want.message))
-}
-
-/// Whether all that is found of a graph is so.
-fn is_found(alloc: Global, admitted: &Admitted, want: &Found) -> Result<bool, OutOfMemory>
-    requires { item_count admitted.now.graph ≡ 3 }
-{
-    let scenarios = listed(alloc, admitted)?;
-    let unlike = are_unlike(alloc, admitted, scenarios.as_slice())?;
-    let found = is_found_over(alloc, admitted, scenarios.as_slice(), want)?;
-    Ok(unlike && found)
-}
-
-/// Whether all that is found of the graph of a text is so, if it has three items.
-fn is_found_of(alloc: Global, text: &str, want: &Found) -> Result<bool, Fail> {
-    let admitted = admitted(alloc, text)?;
-    if admitted.problem().item_count() != 3 {
-        return Ok(false);
+    match first_alike(alloc, admitted, scenarios) {
+        Ok(firsts) => is_found_over(alloc, admitted, scenarios, firsts.as_slice(), want),
+        Err(_) => false,
     }
-    Ok(is_found(alloc, &admitted, want)?)
+}
+
+/// Whether all that is found of a graph is so, if it has three items.
+pub fn is_found(alloc: Global, admitted: &Admitted, want: &Found) -> bool {
+    if admitted.problem().item_count() != 3 {
+        return false;
+    }
+    match listed(alloc, admitted) {
+        Ok(scenarios) => is_found_in(alloc, admitted, scenarios.as_slice(), want),
+        Err(_) => false,
+    }
 }
 
 #[test]
-fn a_message_by_faults(rt: HostRuntime) -> Result<(), Fail> {
-    assert!(rt; is_found_of(rt.alloc(), PAIR, &OF_PAIR)?);
-    Ok(())
+fn a_message_by_faults(rt: HostRuntime) {
+    assert!(rt; holds(rt.alloc(), PAIR, Claim::Finds(&OF_PAIR)));
 }
 
 #[test]
-fn a_frozen_message(rt: HostRuntime) -> Result<(), Fail> {
-    assert!(rt; is_found_of(rt.alloc(), FROZEN, &OF_FROZEN)?);
-    Ok(())
+fn a_frozen_message(rt: HostRuntime) {
+    assert!(rt; holds(rt.alloc(), FROZEN, Claim::Finds(&OF_FROZEN)));
 }

@@ -7,11 +7,12 @@ ghost use Rattle.cpg_node.specs.State.{MayFinish, time_of};
 use crate::fixtures::second_table;
 use cpg_node::{Act, Ended, Frame, Node, StrangeFrame};
 use std::alloc::Global;
-use std::test::Fail;
 
-fn second_node(alloc: Global) -> Result<Node, Fail> {
-    let table = second_table(alloc)?;
-    Ok(Node::new(alloc, table)?)
+fn second_node(alloc: Global) -> Option<Node> {
+    match second_table(alloc) {
+        Some(table) => Node::new(alloc, table).ok(),
+        None => None,
+    }
 }
 
 /// Whether a node is before its first turn, with one process, of which there is no report.
@@ -24,11 +25,16 @@ fn is_new(node: &Node) -> bool {
         && !node.reported(1)
 }
 
+fn second_is_new(alloc: Global) -> bool {
+    match second_node(alloc) {
+        Some(node) => is_new(&node),
+        None => false,
+    }
+}
+
 #[test]
-fn a_new_node(rt: HostRuntime) -> Result<(), Fail> {
-    let node = second_node(rt.alloc())?;
-    assert!(rt; is_new(&node));
-    Ok(())
+fn a_new_node(rt: HostRuntime) {
+    assert!(rt; second_is_new(rt.alloc()));
 }
 
 /// Takes the turn of the next instant, if there is one, and answers that instant.
@@ -46,21 +52,19 @@ fn takes_two_turns(node: &mut Node) -> bool {
     take_turn(node) == Some(0) && take_turn(node) == Some(50)
 }
 
-#[test]
-fn turns_without_frames(rt: HostRuntime) -> Result<(), Fail> {
-    let mut node = second_node(rt.alloc())?;
-    assert!(rt; takes_two_turns(&mut node) && node.acts().is_empty() && node.next() == Some(90));
-    Ok(())
-}
-
 /// The node after these turns.
-fn after_two_turns(alloc: Global) -> Result<Node, Fail> {
+fn after_two_turns(alloc: Global) -> Option<Node> {
     let mut node = second_node(alloc)?;
     if takes_two_turns(&mut node) {
-        Ok(node)
+        Some(node)
     } else {
-        Err(Fail::new("turn"))
+        None
     }
+}
+
+/// Whether nothing was done in these turns, and the next is at 90.
+fn is_idle(node: &Node) -> bool {
+    node.acts().is_empty() && node.next() == Some(90)
 }
 
 fn frame(item: u32, column: u32) -> Frame {
@@ -76,13 +80,9 @@ fn is_strange(node: &mut Node, item: u32, column: u32) -> bool {
     node.hear(90, frame(item, column)) == Err(StrangeFrame)
 }
 
-#[test]
-fn strange_frames(rt: HostRuntime) -> Result<(), Fail> {
-    let mut node = after_two_turns(rt.alloc())?;
-    for (item, column) in [(2, 0), (2, 2), (1, 1)] {
-        assert!(rt; is_strange(&mut node, item, column));
-    }
-    Ok(())
+/// Whether those are strange whose item isn't heard, or whose column isn't one.
+fn has_strange(node: &mut Node) -> bool {
+    is_strange(node, 2, 0) && is_strange(node, 2, 2) && is_strange(node, 1, 1)
 }
 
 /// Whether a node did this alone in its last turn.
@@ -102,13 +102,6 @@ fn hears_and_starts(node: &mut Node) -> bool {
         && did(node, start)
         && node.running(1) == Some(90)
         && node.next() == Some(105)
-}
-
-#[test]
-fn a_frame_and_a_start(rt: HostRuntime) -> Result<(), Fail> {
-    let mut node = after_two_turns(rt.alloc())?;
-    assert!(rt; hears_and_starts(&mut node));
-    Ok(())
 }
 
 /// How long an execution of a process of the node takes with so many faults.
@@ -176,9 +169,48 @@ fn keeps_a_report(node: &mut Node) -> bool {
         && node.running(1).is_none()
 }
 
+/// What is so of the node after its first two turns.
+#[derive(Clone, Copy)]
+enum Claim {
+    Idle,
+    Strange,
+    Start,
+    Report,
+}
+
+fn is_so(node: &mut Node, claim: Claim) -> bool {
+    match claim {
+        Claim::Idle => is_idle(node),
+        Claim::Strange => has_strange(node),
+        Claim::Start => hears_and_starts(node),
+        Claim::Report => keeps_a_report(node),
+    }
+}
+
+/// Whether this is so.
+fn holds(alloc: Global, claim: Claim) -> bool {
+    match after_two_turns(alloc) {
+        Some(mut node) => is_so(&mut node, claim),
+        None => false,
+    }
+}
+
 #[test]
-fn a_kept_report(rt: HostRuntime) -> Result<(), Fail> {
-    let mut node = after_two_turns(rt.alloc())?;
-    assert!(rt; keeps_a_report(&mut node));
-    Ok(())
+fn turns_without_frames(rt: HostRuntime) {
+    assert!(rt; holds(rt.alloc(), Claim::Idle));
+}
+
+#[test]
+fn strange_frames(rt: HostRuntime) {
+    assert!(rt; holds(rt.alloc(), Claim::Strange));
+}
+
+#[test]
+fn a_frame_and_a_start(rt: HostRuntime) {
+    assert!(rt; holds(rt.alloc(), Claim::Start));
+}
+
+#[test]
+fn a_kept_report(rt: HostRuntime) {
+    assert!(rt; holds(rt.alloc(), Claim::Report));
 }

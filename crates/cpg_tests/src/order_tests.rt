@@ -1,26 +1,30 @@
 //! Tails of a choice, worked by hand.
-use crate::fixtures::{CHOICE, admitted};
+use crate::claims::{Claim, holds};
+use crate::fixtures::CHOICE;
 use cpg_order::tail;
 use cpg_rules::Admitted;
 use std::alloc::Global;
-use std::test::Fail;
 
 /// Whether this is the tail of a process.
 fn is_tail(alloc: Global, admitted: &Admitted, process: u32, want: u64) -> bool {
     if process as usize >= admitted.problem().processes().len() {
         return false;
     }
-    match tail(alloc, admitted.problem(), admitted.order(), process) {
-        Ok(tail) => tail == want,
-        Err(_) => false,
+    tail(alloc, admitted.problem(), admitted.order(), process) == Ok(want)
+}
+
+/// Whether processes have these tails.
+pub fn have_tails(alloc: Global, admitted: &Admitted, wanted: &[(u32, u64)]) -> bool {
+    for (process, want) in wanted {
+        if !is_tail(alloc, admitted, *process, *want) {
+            return false;
+        }
     }
+    true
 }
 
 #[test]
-fn tails(rt: HostRuntime) -> Result<(), Fail> {
-    let choice = admitted(rt.alloc(), CHOICE)?;
-    for (process, want) in [(0, 80), (1, 25), (2, 45), (3, 10)] {
-        assert!(rt; is_tail(rt.alloc(), &choice, process, want), "of {process}");
-    }
-    Ok(())
+fn tails(rt: HostRuntime) {
+    let wanted = [(0, 80), (1, 25), (2, 45), (3, 10)];
+    assert!(rt; holds(rt.alloc(), CHOICE, Claim::Tails(&wanted)));
 }

@@ -1,10 +1,10 @@
 //! Views of a choice, worked by hand.
-use crate::fixtures::{FORK, admitted};
+use crate::claims::{Claim, holds};
+use crate::fixtures::FORK;
 use cpg_base::OutOfMemory;
 use cpg_reach::views;
 use cpg_rules::Admitted;
 use std::alloc::Global;
-use std::test::Fail;
 
 /// How many views an item has under the urgency order.
 #[tactic(auto, using(crate::proofs::Unfrozen::urgent_topological))]
@@ -16,7 +16,7 @@ fn views_in(alloc: Global, admitted: &Admitted, item: u32) -> Result<u64, OutOfM
 }
 
 /// Whether the items have so many views.
-fn have_views(alloc: Global, admitted: &Admitted, wanted: &[(u32, u64)]) -> bool {
+pub fn have_views(alloc: Global, admitted: &Admitted, wanted: &[(u32, u64)]) -> bool {
     for (item, count) in wanted {
         if views_in(alloc, admitted, *item) != Ok(*count) {
             return false;
@@ -26,9 +26,7 @@ fn have_views(alloc: Global, admitted: &Admitted, wanted: &[(u32, u64)]) -> bool
 }
 
 #[test]
-fn a_choice_has_few_views(rt: HostRuntime) -> Result<(), Fail> {
-    let admitted = admitted(rt.alloc(), FORK)?;
+fn a_choice_has_few_views(rt: HostRuntime) {
     let wanted = [(0, 1), (1, 4), (2, 4), (3, 4), (4, 1), (5, 2)];
-    assert!(rt; have_views(rt.alloc(), &admitted, &wanted));
-    Ok(())
+    assert!(rt; holds(rt.alloc(), FORK, Claim::Views(&wanted)));
 }

@@ -5,12 +5,12 @@ ghost use Rattle.cpg_base.specs.Graph.{item_count};
 ghost use Rattle.cpg_base.specs.Scenario.{IsScenario};
 ghost use Rattle.cpg_run.specs.Known.{AreEarly};
 
-use crate::fixtures::{CHOICE, admitted};
+use crate::claims::{Claim, holds};
+use crate::fixtures::CHOICE;
 use cpg_base::{OutOfMemory, Scenario};
 use cpg_rules::Admitted;
 use cpg_run::{FrozenTimes, RunTimes, run};
 use std::alloc::Global;
-use std::test::Fail;
 
 /// No frozen times.
 #[tactic(auto, using(crate::proofs::Unfrozen::unfrozen_long, crate::proofs::Unfrozen::unfrozen_early))]
@@ -62,12 +62,14 @@ fn runs_so(
     }
 }
 
-#[test]
-fn runs_of_both_outcomes(rt: HostRuntime) -> Result<(), Fail> {
-    let admitted = admitted(rt.alloc(), CHOICE)?;
+/// Whether both outcomes of the choice are so.
+pub fn outcomes_are_so(alloc: Global, admitted: &Admitted) -> bool {
     let of_c = [Some(0), None, Some(35), Some(70), None, Some(60), Some(40)];
     let of_b = [Some(0), Some(70), None, Some(85), Some(60), None, Some(40)];
-    assert!(rt; runs_so(rt.alloc(), &admitted, false, of_c, 80));
-    assert!(rt; runs_so(rt.alloc(), &admitted, true, of_b, 95));
-    Ok(())
+    runs_so(alloc, admitted, false, of_c, 80) && runs_so(alloc, admitted, true, of_b, 95)
+}
+
+#[test]
+fn runs_of_both_outcomes(rt: HostRuntime) {
+    assert!(rt; holds(rt.alloc(), CHOICE, Claim::Outcomes));
 }

@@ -4,7 +4,6 @@ ghost use Rattle.std.specs.Prelude.{◌≡◌, ◌<◌, IfOk};
 use cpg_base::OutOfMemory;
 use cpg_tree::{Tree, fault, value};
 use std::alloc::Global;
-use std::test::Fail;
 
 /// An end after a start, with so many faults.
 fn end(start: u64, faults: u8) -> u64 {
@@ -34,9 +33,8 @@ fn ends_of_last(alloc: Global) -> Result<u64, OutOfMemory> {
 }
 
 #[test]
-fn ends_of_a_chain(rt: HostRuntime) -> Result<(), Fail> {
-    assert!(rt; ends_of_last(rt.alloc())? == 861);
-    Ok(())
+fn ends_of_a_chain(rt: HostRuntime) {
+    assert!(rt; ends_of_last(rt.alloc()) == Ok(861));
 }
 
 /// A number in every scenario of at most two faults.
@@ -67,7 +65,7 @@ fn greater(on: &Tree<u64>, off: &Tree<u64>) -> Result<u64, OutOfMemory>
     Ok(known.leaves())
 }
 
-/// Both of two constants.
+/// Both, of two constants.
 fn leaves_of_two(alloc: Global) -> Result<(u64, u64), OutOfMemory> {
     let on = constant(alloc, 5)?;
     let off = constant(alloc, 7)?;
@@ -75,11 +73,8 @@ fn leaves_of_two(alloc: Global) -> Result<(u64, u64), OutOfMemory> {
 }
 
 #[test]
-fn picks(rt: HostRuntime) -> Result<(), Fail> {
-    let (picked, greater) = leaves_of_two(rt.alloc())?;
-    assert!(rt; picked == 2);
-    assert!(rt; greater == 1);
-    Ok(())
+fn picks(rt: HostRuntime) {
+    assert!(rt; leaves_of_two(rt.alloc()) == Ok((2, 1)));
 }
 
 /// How many leaves half a count has, rounded down.
@@ -90,7 +85,6 @@ fn leaves_of_half(alloc: Global) -> Result<u64, OutOfMemory> {
 }
 
 #[test]
-fn joins_neighbouring_arms(rt: HostRuntime) -> Result<(), Fail> {
-    assert!(rt; leaves_of_half(rt.alloc())? == 2);
-    Ok(())
+fn joins_neighbouring_arms(rt: HostRuntime) {
+    assert!(rt; leaves_of_half(rt.alloc()) == Ok(2));
 }

@@ -1,7 +1,0 @@
-use Rattle.std.proofs.Common.{Contains}
-use Rattle.std.proofs.lemmas.List.Elements.{All-weaker, All-contains_itself}
-use Rattle.cpg_base.specs.Scenario.{IsScenario}
-use Rattle.cpg_tests.proofs.list_tests.alike.Goals as goal
-
-pub first_alike-requires : goal.first_alike-requires
-first_alike-requires c = All-weaker (Contains c.args.scenarios.now) (IsScenario c.args.admitted.now.graph) c.requires.lawful c.args.scenarios.now (All-contains_itself c.args.scenarios.now)
