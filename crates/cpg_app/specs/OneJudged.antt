@@ -26,9 +26,9 @@ module _ (g : Graph) (w : WellFormed g) (urgency : List ℕ) (top : IsTopologica
   one_worst c d x y =
       let same : c.order ≡ d.order = one_compiled g w urgency top first_top c.order d.order x.compiled y.compiled in
       let other : IsMeasured g urgency c.order d.built.excess d.built.worst =
-          subst (λ order. IsMeasured g urgency order d.built.excess d.built.worst) (sym same) (measured g urgency d.order d.built y.built) in
+      subst (λ order. IsMeasured g urgency order d.built.excess d.built.worst) (sym same) (measured g urgency d.order d.built y.built) in
       (one_measure g w urgency c.order (order_topological c x) c.built.excess c.built.worst d.built.excess d.built.worst
-          (measured g urgency c.order c.built x.built) other).1
+      (measured g urgency c.order c.built x.built) other).1
 
   one_answer : (a b : Judged) → IsCompileAnswer g urgency a → IsCompileAnswer g urgency b → a ≡ b
   one_answer (Worst m) (Worst n) x y = ap Worst (sym x.3 ∙ (one_worst x.1 y.1 x.2 y.2 ∙ y.3))

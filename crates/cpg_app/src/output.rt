@@ -60,7 +60,14 @@ pub fn put_tables<O: Sink>(alloc: Global, made: Made, out: &mut O) -> Result<(),
     let rows = &made.rows;
     let order = &rows.order;
     let worst = rows.worst.time;
-    let written = write_table(alloc, &made.admitted, order, rows.rows.as_slice(), worst, out);
+    let written = write_table(
+        alloc,
+        &made.admitted,
+        order,
+        rows.rows.as_slice(),
+        worst,
+        out,
+    );
     forget(made);
     written
 }

@@ -13,8 +13,8 @@ use Rattle.cpg_cube.specs.Column.{Column}
 use Rattle.cpg_cube.specs.Cube.{matches}
 use Rattle.cpg_cube.specs.declared.literal.Literal.{Literal}
 use Rattle.cpg_tree_columns.specs.Columns.{column_of, columns_of_paths}
-use Rattle.cpg_tree.specs.Space.{HasFew}
-use Rattle.cpg_tree.specs.Tree.{Path, TreeState, IsOn, IsMap, HasOnePathEach}
+use Rattle.cpg_tree.specs.Space.{HasAtMostFaults}
+use Rattle.cpg_tree.specs.Tree.{Path, TreeState, IsOnPath, IsMap, HasOnePathEach}
 use Rattle.cpg_expand.specs.Active.{IsActivityOf}
 use Rattle.cpg_expand.specs.Agreeing.{IsTree}
 use Rattle.cpg_tree.proofs.OnePath.{scenario_few, the_path}
@@ -42,14 +42,14 @@ idle_at false e = refl
 
 module _ (g : Graph) (x : ℕ) (a : TreeState Bool) (tree : IsTree g a) (active : IsActivityOf g x a) (t : TreeState (Option ℕ)) (is : IsMap (λ b z. z ≡ idle_time b) a t)
     (each : HasOnePathEach t.faults t.paths) (columns : List Column) (all : IsPermutation (columns_of_paths t.paths) columns) (s : Scenario) (law : IsScenario g s) where
-  few : HasFew g.faults s
+  few : HasAtMostFaults g.faults s
   few = scenario_few g s law
 
   -- the path of the scenario
-  value : (z : Path (Option ℕ)) → IsOn t.paths s z → z.1 ≡ idle_time (item_active g s.values (item_at g x))
+  value : (z : Path (Option ℕ)) → IsOnPath t.paths s z → z.1 ≡ idle_time (item_active g s.values (item_at g x))
   value z on =
       let y = the_path g.faults a.paths tree.each s few in
-      is.value s y.0 z (subst (λ k. HasFew k s) (sym tree.faults) few) y.1 on ∙ ap idle_time (active s y.0 law y.1)
+      is.value s y.0 z (subst (λ k. HasAtMostFaults k s) (sym tree.faults) few) y.1 on ∙ ap idle_time (active s y.0 law y.1)
 
   from_column : list_any (λ (c : Column). matches c.cube s) columns ≡ true → not (item_active g s.values (item_at g x)) ≡ true
   from_column e =

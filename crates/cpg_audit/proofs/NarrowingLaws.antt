@@ -19,7 +19,7 @@ use Rattle.cpg_cube.specs.Fit.{IsKnown}
 use Rattle.cpg_cube.specs.declared.literal.Literal.{Literal}
 use Rattle.cpg_cube.proofs.CubeLows.{holds-from}
 use Rattle.cpg_cube.proofs.Mapped.{any_map}
-use Rattle.cpg_tree.specs.Space.{Lies}
+use Rattle.cpg_tree.specs.Space.{IsInSpace}
 use Rattle.cpg_tree.specs.declared.space.Space.{Space}
 use Rattle.cpg_audit.specs.Narrowing.{IsRange}
 
@@ -112,24 +112,25 @@ flat_more f g xs i d within =
 
 module _ (space : Space) (ls : List Literal) (i : ℕ) (d : Literal) (within : i < length ls) where
   -- that holds in the whole space
-  module _ (told : (s : Scenario) → Lies space s → holds s (get_or ls i d) ≡ true) where
-    same_with_told : (s : Scenario) → Lies space s → matches (take (i + 1) ls) s ≡ matches (take i ls) s
+  module _ (told : (s : Scenario) → IsInSpace space s → holds s (get_or ls i d) ≡ true) where
+    same_with_told : (s : Scenario) → IsInSpace space s → matches (take (i + 1) ls) s ≡ matches (take i ls) s
     same_with_told s lies = list_all_more (holds s) ls i d within ∙ ap (λ b. matches (take i ls) s && b) (told s lies) ∙ and-true (matches (take i ls) s)
 
-    pub none_with_told : (o : Option Literal) → IfNone o ((s : Scenario) → Lies space s → matches (take i ls) s ≡ true) → IfNone o ((s : Scenario) → Lies space s → matches (take (i + 1) ls) s ≡ true)
+    pub none_with_told : (o : Option Literal) → IfNone o ((s : Scenario) → IsInSpace space s → matches (take i ls) s ≡ true)
+        → IfNone o ((s : Scenario) → IsInSpace space s → matches (take (i + 1) ls) s ≡ true)
     none_with_told None h = λ s lies. same_with_told s lies ∙ h s lies
     none_with_told (Some l) h = tt
 
-    pub some_with_told : (o : Option Literal) → IfSome o (λ l. (s : Scenario) → Lies space s → matches (take i ls) s ≡ holds s l) →
-        IfSome o (λ l. (s : Scenario) → Lies space s → matches (take (i + 1) ls) s ≡ holds s l)
+    pub some_with_told : (o : Option Literal) → IfSome o (λ l. (s : Scenario) → IsInSpace space s → matches (take i ls) s ≡ holds s l) →
+        IfSome o (λ l. (s : Scenario) → IsInSpace space s → matches (take (i + 1) ls) s ≡ holds s l)
     some_with_told None h = tt
     some_with_told (Some l) h = λ s lies. same_with_told s lies ∙ h s lies
 
   -- the first that may not hold
-  pub first_open : (o : Option Literal) → o ≡ None → IfNone o ((s : Scenario) → Lies space s → matches (take i ls) s ≡ true) → (s : Scenario) → Lies space s →
+  pub first_open : (o : Option Literal) → o ≡ None → IfNone o ((s : Scenario) → IsInSpace space s → matches (take i ls) s ≡ true) → (s : Scenario) → IsInSpace space s →
       matches (take (i + 1) ls) s ≡ holds s (get_or ls i d)
   first_open o e h s lies =
-      let none : (s : Scenario) → Lies space s → matches (take i ls) s ≡ true = subst (λ (x : Option Literal). IfNone x ((s : Scenario) → Lies space s → matches (take i ls) s ≡ true)) e h in
+      let none : (s : Scenario) → IsInSpace space s → matches (take i ls) s ≡ true = subst (λ (x : Option Literal). IfNone x ((s : Scenario) → IsInSpace space s → matches (take i ls) s ≡ true)) e h in
       list_all_more (holds s) ls i d within ∙ ap (λ b. b && holds s (get_or ls i d)) (none s lies)
 
 -- ---- the cube of a space
@@ -138,7 +139,7 @@ module _ (g : Graph) (space : Space) where
   pub ranges_weaker : (m n : ℕ) → m ≤ n → (cube : List Literal) → All (IsRange g space m) cube → All (IsRange g space n) cube
   ranges_weaker m n h cube all = All-weaker (IsRange g space m) (IsRange g space n) (λ l r. record { known = r.known; below = omega (arith, r.below); told = r.told }) cube all
 
-  pub matches_space : (n : ℕ) (cube : List Literal) → All (IsRange g space n) cube → (s : Scenario) → Lies space s → matches cube s ≡ true
+  pub matches_space : (n : ℕ) (cube : List Literal) → All (IsRange g space n) cube → (s : Scenario) → IsInSpace space s → matches cube s ≡ true
   matches_space n cube all s lies = all_from (holds s) cube (λ l c. let r : IsRange g space n l = All-contains (IsRange g space n) cube l all c in r.told s lies)
 
   pub known_ranges : (n : ℕ) (cube : List Literal) → All (IsRange g space n) cube → IsKnown g cube

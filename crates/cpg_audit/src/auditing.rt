@@ -8,7 +8,7 @@ ghost use Rattle.cpg_cube.specs.Cube.{matches};
 ghost use Rattle.cpg_cube.specs.Fit.{IsKnown};
 ghost use Rattle.cpg_table.specs.Table.{columns_of};
 ghost use Rattle.cpg_table.specs.Valid.{IsValid};
-ghost use Rattle.cpg_tree.specs.Space.{Lies};
+ghost use Rattle.cpg_tree.specs.Space.{IsInSpace};
 ghost use Rattle.cpg_violation.specs.Heads.{IsHeadFor};
 ghost use Rattle.cpg_audit.specs.Excluded.{excluded_cubes, excluded_of, is_excluded};
 ghost use Rattle.cpg_audit.specs.Gives.{Gives};
@@ -65,9 +65,9 @@ fn excluded<'a>(
     space: &mut Space,
 ) -> Result<Vec<&'a Cube>, OutOfMemory>
     requires { (x : ℕ) → All (λ c. IsKnown problem.now c.cube) (columns_of tables.now.nodes x) }
-    ensures same { IfOk result (λ kept. (s : Scenario) → Lies space.old s → list_any (λ b. matches b.now s) kept.items ≡ list_any (λ b.
+    ensures same { IfOk result (λ kept. (s : Scenario) → IsInSpace space.old s → list_any (λ b. matches b.now s) kept.items ≡ list_any (λ b.
         matches b s) (flat_map (excluded_of tables.entry.now.nodes log.now) (numbers_below (item_count problem.now)))) }
-    ensures space { IfOk result (λ kept. (s : Scenario) → Lies space.old s → Leaves space.new kept.items s) }
+    ensures space { IfOk result (λ kept. (s : Scenario) → IsInSpace space.old s → Leaves space.new kept.items s) }
     ensures known { IfOk result (λ kept. All (λ b. IsKnown problem.now b.now) kept.items) }
 {
     let ordered = in_log_order(alloc, problem, log)?;

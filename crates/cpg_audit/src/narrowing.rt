@@ -6,7 +6,7 @@ ghost use Rattle.cpg_base.specs.Graph.{Graph, IsVariable};
 ghost use Rattle.cpg_base.specs.Scenario.{Scenario};
 ghost use Rattle.cpg_cube.specs.Cube.{holds, matches};
 ghost use Rattle.cpg_cube.specs.Fit.{IsKnown};
-ghost use Rattle.cpg_tree.specs.Space.{Lies};
+ghost use Rattle.cpg_tree.specs.Space.{IsInSpace};
 ghost use Rattle.cpg_audit.specs.Narrowing.{IsExtent, IsRange, Leaves};
 
 use cpg_base::{FIRST_VALUE, OutOfMemory, Problem, top};
@@ -27,7 +27,7 @@ enum Extent {
 
 /// Whether a literal holds nowhere in a space.
 fn is_apart(space: &Space, literal: &Literal) -> bool
-    ensures { OnTrue result ((s : Scenario) → Lies space.now s → holds s literal.now ≡ false) }
+    ensures { OnTrue result ((s : Scenario) → IsInSpace space.now s → holds s literal.now ≡ false) }
 {
     space.most(literal.variable) < literal.low || literal.high < space.least(literal.variable)
 }
@@ -38,7 +38,7 @@ fn extent_of(space: &Space, literals: &[Literal]) -> Extent
 {
     let mut open = None;
     for literal in literals {
-        if !space.tells(literal) {
+        if !space.implies(literal) {
             if is_apart(space, literal) {
                 return Extent::Nowhere;
             }
@@ -56,7 +56,7 @@ fn extent_of(space: &Space, literals: &[Literal]) -> Extent
 
 /// The range that a variable is in if a literal on it doesn't hold; `None` if that isn't one range of the space.
 fn range_outside(space: &Space, literal: Literal) -> Option<Literal>
-    ensures { IfSome result (λ l. (s : Scenario) → Lies space.now s → holds s literal ≡ false → holds s l ≡ true) }
+    ensures { IfSome result (λ l. (s : Scenario) → IsInSpace space.now s → holds s literal ≡ false → holds s l ≡ true) }
 {
     let variable = literal.variable;
     let least = space.least(variable);
@@ -80,7 +80,7 @@ fn range_outside(space: &Space, literal: Literal) -> Option<Literal>
 
 /// Leaves the scenarios in which a literal doesn't hold, if they have one range of its variable.
 fn exclude(space: &mut Space, literal: Literal)
-    ensures { (s : Scenario) → Lies space.old s → holds s literal ≡ false → Lies space.new s }
+    ensures { (s : Scenario) → IsInSpace space.old s → holds s literal ≡ false → IsInSpace space.new s }
 {
     let Some(range) = range_outside(space, literal) else {
         return;
@@ -139,7 +139,7 @@ pub fn take_off_all<'a>(
 /// Leaves the scenarios that no cube matches, as far as each by itself tells of one variable. It goes from the last on: of cubes that
 /// were kept from the last on, each then takes off the least number that is left.
 pub fn narrow(space: &mut Space, by: &[&Cube])
-    ensures { (s : Scenario) → list_any (λ b. matches b.now s) by.now ≡ false → Lies space.old s → Lies space.new s }
+    ensures { (s : Scenario) → list_any (λ b. matches b.now s) by.now ≡ false → IsInSpace space.old s → IsInSpace space.new s }
 {
     let mut place = by.len();
     while place > 0 {
@@ -180,7 +180,7 @@ fn push_ranges(
 
 /// The cube of a space's ranges.
 pub fn cube_of(alloc: Global, problem: &Problem, space: &Space) -> Result<Cube, OutOfMemory>
-    ensures matches { IfOk result (λ cube. (s : Scenario) → Lies space.now s → matches cube s ≡ true) }
+    ensures matches { IfOk result (λ cube. (s : Scenario) → IsInSpace space.now s → matches cube s ≡ true) }
     ensures known { IfOk result (IsKnown problem.now) }
 {
     let mut cube = Cube::whole(alloc);

@@ -5,7 +5,7 @@ use Rattle.cpg_base.specs.declared.limits.TheConstants.{MOST_FAULTS}
 use Rattle.cpg_base.specs.Scenario.{Scenario, IsScenario, number_of}
 use Rattle.cpg_cube.specs.Column.{column_at}
 use Rattle.cpg_table.specs.Table.{NodeTable, columns_of}
-use Rattle.cpg_tree.specs.Space.{Lies}
+use Rattle.cpg_tree.specs.Space.{IsInSpace}
 use Rattle.cpg_tree.specs.declared.space.Space.{Space}
 use Rattle.cpg_row_trees.specs.Trees.{IsRowTree}
 use Rattle.cpg_violation.specs.Always.{IsUnconditional}
@@ -41,7 +41,7 @@ pub record IsCourse (g : Graph) (tables : List NodeTable) (lasts : Scenario → 
 
 -- all scenarios lie in a space
 pub record HasAll (g : Graph) (space : Space) : Type 0 where
-  pub lies : (s : Scenario) → IsScenario g s → Lies space s
+  pub lies : (s : Scenario) → IsScenario g s → IsInSpace space s
 
 -- the courses of the first items, and a space of all scenarios
 pub record AreCourses (lasts : ℕ → Scenario → ℕ) (g : Graph) (tables : List NodeTable) (courses : Courses) : Type 0 where

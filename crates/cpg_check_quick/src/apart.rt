@@ -5,7 +5,7 @@ ghost use Rattle.cpg_base.specs.Graph.{Graph};
 ghost use Rattle.cpg_base.specs.Scenario.{Scenario, IsScenario};
 ghost use Rattle.cpg_cube.specs.Cube.{matches};
 ghost use Rattle.cpg_table.specs.Table.{NodeTable};
-ghost use Rattle.cpg_tree.specs.Space.{Lies};
+ghost use Rattle.cpg_tree.specs.Space.{IsInSpace};
 ghost use Rattle.cpg_cube.specs.Column.{column_at};
 ghost use Rattle.cpg_check_quick.specs.Courses.{AreCourses, IsCourse, IsPast};
 ghost use Rattle.cpg_check_quick.specs.Order.{IsApart, IsApartAt};
@@ -30,7 +30,7 @@ struct TimeParts<'a> {
 }
 
 impl<'a> Test for TimeParts<'a> {
-    ghost tells = { λ test place s. IfSome place (λ i. IsPast test.span (column_at test.columns.now i).time test.time s ⊎
+    ghost guarantees = { λ test place s. IfSome place (λ i. IsPast test.span (column_at test.columns.now i).time test.time s ⊎
         IsPast test.other test.time (column_at test.columns.now i).time s) };
 
     fn passes(&self, place: Option<u32>, space: &Space) -> bool {
@@ -66,7 +66,7 @@ impl<'a> Course<'a> {
     /// Whether the item and another, which is at a time, are apart in the scenarios of a space.
     fn is_apart(&self, other: &Course<'_>, space: &Space, time: u64) -> bool
         ensures { OnTrue result ((g : Graph) (tables : List NodeTable) (lasts : ℕ → Scenario → ℕ) (y x : ℕ) (s : Scenario) →
-            IsCourse g tables (lasts y) y self.now → IsCourse g tables (lasts x) x other.now → IsScenario g s → Lies space.now s →
+            IsCourse g tables (lasts y) y self.now → IsCourse g tables (lasts x) x other.now → IsScenario g s → IsInSpace space.now s →
             IsApartAt tables (lasts y s) y (lasts x s) time s) }
     {
         if self.is_clear(other, time) {
@@ -107,7 +107,7 @@ impl<'a> Courses<'a> {
     /// Whether each of these items and another, which is at a time, are apart in the scenarios of a space.
     fn are_apart_in(&self, items: &[u32], other: &Course<'_>, space: &Space, time: u64) -> bool
         ensures { OnTrue result ((g : Graph) (tables : List NodeTable) (lasts : ℕ → Scenario → ℕ) (x : ℕ) (s : Scenario) →
-            AreCourses lasts g tables self.now → IsCourse g tables (lasts x) x other.now → IsScenario g s → Lies space.now s →
+            AreCourses lasts g tables self.now → IsCourse g tables (lasts x) x other.now → IsScenario g s → IsInSpace space.now s →
             All (λ y. IsApartAt tables (lasts y s) y (lasts x s) time s) items.now) }
     {
         for item in items {

@@ -5,7 +5,7 @@ ghost use Rattle.cpg_base.specs.Graph.{Graph};
 ghost use Rattle.cpg_base.specs.Scenario.{Scenario, IsScenario};
 ghost use Rattle.cpg_cube.specs.Cube.{matches};
 ghost use Rattle.cpg_table.specs.Table.{NodeTable, columns_of};
-ghost use Rattle.cpg_tree.specs.Space.{Lies};
+ghost use Rattle.cpg_tree.specs.Space.{IsInSpace};
 ghost use Rattle.cpg_cube.specs.Column.{column_at};
 ghost use Rattle.cpg_check_quick.specs.Courses.{AreCourses, HasAll, IsCourse, IsOverAt, IsPast};
 ghost use Rattle.cpg_check_quick.specs.Order.{IsOver, IsOverBy};
@@ -26,7 +26,7 @@ struct Ends<'a> {
 }
 
 impl<'a> Test for Ends<'a> {
-    ghost tells = { λ test place s. IfSome place (λ i. IsPast test.span (column_at test.columns.now i).time test.time s) };
+    ghost guarantees = { λ test place s. IfSome place (λ i. IsPast test.span (column_at test.columns.now i).time test.time s) };
 
     fn passes(&self, place: Option<u32>, space: &Space) -> bool {
         let Some(place) = place else {
@@ -47,7 +47,7 @@ struct Before<'a> {
 }
 
 impl<'a> PairTest for Before<'a> {
-    ghost tells = { λ test place own s. IfSome place (λ i. IsOverAt test.course.now (column_at test.columns.now i).time own s) };
+    ghost guarantees = { λ test place own s. IfSome place (λ i. IsOverAt test.course.now (column_at test.columns.now i).time own s) };
 
     fn passes_with_any(&self, first: Option<u32>) -> bool {
         let Some(place) = first else {
@@ -81,7 +81,7 @@ impl<'a> Course<'a> {
 
     /// Whether the item is over by a time in the scenarios of a space, from its column at a place.
     fn is_over_from(&self, place: Option<u32>, space: &Space, time: u64) -> bool
-        ensures { OnTrue result ((s : Scenario) → Lies space.now s → IsOverAt self.now time place s) }
+        ensures { OnTrue result ((s : Scenario) → IsInSpace space.now s → IsOverAt self.now time place s) }
     {
         let test = Ends {
             columns: self.columns,
@@ -113,7 +113,7 @@ impl<'a> Course<'a> {
     /// Whether the item is over by a time in the scenarios of a space, by the columns that match there.
     pub(crate) fn is_over(&self, space: &Space, time: u64) -> bool
         ensures { OnTrue result ((g : Graph) (tables : List NodeTable) (lasts : Scenario → ℕ) (x : ℕ) (s : Scenario) →
-            IsCourse g tables lasts x self.now → IsScenario g s → Lies space.now s → IsOverBy tables (lasts s) x time s) }
+            IsCourse g tables lasts x self.now → IsScenario g s → IsInSpace space.now s → IsOverBy tables (lasts s) x time s) }
     {
         if self.is_early(time) {
             return true;
@@ -150,7 +150,7 @@ impl<'a> Courses<'a> {
     /// Whether each of these items is over by a time in the scenarios of a space, by the columns that match there.
     fn are_over(&self, items: &[u32], space: &Space, time: u64) -> bool
         ensures { OnTrue result ((g : Graph) (tables : List NodeTable) (lasts : ℕ → Scenario → ℕ) (s : Scenario) →
-            AreCourses lasts g tables self.now → IsScenario g s → Lies space.now s → All (λ y. IsOverBy tables (lasts y s) y time s) items.now) }
+            AreCourses lasts g tables self.now → IsScenario g s → IsInSpace space.now s → All (λ y. IsOverBy tables (lasts y s) y time s) items.now) }
     {
         for item in items {
             let Some(course) = self.list.get(*item as usize) else {

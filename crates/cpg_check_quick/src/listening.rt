@@ -6,7 +6,7 @@ ghost use Rattle.cpg_base.specs.Scenario.{Scenario, IsScenario};
 ghost use Rattle.cpg_cube.specs.Cube.{IsRising, matches};
 ghost use Rattle.cpg_table.specs.Table.{NodeTable, columns_of};
 ghost use Rattle.cpg_table.specs.declared.rule.Rule.{Rule};
-ghost use Rattle.cpg_tree.specs.Space.{Lies};
+ghost use Rattle.cpg_tree.specs.Space.{IsInSpace};
 ghost use Rattle.cpg_violation.specs.Sure.{IsSure};
 ghost use Rattle.cpg_violation.specs.Violation.{AllHold, row_rules};
 ghost use Rattle.cpg_check_quick.specs.Hearing.{AreLeft, AreOwnEnded, IsAllHeard, IsEndedBy, IsOwnEnded, IsOwnOver, IsOwner};
@@ -196,7 +196,7 @@ impl<'a> Listener<'a> {
     fn is_over(&self, process: u32, space: &Space, time: u64) -> bool
         ensures { OnTrue result ((tables : List NodeTable) (s : Scenario) →
             AreTurns (execution self.now.admitted.now.graph) self.now.admitted.now.graph tables self.now.turns.now →
-            IsScenario self.now.admitted.now.graph s → Lies space.now s → IsOverBy tables (execution self.now.admitted.now.graph process s) process time s) }
+            IsScenario self.now.admitted.now.graph s → IsInSpace space.now s → IsOverBy tables (execution self.now.admitted.now.graph process s) process time s) }
     {
         let Some(course) = self.turns.courses.list.get(process as usize) else {
             return false;
@@ -211,7 +211,7 @@ impl<'a> Listener<'a> {
     fn is_own_over(&self, variable: u8, space: &Space, time: u64) -> bool
         ensures { OnTrue result ((tables : List NodeTable) (s : Scenario) →
             AreTurns (execution self.now.admitted.now.graph) self.now.admitted.now.graph tables self.now.turns.now →
-            IsScenario self.now.admitted.now.graph s → Lies space.now s → IsOwnOver self.now.admitted.now.graph tables self.now.node variable time s) }
+            IsScenario self.now.admitted.now.graph s → IsInSpace space.now s → IsOwnOver self.now.admitted.now.graph tables self.now.node variable time s) }
     {
         let problem = self.admitted.problem();
         let Some(process) = owner(problem, variable) else {
@@ -228,7 +228,7 @@ impl<'a> Listener<'a> {
     fn are_over(&self, literals: &[Literal], space: &Space, time: u64) -> bool
         ensures { OnTrue result ((tables : List NodeTable) (s : Scenario) →
             AreTurns (execution self.now.admitted.now.graph) self.now.admitted.now.graph tables self.now.turns.now →
-            IsScenario self.now.admitted.now.graph s → Lies space.now s →
+            IsScenario self.now.admitted.now.graph s → IsInSpace space.now s →
             All (λ l. IsOwnOver self.now.admitted.now.graph tables self.now.node l.variable time s) literals.now) }
     {
         for literal in literals {
@@ -251,7 +251,7 @@ impl<'a> Listener<'a> {
     ) -> Result<(), OutOfMemory>
         ensures { IfOk result (λ _. (g : Graph) (tables : List NodeTable) →
             All (IsSpeaker g tables self.now.node) self.now.speakers.items → AreToldIn column.now.cube wanted.old.items →
-            ((s : Scenario) → IsScenario g s → matches column.now.cube s ≡ true → Lies space.now s) →
+            ((s : Scenario) → IsScenario g s → matches column.now.cube s ≡ true → IsInSpace space.now s) →
             AreLeft g tables self.now.node column.now wanted.old.items wanted.new.items) }
     {
         for speaker in self.speakers.as_slice() {

@@ -3,7 +3,7 @@ ghost use Rattle.std.specs.Prelude.{◌<◌};
 ghost use Rattle.std.specs.Bool.{OnTrue};
 ghost use Rattle.cpg_base.specs.Graph.{Graph, process_count};
 ghost use Rattle.cpg_base.specs.Scenario.{Scenario};
-ghost use Rattle.cpg_tree.specs.Space.{Lies};
+ghost use Rattle.cpg_tree.specs.Space.{IsInSpace};
 ghost use Rattle.cpg_check_quick.specs.Order.{execution};
 ghost use Rattle.cpg_check_quick.specs.Courses.{IsPast, IsSpan};
 
@@ -66,7 +66,7 @@ impl ItemSpan {
 
     /// Whether what starts at a time is over by another in all scenarios of a space.
     pub(crate) fn is_past(&self, start: u64, time: u64, space: &Space) -> bool
-        ensures { OnTrue result ((s : Scenario) → Lies space.now s → IsPast self.now start time s) }
+        ensures { OnTrue result ((s : Scenario) → IsInSpace space.now s → IsPast self.now start time s) }
     {
         let most = space.most(self.variable);
         if most > MOST_FAULTS {

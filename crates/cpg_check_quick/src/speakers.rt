@@ -7,7 +7,7 @@ ghost use Rattle.cpg_cube.specs.Cube.{matches};
 ghost use Rattle.cpg_cube.specs.declared.literal.Literal.{Literal};
 ghost use Rattle.cpg_table.specs.Heard.{exactly, frame_value};
 ghost use Rattle.cpg_table.specs.Table.{NodeTable};
-ghost use Rattle.cpg_tree.specs.Space.{Lies};
+ghost use Rattle.cpg_tree.specs.Space.{IsInSpace};
 ghost use Rattle.cpg_cube.specs.Column.{column_at};
 ghost use Rattle.cpg_check_quick.specs.Courses.{AreCourses};
 ghost use Rattle.cpg_check_quick.specs.Hearing.{AreLeft};
@@ -54,7 +54,7 @@ struct Arrivals<'a> {
 }
 
 impl<'a> Test for Arrivals<'a> {
-    ghost tells = { λ test place s. HasCome test.columns.now test.delay test.time place };
+    ghost guarantees = { λ test place s. HasCome test.columns.now test.delay test.time place };
 
     fn passes(&self, place: Option<u32>, _space: &Space) -> bool {
         let Some(place) = place else {
@@ -268,7 +268,7 @@ impl<'a> Speaker<'a> {
         left: &mut Vec<Literal>,
     ) -> Result<bool, OutOfMemory>
         ensures { IfOk result (λ told. OnTrue told ((g : Graph) (tables : List NodeTable) (node : ℕ) → IsSpeaker g tables node self.now →
-            AreToldIn column.now.cube wanted.now → ((s : Scenario) → IsScenario g s → matches column.now.cube s ≡ true → Lies space.now s) →
+            AreToldIn column.now.cube wanted.now → ((s : Scenario) → IsScenario g s → matches column.now.cube s ≡ true → IsInSpace space.now s) →
             AreLeft g tables node column.now wanted.now left.new.items)) }
     {
         if !has_come(self.first, self.delay, column.time) {

@@ -5,7 +5,7 @@ ghost use Rattle.cpg_base.specs.Activity.{live};
 ghost use Rattle.cpg_base.specs.Graph.{edge_count, item_count, process_count, producer};
 ghost use Rattle.cpg_base.specs.Scenario.{Scenario, IsScenario};
 ghost use Rattle.cpg_table.specs.Table.{NodeTable, columns_of};
-ghost use Rattle.cpg_tree.specs.Space.{Lies};
+ghost use Rattle.cpg_tree.specs.Space.{IsInSpace};
 ghost use Rattle.cpg_violation.specs.Violation.{AllHold, row_rules};
 ghost use Rattle.cpg_check_quick.specs.Inputs.{IsFromBefore, IsInputCourse, IsInputOver, IsInputThere, IsLateEnough, IsWaiting};
 ghost use Rattle.cpg_check_quick.specs.Order.{IsBefore};
@@ -60,7 +60,7 @@ impl<'a> Waiting<'a> {
     fn is_over(&self, edge: u32, space: &Space, time: u64) -> bool
         requires edge { edge < edge_count self.now.admitted.now.graph }
         ensures { OnTrue result ((tables : List NodeTable) (s : Scenario) → IsWaiting self.now.admitted.now.graph tables self.now →
-            IsScenario self.now.admitted.now.graph s → Lies space.now s → live self.now.admitted.now.graph s.values edge ≡ true →
+            IsScenario self.now.admitted.now.graph s → IsInSpace space.now s → live self.now.admitted.now.graph s.values edge ≡ true →
             IsInputOver self.now.admitted.now.graph tables edge time s) }
     {
         if is_refused(self.admitted.problem(), edge, space) {
@@ -90,7 +90,7 @@ impl<'a> Waiting<'a> {
     fn are_over(&self, edges: &[u32], space: &Space, time: u64) -> bool
         requires edges { All (λ e. e < edge_count self.now.admitted.now.graph) edges.now }
         ensures { OnTrue result ((tables : List NodeTable) (s : Scenario) → IsWaiting self.now.admitted.now.graph tables self.now →
-            IsScenario self.now.admitted.now.graph s → Lies space.now s → All (λ e. live self.now.admitted.now.graph s.values e ≡ true →
+            IsScenario self.now.admitted.now.graph s → IsInSpace space.now s → All (λ e. live self.now.admitted.now.graph s.values e ≡ true →
             IsInputOver self.now.admitted.now.graph tables e time s) edges.now) }
     {
         for edge in edges {

@@ -9,7 +9,7 @@ ghost use Rattle.cpg_cube.specs.Cube.{matches};
 ghost use Rattle.cpg_cube.specs.Fit.{IsKnown};
 ghost use Rattle.cpg_table.specs.Valid.{breaks_activity};
 ghost use Rattle.cpg_table.specs.declared.rule.Rule.{Rule};
-ghost use Rattle.cpg_tree.specs.Space.{Lies};
+ghost use Rattle.cpg_tree.specs.Space.{IsInSpace};
 ghost use Rattle.cpg_violation.specs.Heads.{IsHeadFor};
 ghost use Rattle.cpg_violation.specs.Sure.{AreSure, IsSure};
 ghost use Rattle.cpg_violation.specs.Always.{AllAlways, AreAlways, IsUnconditional};
@@ -26,7 +26,7 @@ use std::alloc::Global;
 fn is_active(admitted: &Admitted, always: &[bool], process: u32, space: &Space) -> bool
     requires process { process < process_count admitted.now.graph }
     requires always { AreAlways admitted.now.graph always.now }
-    ensures { OnTrue result ((s : Scenario) → IsScenario admitted.now.graph s → Lies space.now s → active admitted.now.graph s.values process ≡ true) }
+    ensures { OnTrue result ((s : Scenario) → IsScenario admitted.now.graph s → IsInSpace space.now s → active admitted.now.graph s.values process ≡ true) }
 {
     if is_marked(always, process) {
         return true;
@@ -38,7 +38,7 @@ fn is_active(admitted: &Admitted, always: &[bool], process: u32, space: &Space) 
 fn are_active(admitted: &Admitted, always: &[bool], literals: &[Literal], space: &Space) -> bool
     requires literals { IsKnown admitted.now.graph literals.now }
     requires always { AreAlways admitted.now.graph always.now }
-    ensures { OnTrue result ((s : Scenario) → IsScenario admitted.now.graph s → Lies space.now s →
+    ensures { OnTrue result ((s : Scenario) → IsScenario admitted.now.graph s → IsInSpace space.now s →
         list_any (λ l. not (active admitted.now.graph s.values (process_of_variable admitted.now.graph l.variable))) literals.now ≡ false) }
 {
     for literal in literals {
@@ -71,7 +71,7 @@ fn is_lawful(
     item: u32,
     column: &Entry,
 ) -> bool
-    requires everywhere { (s : Scenario) → IsScenario admitted.now.graph s → Lies everywhere.now s }
+    requires everywhere { (s : Scenario) → IsScenario admitted.now.graph s → IsInSpace everywhere.now s }
     requires item { item < item_count admitted.now.graph }
     requires column { IsKnown admitted.now.graph column.now.cube }
     requires always { AreAlways admitted.now.graph always.now }
@@ -97,7 +97,7 @@ fn are_lawful(
     item: u32,
     columns: &[Entry],
 ) -> bool
-    requires everywhere { (s : Scenario) → IsScenario admitted.now.graph s → Lies everywhere.now s }
+    requires everywhere { (s : Scenario) → IsScenario admitted.now.graph s → IsInSpace everywhere.now s }
     requires item { item < item_count admitted.now.graph }
     requires columns { All (λ c. IsKnown admitted.now.graph c.cube) columns.now }
     requires always { AreAlways admitted.now.graph always.now }
@@ -114,7 +114,7 @@ fn are_lawful(
 
 /// Whether all processes are always active, and an item is too.
 fn is_plain(admitted: &Admitted, all: bool, everywhere: &Space, item: u32) -> bool
-    requires everywhere { (s : Scenario) → IsScenario admitted.now.graph s → Lies everywhere.now s }
+    requires everywhere { (s : Scenario) → IsScenario admitted.now.graph s → IsInSpace everywhere.now s }
     requires item { item < item_count admitted.now.graph }
     requires all { OnTrue all (AllAlways admitted.now.graph) }
     ensures all { OnTrue result (AllAlways admitted.now.graph) }
@@ -136,7 +136,7 @@ fn is_sure(
     item: u32,
 ) -> bool
     requires head { IsHeadFor admitted.now.graph tables.now.head }
-    requires everywhere { (s : Scenario) → IsScenario admitted.now.graph s → Lies everywhere.now s }
+    requires everywhere { (s : Scenario) → IsScenario admitted.now.graph s → IsInSpace everywhere.now s }
     requires item { item < item_count admitted.now.graph }
     requires always { AreAlways admitted.now.graph always.now }
     requires all { OnTrue all (AllAlways admitted.now.graph) }

@@ -25,7 +25,7 @@ struct Presence<'a> {
 impl<'a> Test for Presence<'a> {
     ghost use Rattle.cpg_check_rows.specs.Absent.{IsIdleWhere};
 
-    ghost tells = { λ test place s. IsIdleWhere test.admitted.now.graph test.item place s };
+    ghost guarantees = { λ test place s. IsIdleWhere test.admitted.now.graph test.item place s };
 
     fn passes(&self, place: Option<u32>, space: &Space) -> bool {
         if place.is_some() {

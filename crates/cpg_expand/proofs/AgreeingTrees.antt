@@ -12,9 +12,9 @@ use Rattle.cpg_cube.proofs.CubeLows.{low_in-le}
 use Rattle.cpg_cube.proofs.Within.{high_in-ge}
 use Rattle.cpg_table.specs.Heard.{exactly, kept_low, kept_high}
 use Rattle.cpg_run.proofs.Hearing.{low_kept, high_kept, high_kept_top, kept_low_below, kept_high_above, kept_grows}
-use Rattle.cpg_tree.specs.Space.{HasFew}
+use Rattle.cpg_tree.specs.Space.{HasAtMostFaults}
 use Rattle.cpg_tree.proofs.OnePath.{the_path}
-use Rattle.cpg_tree.specs.Tree.{Path, TreeState, IsOn, HasOnePathEach, IsConstant, IsMap, IsJoin, IsJoinWhere, IsPick, IsNumber}
+use Rattle.cpg_tree.specs.Tree.{Path, TreeState, IsOnPath, HasOnePathEach, IsConstant, IsMap, IsJoin, IsJoinWhere, IsPick, IsNumber}
 use Rattle.cpg_run.specs.Carrying.{ContainsKept}
 use Rattle.cpg_expand.specs.Agreeing.{Agrees}
 
@@ -61,7 +61,7 @@ module _ (s : Scenario) where
       only y c = only_one ([], x) y c
 
   pub agrees_map : {T U : Type 0} (answers : T → U → Type 0) (a : TreeState T) (r : TreeState U) (literals : List Literal) (fact : T → Type 0) (other : U → Type 0) →
-      HasFew a.faults s → HasOnePathEach a.faults a.paths → IsMap answers a r → ((x : T) (z : U) → fact x → answers x z → other z) → Agrees s literals fact a → Agrees s literals other r
+      HasAtMostFaults a.faults s → HasOnePathEach a.faults a.paths → IsMap answers a r → ((x : T) (z : U) → fact x → answers x z → other z) → Agrees s literals fact a → Agrees s literals other r
   agrees_map answers a r literals fact other few each is follows of_a =
       let x = the_path a.faults a.paths each s few in
       record {
@@ -77,7 +77,7 @@ module _ (s : Scenario) where
 
   pub agrees_join : {T U V : Type 0} (answers : T → U → V → Type 0) (a : TreeState T) (b : TreeState U) (r : TreeState V) (first second : List Literal) (fact_a : T → Type 0) (fact_b : U → Type 0)
       (fact : V → Type 0) →
-      HasFew a.faults s → b.faults ≡ a.faults → HasOnePathEach a.faults a.paths → HasOnePathEach a.faults b.paths → IsJoin answers a b r →
+      HasAtMostFaults a.faults s → b.faults ≡ a.faults → HasOnePathEach a.faults a.paths → HasOnePathEach a.faults b.paths → IsJoin answers a b r →
       ((x : T) (y : U) (z : V) → fact_a x → fact_b y → answers x y z → fact z) → Agrees s first fact_a a → Agrees s second fact_b b → Agrees s (first ++ second) fact r
   agrees_join answers a b r first second fact_a fact_b fact few same each_a each_b is follows of_a of_b =
       let x = the_path a.faults a.paths each_a s few in
@@ -95,13 +95,13 @@ module _ (s : Scenario) where
       }
 
   -- what is told of a tree that is made where a chooser is true, if the chooser is
-  pub agrees_where : {T U V : Type 0} (answers : T → U → V → Type 0) (none : V) (chooser : TreeState Bool) (a : TreeState T) (b : TreeState U) (r : TreeState V) (told first second : List Literal)
+  pub agrees_where : {T U V : Type 0} (answers : T → U → V → Type 0) (none : V) (chooser : TreeState Bool) (a : TreeState T) (b : TreeState U) (r : TreeState V) (given first second : List Literal)
       (fact_a : T → Type 0) (fact_b : U → Type 0) (fact : V → Type 0) →
-      HasFew chooser.faults s → a.faults ≡ chooser.faults → b.faults ≡ chooser.faults → HasOnePathEach chooser.faults chooser.paths → HasOnePathEach chooser.faults a.paths →
+      HasAtMostFaults chooser.faults s → a.faults ≡ chooser.faults → b.faults ≡ chooser.faults → HasOnePathEach chooser.faults chooser.paths → HasOnePathEach chooser.faults a.paths →
       HasOnePathEach chooser.faults b.paths → IsJoinWhere answers none chooser a b r →
-      ((x : T) (y : U) (z : V) → fact_a x → fact_b y → answers x y z → fact z) → Agrees s told (λ c. c ≡ true) chooser → Agrees s first fact_a a → Agrees s second fact_b b →
-      Agrees s (told ++ (first ++ second)) fact r
-  agrees_where answers none chooser a b r told first second fact_a fact_b fact few same_a same_b each_c each_a each_b is follows of_c of_a of_b =
+      ((x : T) (y : U) (z : V) → fact_a x → fact_b y → answers x y z → fact z) → Agrees s given (λ c. c ≡ true) chooser → Agrees s first fact_a a → Agrees s second fact_b b →
+      Agrees s (given ++ (first ++ second)) fact r
+  agrees_where answers none chooser a b r given first second fact_a fact_b fact few same_a same_b each_c each_a each_b is follows of_c of_a of_b =
       let c = the_path chooser.faults chooser.paths each_c s few in
       let x = the_path chooser.faults a.paths each_a s few in
       let y = the_path chooser.faults b.paths each_b s few in
@@ -113,16 +113,17 @@ module _ (s : Scenario) where
             let zero = of_c.says c.0 c.1 in
             let one = subst (λ k. ContainsKept k x.0.0 first) same_a (of_a.says x.0 x.1) in
             let two = subst (λ k. ContainsKept k y.0.0 second) same_b (of_b.says y.0 y.1) in
-            subst (λ k. ContainsKept k z.0 (told ++ (first ++ second))) (sym is.faults) (record {
-              low = λ v. omega (arith, wide.low v, zero.low v, one.low v, two.low v, kept_low_both first second v, kept_low_both told (first ++ second) v);
-              high = λ v. omega (arith, wide.high v, zero.high v, one.high v, two.high v, kept_high_both first second v chooser.faults, kept_high_both told (first ++ second) v chooser.faults);
+            subst (λ k. ContainsKept k z.0 (given ++ (first ++ second))) (sym is.faults) (record {
+              low = λ v. omega (arith, wide.low v, zero.low v, one.low v, two.low v, kept_low_both first second v, kept_low_both given (first ++ second) v);
+              high = λ v. omega (arith, wide.high v, zero.high v, one.high v, two.high v, kept_high_both first second v chooser.faults, kept_high_both given (first ++ second) v chooser.faults);
             });
       }
 
   -- what is told of a tree that is made where a chooser is true, if the chooser is false
-  pub agrees_elsewhere : {T U V : Type 0} (answers : T → U → V → Type 0) (none : V) (chooser : TreeState Bool) (a : TreeState T) (b : TreeState U) (r : TreeState V) (told : List Literal) →
-      HasFew chooser.faults s → HasOnePathEach chooser.faults chooser.paths → IsJoinWhere answers none chooser a b r → Agrees s told (λ c. c ≡ false) chooser → Agrees s told (λ z. z ≡ none) r
-  agrees_elsewhere answers none chooser a b r told few each is of_c =
+  pub agrees_elsewhere : {T U V : Type 0} (answers : T → U → V → Type 0) (none : V) (chooser : TreeState Bool) (a : TreeState T) (b : TreeState U) (r : TreeState V) (given : List Literal) →
+      HasAtMostFaults chooser.faults s → HasOnePathEach chooser.faults chooser.paths → IsJoinWhere answers none chooser a b r → Agrees s given (λ c. c ≡ false) chooser
+      → Agrees s given (λ z. z ≡ none) r
+  agrees_elsewhere answers none chooser a b r given few each is of_c =
       let c = the_path chooser.faults chooser.paths each s few in
       let chosen = of_c.value c.0 c.1 in
       record {
@@ -130,7 +131,7 @@ module _ (s : Scenario) where
         says = λ z on.
             let wide = is.off_ranges s c.0 z few c.1 chosen on in
             let kept = of_c.says c.0 c.1 in
-            subst (λ k. ContainsKept k z.0 told) (sym is.faults) (record {
+            subst (λ k. ContainsKept k z.0 given) (sym is.faults) (record {
               low = λ v. omega (arith, wide.low v, kept.low v);
               high = λ v. omega (arith, wide.high v, kept.high v);
             });
@@ -138,14 +139,14 @@ module _ (s : Scenario) where
 
   -- only the tree that is picked in the scenario counts
   pub agrees_pick : {T : Type 0} (chooser : TreeState Bool) (on off r : TreeState T) (b : Bool) (first second : List Literal) (fact : T → Type 0) →
-      HasFew chooser.faults s → on.faults ≡ chooser.faults → off.faults ≡ chooser.faults → HasOnePathEach chooser.faults chooser.paths → HasOnePathEach chooser.faults on.paths →
+      HasAtMostFaults chooser.faults s → on.faults ≡ chooser.faults → off.faults ≡ chooser.faults → HasOnePathEach chooser.faults chooser.paths → HasOnePathEach chooser.faults on.paths →
       HasOnePathEach chooser.faults off.paths →
       IsPick chooser on off r → Agrees s first (λ c. c ≡ b) chooser → Agrees s second fact (if b then on else off) → Agrees s (first ++ second) fact r
   agrees_pick {T} chooser on off r b first second fact few same_on same_off each_c each_on each_off is of_c of_picked =
       let c = the_path chooser.faults chooser.paths each_c s few in
       let chosen : c.0.1 ≡ b = of_c.value c.0 c.1 in
       let x = picked_path b in
-      let here : IsOn (if c.0.1 then on.paths else off.paths) s x.0 = subst (λ (d : Bool). IsOn (if d then on.paths else off.paths) s x.0) (sym chosen) x.1 in
+      let here : IsOnPath (if c.0.1 then on.paths else off.paths) s x.0 = subst (λ (d : Bool). IsOnPath (if d then on.paths else off.paths) s x.0) (sym chosen) x.1 in
       record {
         value = λ z there. subst fact (sym (is.value s c.0 x.0 z few c.1 here there)) (picked_value b of_picked x.0 x.1);
         says = λ z there.
@@ -158,20 +159,20 @@ module _ (s : Scenario) where
             });
       }
     where
-      picked_path : (d : Bool) → (x : Path T) × IsOn (if d then on.paths else off.paths) s x
+      picked_path : (d : Bool) → (x : Path T) × IsOnPath (if d then on.paths else off.paths) s x
       picked_path true = the_path chooser.faults on.paths each_on s few
       picked_path false = the_path chooser.faults off.paths each_off s few
 
-      picked_value : (d : Bool) → Agrees s second fact (if d then on else off) → (x : Path T) → IsOn (if d then on.paths else off.paths) s x → fact x.1
+      picked_value : (d : Bool) → Agrees s second fact (if d then on else off) → (x : Path T) → IsOnPath (if d then on.paths else off.paths) s x → fact x.1
       picked_value true a x h = a.value x h
       picked_value false a x h = a.value x h
 
-      picked_says : (d : Bool) → Agrees s second fact (if d then on else off) → (x : Path T) → IsOn (if d then on.paths else off.paths) s x → ContainsKept chooser.faults x.0 second
+      picked_says : (d : Bool) → Agrees s second fact (if d then on else off) → (x : Path T) → IsOnPath (if d then on.paths else off.paths) s x → ContainsKept chooser.faults x.0 second
       picked_says true a x h = subst (λ k. ContainsKept k x.0 second) same_on (a.says x h)
       picked_says false a x h = subst (λ k. ContainsKept k x.0 second) same_off (a.says x h)
 
   -- a tree of the number of a variable says that number
-  pub agrees_number : {T : Type 0} (v k : ℕ) (number : T → ℕ) (t : TreeState T) → HasFew k s → number_of s v ≤ top k v → IsNumber v k number t →
+  pub agrees_number : {T : Type 0} (v k : ℕ) (number : T → ℕ) (t : TreeState T) → HasAtMostFaults k s → number_of s v ≤ top k v → IsNumber v k number t →
       Agrees s (exactly v (number_of s v) ∷ []) (λ x. number x ≡ number_of s v) t
   agrees_number v k number t few most is = record {
     value = λ x on. is.value s x few on;

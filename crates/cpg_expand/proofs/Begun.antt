@@ -30,30 +30,30 @@ use Rattle.cpg_run.proofs.EarlyTimes.{early_from_low}
 use Rattle.cpg_run.proofs.Mosts.{most_same}
 use Rattle.cpg_run.proofs.Runs.{time_is}
 use Rattle.cpg_run.proofs.Small.{run_small}
-use Rattle.cpg_tree.specs.Space.{HasFew}
+use Rattle.cpg_tree.specs.Space.{HasAtMostFaults}
 use Rattle.cpg_tree.specs.Tree.{Path, TreeState, IsConstant}
 use Rattle.cpg_expand.specs.Begun.{IsBegun, IsFrozenStart, any_start}
 use Rattle.cpg_expand.specs.Earlier.{IsCut}
 use Rattle.cpg_expand.specs.Sent.{sent_before, sent_so_far, IsFreeOnce}
-use Rattle.cpg_expand.specs.Agreeing.{Tells}
+use Rattle.cpg_expand.specs.Agreeing.{HasValueFrom}
 use Rattle.cpg_expand.specs.Forest.{ForestState, HasTrees, no_tree, times_of, ends_of, later_tree, ready_at, ready_by}
 use Rattle.cpg_expand.specs.Ending.{IsReadyAfter, goes_on}
 use Rattle.cpg_expand.specs.declared.forest.Ready.{Ready}
 use Rattle.cpg_expand.specs.declared.forest.Ready.TheVariants.{After, At}
 use Rattle.cpg_expand.specs.Grown.{RowsHold, IsReadyLine, IsFreeLine, Lines, SendLines, LeavesUnsent, IsEarlier, IsDone, AreSettledOf, IsGrown, IsSending}
-use Rattle.cpg_expand.specs.Told.{HasTold}
+use Rattle.cpg_expand.specs.TreeValues.{HasTreeValues}
 use Rattle.cpg_expand.specs.Waited.{IsQueuedFor, IsWaitedFor, IsReadyOnce}
 use Rattle.cpg_expand.specs.Waiting.{ready_of, free_of}
 use Rattle.cpg_tree.proofs.OnePath.{scenario_few}
 use Rattle.cpg_expand.proofs.AgreeingTrees.{agrees_weaker}
 use Rattle.cpg_expand.proofs.FrozenFound.{IsFound, frozen_found, set_here}
 use Rattle.cpg_expand.proofs.FrozenLine.{frozen_line, frozen_value}
-use Rattle.cpg_expand.proofs.GrownLines.{told_from_lines, lines_over}
-use Rattle.cpg_expand.proofs.LatestStart.{IsToldStart, latest_above, latest_reached}
+use Rattle.cpg_expand.proofs.GrownLines.{valued_from_lines, lines_over}
+use Rattle.cpg_expand.proofs.LatestStart.{IsStartByTrees, latest_above, latest_reached}
 use Rattle.cpg_expand.proofs.NextPlace.{ready_next, ready_elsewhere, settled_idle, settled_more}
 use Rattle.cpg_expand.proofs.ReadyLine.{ready_line}
 use Rattle.cpg_expand.proofs.StartLine.{on_way, wait_line, start_line}
-use Rattle.cpg_expand.proofs.StartTold.{start_is_told}
+use Rattle.cpg_expand.proofs.StartByTrees.{start_is_valued}
 use Rattle.cpg_expand.proofs.StartValue.{most, start_value, waited_ends, end_line}
 
 -- ---- rows that hold what the trees list
@@ -130,7 +130,7 @@ module _ (g : Graph) (urgency : List ℕ) (guards : Guards) (a : IsAdmitted g ur
 
   module _ (fs : List (Option ℕ)) (same : (x : ℕ) → x < item_count g → IsEarlier g order (place order p) x → get_or before x None ≡ get_or fs x None) (early : AreEarly fs)
       (rows : List (List Column)) (hold : RowsHold g order (place order p) old rows) (s : Scenario) (law : IsScenario g s) (t : Times) (run : IsRun g order fs s t) where
-    few : HasFew g.faults s
+    few : HasAtMostFaults g.faults s
     few = scenario_few g s law
 
     long : length s.values ≡ condition_count g
@@ -142,28 +142,28 @@ module _ (g : Graph) (urgency : List ℕ) (guards : Guards) (a : IsAdmitted g ur
     lines : Lines g order rows s t (place order p) old
     lines = lines_over g order topological rows s (place order p) old before fs same (λ u r. grown.lines rows hold s law u r) t run
 
-    told : HasTold g order rows s t (place order p) old
-    told = told_from_lines g order rows (place order p) old grown.trees hold fs s t run lines
+    valued : HasTreeValues g order rows s t (place order p) old
+    valued = valued_from_lines g order rows (place order p) old grown.trees hold fs s t run lines
 
     -- what the trees tell of its start
-    told_start : (from : ℕ) → IsCut g order guards (node_of g p) (place order p) from → IsToldStart g order guards old chooser from p s t
-    told_start from cut = start_is_told g a.limits order topological a.joins urgency a.urgency a.topological rows s law fs t run small old grown.trees p l nodes told lines guards
+    valued_start : (from : ℕ) → IsCut g order guards (node_of g p) (place order p) from → IsStartByTrees g order guards old chooser from p s t
+    valued_start from cut = start_is_valued g a.limits order topological a.joins urgency a.urgency a.topological rows s law fs t run small old grown.trees p l nodes valued lines guards
         (λ q k. a.guards.trees q k) chooser b.actives from cut
 
   early_before : AreEarly before
   early_before = early_from_low g order before a.limits topological grown.settled.count grown.settled.low
 
-  all_told : (from : ℕ) → IsCut g order guards (node_of g p) (place order p) from → (s : Scenario) → IsScenario g s → (t : Times) → IsRun g order before s t →
-      IsToldStart g order guards old chooser from p s t
-  all_told from cut s law t run = told_start before (λ y h e. refl) early_before (own_rows old) (own_rows_hold g order (place order p) old grown.trees) s law t run from cut
+  all_valued : (from : ℕ) → IsCut g order guards (node_of g p) (place order p) from → (s : Scenario) → IsScenario g s → (t : Times) → IsRun g order before s t →
+      IsStartByTrees g order guards old chooser from p s t
+  all_valued from cut s law t run = valued_start before (λ y h e. refl) early_before (own_rows old) (own_rows_hold g order (place order p) old grown.trees) s law t run from cut
 
   acts_as : (values : List Bool) → item_active g values (item_at g p) ≡ active g values p
   acts_as values = ap (item_active g values) (item_at-start g p l)
 
   found : IsFrozenStart g order guards p old before after chooser b.start → IsFound g order before p after
   found f = frozen_found g order topological before p (omega (arith, p_item, grown.settled.count)) unset f.latest
-      (λ s law t run on. latest_above g order guards before old chooser b.chooser_tree f.from p topological (all_told f.from f.cut) f.latest f.top s law t run (sym (acts_as s.values) ∙ on))
-      (λ m e. let r = latest_reached g order guards before old chooser b.chooser_tree f.from p topological (all_told f.from f.cut) f.latest f.top m e in (r.0, r.1, acts_as r.0.values ∙ r.2, r.3))
+      (λ s law t run on. latest_above g order guards before old chooser b.chooser_tree f.from p topological (all_valued f.from f.cut) f.latest f.top s law t run (sym (acts_as s.values) ∙ on))
+      (λ m e. let r = latest_reached g order guards before old chooser b.chooser_tree f.from p topological (all_valued f.from f.cut) f.latest f.top m e in (r.0, r.1, acts_as r.0.values ∙ r.2, r.3))
       after f.frozen.set
 
   -- ---- the frozen times
@@ -234,7 +234,7 @@ module _ (g : Graph) (urgency : List ℕ) (guards : Guards) (a : IsAdmitted g ur
     held : RowsHold g order (place order p) old rows
     held = hold_old rows hold
 
-    few_faults : HasFew g.faults s
+    few_faults : HasAtMostFaults g.faults s
     few_faults = scenario_few g s law
 
     run_is_small : AreSmall t
@@ -243,14 +243,14 @@ module _ (g : Graph) (urgency : List ℕ) (guards : Guards) (a : IsAdmitted g ur
     lines_before : Lines g order rows s t (place order p) old
     lines_before = lines after same_earlier early_after rows held s law t run
 
-    told_before : HasTold g order rows s t (place order p) old
-    told_before = told after same_earlier early_after rows held s law t run
+    valued_before : HasTreeValues g order rows s t (place order p) old
+    valued_before = valued after same_earlier early_after rows held s law t run
 
     was_ready : IsWaitedFor g order (place order p) (node_of g p) → IsReadyLine g order rows s t (place order p) (node_of g p) (ready_of g old (node_of g p))
     was_ready waited = lines_before.ready (node_of g p) (nodes p l) waited
 
     way_decides : (c : ℕ) → Contains (way guard s.values) c → Contains (deciding g s.values p) c
-    way_decides = on_way g a.limits order topological a.joins urgency a.urgency a.topological rows s law.values few_faults t run_is_small old p l nodes told_before guard is_guard
+    way_decides = on_way g a.limits order topological a.joins urgency a.urgency a.topological rows s law.values few_faults t run_is_small old p l nodes valued_before guard is_guard
 
     leads_there : outcome_at guard s.values ≡ activation g s.values p
     leads_there = is_guard.is s.values law.values
@@ -267,24 +267,24 @@ module _ (g : Graph) (urgency : List ℕ) (guards : Guards) (a : IsAdmitted g ur
         by true on = absurd ((new_settled.each p p_item is (inr (inl refl))).none e (unfrozen_time g order s t p) (would on))
         by false idle = cond-false _ _ _ idle ∙ sym (time_is g order after s t run p p_item ∙ cond-false _ _ _ (acts_as s.values ∙ idle))
 
-    started : Tells s (carried_at_start g order rows s p) (get_or t.times p None) b.start
+    started : HasValueFrom s (carried_at_start g order rows s p) (get_or t.times p None) b.start
     started = by b.starts
       where
-        by : any_start g order guards p old before after chooser b.start → Tells s (carried_at_start g order rows s p) (get_or t.times p None) b.start
+        by : any_start g order guards p old before after chooser b.start → HasValueFrom s (carried_at_start g order rows s p) (get_or t.times p None) b.start
         by (inl th) =
             let was = was_ready (waits_here th.0) in
-            subst (λ (o : Option ℕ). Tells s (carried_at_start g order rows s p) o b.start)
+            subst (λ (o : Option ℕ). HasValueFrom s (carried_at_start g order rows s p) o b.start)
             (start_value g order topological urgency a.urgency a.topological after s law.values t run p l guard is_guard was.time was.is (ap (λ fs. get_or fs p None) th.1 ∙ unset))
-            (start_line g a.limits order topological a.joins urgency a.urgency a.topological rows s law.values few_faults t run_is_small old p l nodes told_before guard is_guard th.2.wait th.2.waits
-            was.time was.is was.tells b.start th.2.is (thawed_start_of th.0))
-        by (inr f) = subst (λ (o : Option ℕ). Tells s (carried_at_start g order rows s p) o b.start)
+            (start_line g a.limits order topological a.joins urgency a.urgency a.topological rows s law.values few_faults t run_is_small old p l nodes valued_before guard is_guard th.2.wait th.2.waits
+            was.time was.is was.has_value b.start th.2.is (thawed_start_of th.0))
+        by (inr f) = subst (λ (o : Option ℕ). HasValueFrom s (carried_at_start g order rows s p) o b.start)
             (frozen_time f.0 f.1.latest (ap (λ h. get_or h p None) f.1.frozen.set ∙ set_here before p f.1.latest (omega (arith, p_item, grown.settled.count)) unset))
             (frozen_line g order rows s few_faults p guard leads_there way_decides (frozen_start_of f.0) chooser b.start (unwrap_or f.1.latest 0) b.chooser_tree b.actives f.1.frozen.made)
 
     few_here : fault_of s p ≤ g.faults
     few_here = omega (arith, get_or-le-sum_by (λ (n : ℕ). n) s.faults p 0 (omega (arith, law.faults, l)), law.budget)
 
-    ended : Tells s (carried_at_end g order rows s p) (get_or t.ends p None) b.end
+    ended : HasValueFrom s (carried_at_end g order rows s p) (get_or t.ends p None) b.end
     ended = end_line g a.limits order after s law t run run_is_small p l few_here rows b.start b.end few_faults b.ends started
 
     readied : IsWaitedFor g order (place order p) (node_of g p) → IsReadyOnce g old (node_of g p) guard chooser b.end (goes_on b.end b.ready) →
@@ -296,39 +296,39 @@ module _ (g : Graph) (urgency : List ℕ) (guards : Guards) (a : IsAdmitted g ur
         (waited_ends g order topological urgency a.urgency a.topological after s law.values t run p l guard is_guard was.time was.is) (goes_on b.end b.ready)
         (ready_line g order topological rows s few_faults t run_is_small p guard leads_there way_decides chooser b.end made.wait (goes_on b.end b.ready)
         (max was.time (greatest (map (heard_there g t (node_of g p)) (way guard s.values)))) b.actives made.is ended
-        (wait_line g a.limits order topological a.joins urgency a.urgency a.topological rows s law.values few_faults t run_is_small old p l nodes told_before guard is_guard made.wait made.waits
-        was.time was.is was.tells))
+        (wait_line g a.limits order topological a.joins urgency a.urgency a.topological rows s law.values few_faults t run_is_small old p l nodes valued_before guard is_guard made.wait made.waits
+        was.time was.is was.has_value))
 
     freed_by : IsFreeLine g order rows s t (place order p) (node_of g p) (free_of g old (node_of g p)) → IsFreeOnce g order rows s t p 0 new
     freed_by was_free = record {
       time = was_free.time;
       is = most_same (free_after g t) (IsSentBefore g order s (node_of g p) (place order p)) (IsSentBy g order s p 0) was_free.time
           (λ y h. (h.0, inl h.1)) (λ y h. (h.0, elim h.1 [ inl less ↦ less | inr c ↦ absurd (Contains-nil y c) ])) was_free.is;
-      tells = subst (λ (tree : TreeState ℕ). Tells s (flat_map (queued g order rows s) (sent_so_far g order p 0)) was_free.time tree) (sym (same_free (node_of g p)))
+      has_value = subst (λ (tree : TreeState ℕ). HasValueFrom s (flat_map (queued g order rows s) (sent_so_far g order p 0)) was_free.time tree) (sym (same_free (node_of g p)))
           (agrees_weaker s (free_of g old (node_of g p)) (flat_map (queued g order rows s) (sent_before g order (place order p) (node_of g p)))
           (flat_map (queued g order rows s) (sent_so_far g order p 0)) (λ z. z ≡ was_free.time) (λ z. z ≡ was_free.time)
           (λ x j. let m = Contains-flat_map_parts (queued g order rows s) (sent_before g order (place order p) (node_of g p)) x j in
           Contains-flat_map (queued g order rows s) (sent_so_far g order p 0) m.0 x (Contains-append_left (sent_before g order (place order p) (node_of g p)) [] m.0 m.1) m.2)
-          (λ z e. e) was_free.tells);
+          (λ z e. e) was_free.has_value);
     }
 
     freed : IsQueuedFor g order (place order p) (node_of g p) → IsFreeOnce g order rows s t p 0 new
     freed q = freed_by (lines_before.free (node_of g p) (nodes p l) q)
 
-    time_here : Tells s (carried g order rows s p) (get_or t.times p None) (times_of g new p)
-    time_here = subst (λ (tree : TreeState (Option ℕ)). Tells s (carried g order rows s p) (get_or t.times p None) tree) (sym new_time)
-        (subst (λ (i : Item). Tells s (carried_by_item g order rows s p i) (get_or t.times p None) b.start) (sym (item_at-start g p l)) started)
+    time_here : HasValueFrom s (carried g order rows s p) (get_or t.times p None) (times_of g new p)
+    time_here = subst (λ (tree : TreeState (Option ℕ)). HasValueFrom s (carried g order rows s p) (get_or t.times p None) tree) (sym new_time)
+        (subst (λ (i : Item). HasValueFrom s (carried_by_item g order rows s p i) (get_or t.times p None) b.start) (sym (item_at-start g p l)) started)
 
     send_lines : SendLines g order rows s t p 0 new
     send_lines = record {
       times = λ x h done. elim (only x done) [
-        | inl e ↦ subst (λ (tree : TreeState (Option ℕ)). Tells s (carried g order rows s x) (get_or t.times x None) tree) (sym (other_time x (early_apart x e))) (lines_before.times x h e)
-        | inr e ↦ subst (λ z. Tells s (carried g order rows s z) (get_or t.times z None) (times_of g new z)) (sym e) time_here
+        | inl e ↦ subst (λ (tree : TreeState (Option ℕ)). HasValueFrom s (carried g order rows s x) (get_or t.times x None) tree) (sym (other_time x (early_apart x e))) (lines_before.times x h e)
+        | inr e ↦ subst (λ z. HasValueFrom s (carried g order rows s z) (get_or t.times z None) (times_of g new z)) (sym e) time_here
       ];
       ends = λ q h less. elim (cases_eq q p) [
-        | inl e ↦ subst (λ z. Tells s (carried_at_end g order rows s z) (get_or t.ends z None) (ends_of g new z)) (sym e)
-            (subst (λ (tree : TreeState (Option ℕ)). Tells s (carried_at_end g order rows s p) (get_or t.ends p None) tree) (sym new_end) ended)
-        | inr other ↦ subst (λ (tree : TreeState (Option ℕ)). Tells s (carried_at_end g order rows s q) (get_or t.ends q None) tree) (sym (other_end q other))
+        | inl e ↦ subst (λ z. HasValueFrom s (carried_at_end g order rows s z) (get_or t.ends z None) (ends_of g new z)) (sym e)
+            (subst (λ (tree : TreeState (Option ℕ)). HasValueFrom s (carried_at_end g order rows s p) (get_or t.ends p None) tree) (sym new_end) ended)
+        | inr other ↦ subst (λ (tree : TreeState (Option ℕ)). HasValueFrom s (carried_at_end g order rows s q) (get_or t.ends q None) tree) (sym (other_end q other))
             (lines_before.ends q h (sooner_end q h less other))
       ];
       ready = λ node h w. elim (cases_eq node (node_of g p)) [

@@ -19,26 +19,26 @@ use Rattle.cpg_cube.specs.declared.literal.Literal.{Literal}
 use Rattle.cpg_cube.specs.Column.{Column}
 use Rattle.cpg_run.proofs.KnownRanges.{range_known}
 use Rattle.cpg_run.specs.Carried.{row_at, told_by, number_known, decided, heard, received, executed, passed, carried_at_start, carried_at_end}
-use Rattle.cpg_tree.specs.Tree.{Path, TreeState, IsOn}
+use Rattle.cpg_tree.specs.Tree.{Path, TreeState, IsOnPath}
 use Rattle.cpg_expand.specs.Agreeing.{Agrees}
-use Rattle.cpg_expand.specs.Guarded.{value_known, told_of}
+use Rattle.cpg_expand.specs.Guarded.{value_known, support_of}
 
 -- ---- the literals of a column that matches are told
 
-pub told_there : (rows : List (List Column)) (s : Scenario) (x : ℕ) (c : Column) → Contains (row_at rows x) c → matches c.cube s ≡ true → (l : Literal) → Contains c.cube l →
+pub valued_there : (rows : List (List Column)) (s : Scenario) (x : ℕ) (c : Column) → Contains (row_at rows x) c → matches c.cube s ≡ true → (l : Literal) → Contains c.cube l →
     Contains (told_by rows s x) l
-told_there rows s x c j m l i = Contains-flat_map (λ (d : Column). d.cube) (filter (λ (d : Column). matches d.cube s) (row_at rows x)) c l
+valued_there rows s x c j m l i = Contains-flat_map (λ (d : Column). d.cube) (filter (λ (d : Column). matches d.cube s) (row_at rows x)) c l
     (Contains-filter (λ (d : Column). matches d.cube s) (row_at rows x) c m j) i
 
 -- a tree whose paths of a scenario are columns of the row says what the row tells
-pub told_by_tree : {T : Type 0} (k : ℕ) (rows : List (List Column)) (s : Scenario) (x : ℕ) (fact : T → Type 0) (t : TreeState T) → t.faults ≡ k →
-    ((p : Path T) → IsOn t.paths s p → fact p.1 × ((c : Column) × Contains (row_at rows x) c × (c.cube ≡ p.0))) → Agrees s (told_by rows s x) fact t
-told_by_tree k rows s x fact t same there = record {
+pub valued_by_tree : {T : Type 0} (k : ℕ) (rows : List (List Column)) (s : Scenario) (x : ℕ) (fact : T → Type 0) (t : TreeState T) → t.faults ≡ k →
+    ((p : Path T) → IsOnPath t.paths s p → fact p.1 × ((c : Column) × Contains (row_at rows x) c × (c.cube ≡ p.0))) → Agrees s (told_by rows s x) fact t
+valued_by_tree k rows s x fact t same there = record {
   value = λ p on. (there p on).0;
   says = λ p on.
       let c = (there p on).1 in
       let kept = range_known t.faults (told_by rows s x) p.0
-      (λ l i. told_there rows s x c.0 c.1 (subst (λ (ls : List Literal). matches ls s ≡ true) (sym c.2) on.matched) l (subst (λ (ls : List Literal). Contains ls l) (sym c.2) i)) in
+      (λ l i. valued_there rows s x c.0 c.1 (subst (λ (ls : List Literal). matches ls s ≡ true) (sym c.2) on.matched) l (subst (λ (ls : List Literal). Contains ls l) (sym c.2) i)) in
       record { low = λ v. (kept v).0; high = λ v. (kept v).1 };
 }
 
@@ -116,8 +116,8 @@ module _ (g : Graph) (order : List ℕ) (topological : IsTopological g order) (r
   -- ---- of conditions that a node hears
 
   -- what tells when a node hears a condition
-  abbrev pub heard_tell : ℕ → ℕ → List Literal
-  heard_tell node c = if node_of g (process_of g c) == node then carried_at_end g order rows s (process_of g c) else told_by rows s (broadcast_item g c)
+  abbrev pub heard_support : ℕ → ℕ → List Literal
+  heard_support node c = if node_of g (process_of g c) == node then carried_at_end g order rows s (process_of g c) else told_by rows s (broadcast_item g c)
 
   own_before : (p q : ℕ) → q < process_count g → place order q < place order p → node_of g q ≡ node_of g p → Contains (before_on_node g order p) q
   own_before p q l less same = Contains-filter (λ (u : ℕ). node_of g u == node_of g p) (before order p) q (eq-eqb (node_of g q) (node_of g p) same)
@@ -125,7 +125,7 @@ module _ (g : Graph) (order : List ℕ) (topological : IsTopological g order) (r
 
   module _ (urgency : List ℕ) (is_urgency : IsUrgencyOrder g urgency) (urgent : IsTopological g urgency) (p : ℕ) where
     -- what tells of a condition that decides a process is carried
-    pub heard_carried : (c : ℕ) → Contains (deciding g s.values p) c → (l : Literal) → Contains (heard_tell (node_of g p) c) l →
+    pub heard_carried : (c : ℕ) → Contains (deciding g s.values p) c → (l : Literal) → Contains (heard_support (node_of g p) c) l →
         Contains (flat_map (passed g rows s) (before_on_node g order p) ++ heard g rows s p) l
     heard_carried c j l i =
         let r = Contains-filter_parts (decides g s.values p) (numbers_below (condition_count g)) c j in
@@ -144,11 +144,11 @@ module _ (g : Graph) (order : List ℕ) (topological : IsTopological g order) (r
         ]
 
     -- all that the tests on the way of a guard tell
-    pub tests_carried : (ws : List ℕ) → ((c : ℕ) → Contains ws c → Contains (deciding g s.values p) c) → (l : Literal) → Contains (told_of s (heard_tell (node_of g p)) ws) l →
+    pub tests_carried : (ws : List ℕ) → ((c : ℕ) → Contains ws c → Contains (deciding g s.values p) c) → (l : Literal) → Contains (support_of s (heard_support (node_of g p)) ws) l →
         Contains (flat_map (passed g rows s) (before_on_node g order p) ++ decided g s p ++ heard g rows s p) l
     tests_carried ws of l i =
-        let r = Contains-flat_map_parts (λ c. heard_tell (node_of g p) c ++ value_known s c ∷ []) ws l i in
-        elim (Contains-append_cases (heard_tell (node_of g p) r.0) (value_known s r.0 ∷ []) l r.2) [
+        let r = Contains-flat_map_parts (λ c. heard_support (node_of g p) c ++ value_known s c ∷ []) ws l i in
+        elim (Contains-append_cases (heard_support (node_of g p) r.0) (value_known s r.0 ∷ []) l r.2) [
           | inl m ↦ elim (Contains-append_cases (flat_map (passed g rows s) (before_on_node g order p)) (heard g rows s p) l (heard_carried r.0 (of r.0 r.1) l m)) [
             | inl n ↦ Contains-append_left (flat_map (passed g rows s) (before_on_node g order p) ++ decided g s p) (heard g rows s p) l
                 (Contains-append_left (flat_map (passed g rows s) (before_on_node g order p)) (decided g s p) l n)
@@ -165,12 +165,12 @@ module _ (g : Graph) (order : List ℕ) (topological : IsTopological g order) (r
   -- ---- of inputs
 
   -- what tells when an input is there
-  abbrev pub input_tell : ℕ → List Literal
-  input_tell e = if is_message g e then told_by rows s (message_item g e) else carried_at_end g order rows s (source g e)
+  abbrev pub input_support : ℕ → List Literal
+  input_support e = if is_message g e then told_by rows s (message_item g e) else carried_at_end g order rows s (source g e)
 
   -- what tells of a live input is carried
   pub input_carried : (p e : ℕ) → Contains (inputs g p) e → node_of g (source g e) ≡ node_of g p ⊎ (is_message g e ≡ true) → source g e < process_count g → active g s.values (source g e) ≡ true →
-      (l : Literal) → Contains (input_tell e) l →
+      (l : Literal) → Contains (input_support e) l →
       Contains (flat_map (passed g rows s) (before_on_node g order p) ++ received g rows s p) l
   input_carried p e j way low on l i = by (is_message g e) refl way
     where

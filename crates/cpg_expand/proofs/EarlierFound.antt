@@ -5,8 +5,8 @@ use Rattle.cpg_base.specs.Graph.{Graph, process_count, node_of}
 use Rattle.cpg_base.specs.Order.{place}
 use Rattle.cpg_base.specs.Scenario.{Scenario}
 use Rattle.cpg_rules.specs.Guards.{Guards, tree_of}
-use Rattle.cpg_tree.specs.Space.{HasFew}
-use Rattle.cpg_tree.specs.Tree.{Path, TreeState, IsConstant, IsOn, IsPick}
+use Rattle.cpg_tree.specs.Space.{HasAtMostFaults}
+use Rattle.cpg_tree.specs.Tree.{Path, TreeState, IsConstant, IsOnPath, IsPick}
 use Rattle.cpg_tree.proofs.OnePath.{the_path}
 use Rattle.cpg_expand.specs.Agreeing.{IsTree}
 use Rattle.cpg_expand.specs.Earlier.{IsAskedOf, IsAskedTree, IsBetween, IsBothTree, IsCut, is_always}
@@ -17,7 +17,7 @@ apart : true ≡ false → ⊥
 apart e = cc
 
 -- a tree of one path has its value there
-constant_there : {T : Type 0} (x : T) (k : ℕ) (t : TreeState T) → IsConstant x k t → (s : Scenario) (y : Path T) → IsOn t.paths s y → y.1 ≡ x
+constant_there : {T : Type 0} (x : T) (k : ℕ) (t : TreeState T) → IsConstant x k t → (s : Scenario) (y : Path T) → IsOnPath t.paths s y → y.1 ≡ x
 constant_there x k t is s y on = (agrees_constant s x k t (λ z. z ≡ x) refl is).value y on
 
 module _ (g : Graph) (order : List ℕ) (node from to q : ℕ) where
@@ -68,11 +68,11 @@ module _ (g : Graph) (order : List ℕ) (guards : Guards) (node from to c : ℕ)
       Asked q asked → Asked (q + 1) t
   asked_too q tested always asked t between of_tested of_always of_asked tests is pick asks s few z on = by w.0.1 refl
     where
-      w : (x : Path Bool) × IsOn tested.paths s x
+      w : (x : Path Bool) × IsOnPath tested.paths s x
       w = the_path g.faults tested.paths of_tested.each s few
 
-      few_there : HasFew tested.faults s
-      few_there = subst (λ k. HasFew k s) (sym of_tested.faults) few
+      few_there : HasAtMostFaults tested.faults s
+      few_there = subst (λ k. HasAtMostFaults k s) (sym of_tested.faults) few
 
       value : w.0.1 ≡ is_tested (tree_of guards q) s.values c
       value = (tests s few).value w.0 w.1
@@ -80,13 +80,13 @@ module _ (g : Graph) (order : List ℕ) (guards : Guards) (node from to c : ℕ)
       by : (b : Bool) → w.0.1 ≡ b → (z.1 ≡ true → IsAskedOf g order guards node from to c (q + 1) s.values) × (IsAskedOf g order guards node from to c (q + 1) s.values → z.1 ≡ true)
       by true e =
           let y = the_path g.faults always.paths of_always.each s few in
-          let picked : z.1 ≡ y.0.1 = pick.value s w.0 y.0 z few_there w.1 (subst (λ (b : Bool). IsOn (if b then always.paths else asked.paths) s y.0) (sym e) y.1) on in (
+          let picked : z.1 ≡ y.0.1 = pick.value s w.0 y.0 z few_there w.1 (subst (λ (b : Bool). IsOnPath (if b then always.paths else asked.paths) s y.0) (sym e) y.1) on in (
             λ h. record { process = q; below = omega arith; between = between; tested = sym value ∙ e },
             λ h. picked ∙ constant_there true g.faults always is s y.0 y.1,
           )
       by false e =
           let y = the_path g.faults asked.paths of_asked.each s few in
-          let picked : z.1 ≡ y.0.1 = pick.value s w.0 y.0 z few_there w.1 (subst (λ (b : Bool). IsOn (if b then always.paths else asked.paths) s y.0) (sym e) y.1) on in (
+          let picked : z.1 ≡ y.0.1 = pick.value s w.0 y.0 z few_there w.1 (subst (λ (b : Bool). IsOnPath (if b then always.paths else asked.paths) s y.0) (sym e) y.1) on in (
             λ h. more q (q + 1) s (omega arith) ((asks s few y.0 y.1).0 (sym picked ∙ h)),
             λ a. picked ∙ (asks s few y.0 y.1).1 (less q s (λ b h. apart (sym (value ∙ h) ∙ e)) a),
           )
@@ -95,12 +95,12 @@ module _ (g : Graph) (order : List ℕ) (guards : Guards) (node from to c : ℕ)
 pub both_true : (g : Graph) (a b never t : TreeState Bool) → IsTree g a → IsTree g never → IsConstant false g.faults never → IsPick a b never t → IsBothTree g.faults a b t
 both_true g a b never t of_a of_never is pick s few x y z on_x on_y on_z = by x.1 refl
   where
-    few_there : HasFew a.faults s
-    few_there = subst (λ k. HasFew k s) (sym of_a.faults) few
+    few_there : HasAtMostFaults a.faults s
+    few_there = subst (λ k. HasAtMostFaults k s) (sym of_a.faults) few
 
     by : (d : Bool) → x.1 ≡ d → z.1 ≡ (x.1 && y.1)
-    by true e = pick.value s x y z few_there on_x (subst (λ (d : Bool). IsOn (if d then b.paths else never.paths) s y) (sym e) on_y) on_z ∙ sym (ap (λ (d : Bool). d && y.1) e)
+    by true e = pick.value s x y z few_there on_x (subst (λ (d : Bool). IsOnPath (if d then b.paths else never.paths) s y) (sym e) on_y) on_z ∙ sym (ap (λ (d : Bool). d && y.1) e)
     by false e =
         let n = the_path g.faults never.paths of_never.each s few in
-        pick.value s x n.0 z few_there on_x (subst (λ (d : Bool). IsOn (if d then b.paths else never.paths) s n.0) (sym e) n.1) on_z ∙ constant_there false g.faults never is s n.0 n.1 ∙
+        pick.value s x n.0 z few_there on_x (subst (λ (d : Bool). IsOnPath (if d then b.paths else never.paths) s n.0) (sym e) n.1) on_z ∙ constant_there false g.faults never is s n.0 n.1 ∙
         sym (ap (λ (d : Bool). d && y.1) e)

@@ -14,20 +14,20 @@ use Rattle.cpg_cube.specs.declared.literal.Literal.{Literal}
 use Rattle.cpg_cube.specs.Column.{Column}
 use Rattle.cpg_run.specs.Run.{Times, IsRun, unfrozen_time, time_by}
 use Rattle.cpg_run.specs.Carried.{decided, heard, received, passed, carried_at_start}
-use Rattle.cpg_tree.specs.Space.{HasFew}
+use Rattle.cpg_tree.specs.Space.{HasAtMostFaults}
 use Rattle.cpg_tree.specs.Tree.{TreeState, IsMap}
-use Rattle.cpg_expand.specs.Agreeing.{Tells, IsTree}
+use Rattle.cpg_expand.specs.Agreeing.{HasValueFrom, IsTree}
 use Rattle.cpg_expand.specs.Guarded.{IsActiveTree, value_known, values_known}
 use Rattle.cpg_expand.specs.Values.{time_if}
 use Rattle.cpg_expand.proofs.AgreeingTrees.{agrees_map, agrees_weaker}
-use Rattle.cpg_expand.proofs.TreesTold.{each_of, few_of}
+use Rattle.cpg_expand.proofs.GuardTrees.{each_of, few_of}
 
-module _ (g : Graph) (order : List ℕ) (rows : List (List Column)) (s : Scenario) (few : HasFew g.faults s) (p : ℕ) (guard : Guard)
+module _ (g : Graph) (order : List ℕ) (rows : List (List Column)) (s : Scenario) (few : HasAtMostFaults g.faults s) (p : ℕ) (guard : Guard)
     (leads : outcome_at guard s.values ≡ activation g s.values p) (on_way : (c : ℕ) → Contains (way guard s.values) c → Contains (deciding g s.values p) c) where
   -- one time wherever the process is active
   pub frozen_line : (process_at g p).frozen ≡ true → (chooser : TreeState Bool) (tree : TreeState (Option ℕ)) (time : ℕ) → IsTree g chooser → IsActiveTree g.faults guard chooser →
       IsMap (λ b z. z ≡ time_if time b) chooser tree →
-      Tells s (carried_at_start g order rows s p) (if active g s.values p then Some time else None) tree
+      HasValueFrom s (carried_at_start g order rows s p) (if active g s.values p then Some time else None) tree
   frozen_line frozen chooser tree time of_chooser actives made =
       agrees_weaker s tree (values_known s (way guard s.values)) (carried_at_start g order rows s p) (λ z. z ≡ time_if time (active g s.values p))
       (λ z. z ≡ (if active g s.values p then Some time else None)) within (λ z e. e)
@@ -35,8 +35,8 @@ module _ (g : Graph) (order : List ℕ) (rows : List (List Column)) (s : Scenari
       (few_of g.faults chooser.faults s of_chooser.faults few) (each_of g chooser.faults chooser of_chooser.faults of_chooser) made
       (λ b z e f. f ∙ ap (time_if time) e) chosen)
     where
-      chosen : Tells s (values_known s (way guard s.values)) (active g s.values p) chooser
-      chosen = subst (λ (a : Activation). Tells s (values_known s (way guard s.values)) (is_active a) chooser) leads (actives s few)
+      chosen : HasValueFrom s (values_known s (way guard s.values)) (active g s.values p) chooser
+      chosen = subst (λ (a : Activation). HasValueFrom s (values_known s (way guard s.values)) (is_active a) chooser) leads (actives s few)
 
       in_decided : (l : Literal) → Contains (values_known s (way guard s.values)) l → Contains (decided g s p) l
       in_decided l j =

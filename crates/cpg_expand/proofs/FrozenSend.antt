@@ -13,19 +13,19 @@ use Rattle.cpg_cube.specs.Column.{Column}
 use Rattle.cpg_run.specs.Run.{Times, IsRun, unfrozen_time}
 use Rattle.cpg_run.specs.Carried.{decided, carried_at_end, carried_at_send, sent_by_value, queued}
 use Rattle.cpg_run.proofs.Runs.{time_is}
-use Rattle.cpg_tree.specs.Space.{HasFew}
+use Rattle.cpg_tree.specs.Space.{HasAtMostFaults}
 use Rattle.cpg_tree.specs.Tree.{TreeState, IsMap}
-use Rattle.cpg_expand.specs.Agreeing.{Tells, IsTree}
+use Rattle.cpg_expand.specs.Agreeing.{HasValueFrom, IsTree}
 use Rattle.cpg_expand.specs.Values.{time_if}
 use Rattle.cpg_expand.proofs.AgreeingTrees.{agrees_map, agrees_weaker}
-use Rattle.cpg_expand.proofs.TreesTold.{each_of, few_of}
+use Rattle.cpg_expand.proofs.GuardTrees.{each_of, few_of}
 
-module _ (g : Graph) (order : List ℕ) (rows : List (List Column)) (s : Scenario) (few : HasFew g.faults s) (x : ℕ)
-    (says : List Literal) (goes : TreeState Bool) (of_goes : Tells s says (item_active g s.values (item_at g x)) goes)
+module _ (g : Graph) (order : List ℕ) (rows : List (List Column)) (s : Scenario) (few : HasAtMostFaults g.faults s) (x : ℕ)
+    (says : List Literal) (goes : TreeState Bool) (of_goes : HasValueFrom s says (item_active g s.values (item_at g x)) goes)
     (at_most : (l : Literal) → Contains says l → Contains (decided g s (producer g x)) l ⊎ ((active g s.values (producer g x) ≡ true) × Contains (sent_by_value g s x) l)) where
   -- one time wherever the item is sent
   pub frozen_send_line : is_frozen g x ≡ true → (tree : TreeState (Option ℕ)) (time : ℕ) → IsTree g goes → IsMap (λ b z. z ≡ time_if time b) goes tree →
-      Tells s (carried_at_send g order rows s x) (if item_active g s.values (item_at g x) then Some time else None) tree
+      HasValueFrom s (carried_at_send g order rows s x) (if item_active g s.values (item_at g x) then Some time else None) tree
   frozen_send_line frozen tree time of_tree made =
       agrees_weaker s tree says (carried_at_send g order rows s x) (λ z. z ≡ time_if time (item_active g s.values (item_at g x)))
       (λ z. z ≡ (if item_active g s.values (item_at g x) then Some time else None)) within (λ z e. e)

@@ -13,13 +13,13 @@ use Rattle.cpg_base.specs.Scenario.{Scenario}
 use Rattle.cpg_base.proofs.ConditionProcesses.{condition_of_edge, condition_of_process_of}
 use Rattle.cpg_cube.specs.declared.literal.Literal.{Literal}
 use Rattle.cpg_run.specs.Carried.{number_known, sent_by_value}
-use Rattle.cpg_tree.specs.Space.{HasFew}
+use Rattle.cpg_tree.specs.Space.{HasAtMostFaults}
 use Rattle.cpg_tree.specs.Tree.{TreeState, IsMap}
-use Rattle.cpg_expand.specs.Agreeing.{Tells, IsTree}
+use Rattle.cpg_expand.specs.Agreeing.{HasValueFrom, IsTree}
 use Rattle.cpg_expand.specs.Guarded.{value_known}
 use Rattle.cpg_expand.specs.Sending.{IsTestedTree, IsLiveTree, IsGoesTree, asked, asked_by}
 use Rattle.cpg_expand.proofs.AgreeingTrees.{agrees_map, agrees_weaker}
-use Rattle.cpg_expand.proofs.TreesTold.{each_of, few_of}
+use Rattle.cpg_expand.proofs.GuardTrees.{each_of, few_of}
 
 same_true : (b : Bool) → same_bool true b ≡ b
 same_true true = refl
@@ -30,13 +30,13 @@ and_true true = refl
 and_true false = refl
 
 -- what is true where a tree is
-pub same_told : (g : Graph) (chooser t : TreeState Bool) → IsTree g chooser → IsMap (λ x z. z ≡ same_bool true x) chooser t → (s : Scenario) → HasFew g.faults s →
-    (b : Bool) (first more : List Literal) → Tells s first b chooser → Tells s (first ++ more) b t
-same_told g chooser t of_chooser made s few b first more told =
+pub same_valued : (g : Graph) (chooser t : TreeState Bool) → IsTree g chooser → IsMap (λ x z. z ≡ same_bool true x) chooser t → (s : Scenario) → HasAtMostFaults g.faults s →
+    (b : Bool) (first more : List Literal) → HasValueFrom s first b chooser → HasValueFrom s (first ++ more) b t
+same_valued g chooser t of_chooser made s few b first more valued =
     agrees_weaker s t first (first ++ more) (λ z. z ≡ b) (λ z. z ≡ b) (λ l j. Contains-append_left first more l j) (λ z e. e)
     (agrees_map s (λ x z. z ≡ same_bool true x) chooser t first (λ x. x ≡ b) (λ z. z ≡ b) (few_of g.faults chooser.faults s of_chooser.faults few)
     (each_of g chooser.faults chooser of_chooser.faults of_chooser) made
-    (λ x z e f. f ∙ ap (same_bool true) e ∙ same_true b) told)
+    (λ x z e f. f ∙ ap (same_bool true) e ∙ same_true b) valued)
 
 -- ---- what an edge asks for
 
@@ -73,42 +73,42 @@ module _ (g : Graph) (e : ℕ) where
 
   module _ (chooser t : TreeState Bool) where
     pub live_simple : e < edge_count g → source g e < process_count g → asked g e ≡ None → IsTree g chooser → IsMap (λ x z. z ≡ same_bool true x) chooser t → IsLiveTree g e chooser t
-    live_simple l h none of_chooser made s few first told =
+    live_simple l h none of_chooser made s few first valued =
         let simple = asks_nothing l h none in
         let b : Bool = active g s.values (source g e) in
         let v : Bool = get_or s.values (unwrap_or (condition_of g (source g e)) 0) false in
-        subst (λ (z : Bool). Tells s (first ++ (if b then map (number_known s) (source_value g e) else [])) z t) (sym (ap (λ o. b && takes o v) simple ∙ and_true b))
-        (same_told g chooser t of_chooser made s few b first (if b then map (number_known s) (source_value g e) else []) told)
+        subst (λ (z : Bool). HasValueFrom s (first ++ (if b then map (number_known s) (source_value g e) else [])) z t) (sym (ap (λ o. b && takes o v) simple ∙ and_true b))
+        (same_valued g chooser t of_chooser made s few b first (if b then map (number_known s) (source_value g e) else []) valued)
 
     pub live_tested : (c : ℕ) (w : Bool) → asked g e ≡ Some (c, w) → IsTestedTree g.faults c w chooser t → IsLiveTree g e chooser t
-    live_tested c w is tested s few first told =
+    live_tested c w is tested s few first valued =
         let both = a_question (edge_at g e).when (condition_of g (source g e)) c w is in
         let b : Bool = active g s.values (source g e) in
         let lits = ap₂ (λ (o : Option Bool) (d : Option ℕ). first ++ (if b then map (number_known s) (if is_some o then map value_variable (option_to_list d) else []) else [])) (sym both.0)
         (sym both.1) in
         let value = ap₂ (λ (o : Option Bool) (d : Option ℕ). b && takes o (get_or s.values (unwrap_or d 0) false)) (sym both.0) (sym both.1) in
-        subst (λ (ls : List Literal). Tells s ls (live g s.values e) t) lits
-        (subst (λ (z : Bool). Tells s (first ++ (if b then value_known s c ∷ [] else [])) z t) value (tested s few b first told))
+        subst (λ (ls : List Literal). HasValueFrom s ls (live g s.values e) t) lits
+        (subst (λ (z : Bool). HasValueFrom s (first ++ (if b then value_known s c ∷ [] else [])) z t) value (tested s few b first valued))
 
 module _ (g : Graph) (x : ℕ) (chooser t : TreeState Bool) where
   -- a message is sent if its edge is live
   pub goes_message : (e : ℕ) → item_at g x ≡ Message e → is_sent_item g (item_at g x) ≡ true → IsLiveTree g e chooser t → IsGoesTree g x chooser t
-  goes_message e is sent lives s few first told =
+  goes_message e is sent lives s few first valued =
       let message = sym (ap (is_sent_item g) is) ∙ sent in
-      subst (λ (i : Item). Tells s first (active g s.values (producer_of_item g i)) chooser →
-      Tells s (first ++ (if active g s.values (producer_of_item g i) then map (number_known s) (sent_value g i) else [])) (item_active g s.values i) t) (sym is)
-      (λ by_source. subst (λ (z : Bool). Tells s (first ++ (if active g s.values (source g e) then map (number_known s) (source_value g e) else [])) z t)
+      subst (λ (i : Item). HasValueFrom s first (active g s.values (producer_of_item g i)) chooser →
+      HasValueFrom s (first ++ (if active g s.values (producer_of_item g i) then map (number_known s) (sent_value g i) else [])) (item_active g s.values i) t) (sym is)
+      (λ by_source. subst (λ (z : Bool). HasValueFrom s (first ++ (if active g s.values (source g e) then map (number_known s) (source_value g e) else [])) z t)
       (sym (ap (λ (b : Bool). b && live g s.values e) message)) (lives s few first by_source))
-      told
+      valued
 
   -- a broadcast with its process
   pub goes_broadcast : (c : ℕ) → item_at g x ≡ Broadcast c → is_sent_item g (item_at g x) ≡ true → IsTree g chooser → IsMap (λ x z. z ≡ same_bool true x) chooser t → IsGoesTree g x chooser t
-  goes_broadcast c is sent of_chooser made s few first told =
+  goes_broadcast c is sent of_chooser made s few first valued =
       let many = sym (ap (is_sent_item g) is) ∙ sent in
       let value : item_active g s.values (item_at g x) ≡ active g s.values (producer g x) =
       ap (item_active g s.values) is ∙ ap (λ (b : Bool). b && active g s.values (process_of g c)) many ∙ ap (λ (i : Item). active g s.values (producer_of_item g i)) (sym is) in
-      subst (λ (z : Bool). Tells s (first ++ (if active g s.values (producer g x) then sent_by_value g s x else [])) z t) (sym value)
-      (same_told g chooser t of_chooser made s few (active g s.values (producer g x)) first (if active g s.values (producer g x) then sent_by_value g s x else []) told)
+      subst (λ (z : Bool). HasValueFrom s (first ++ (if active g s.values (producer g x) then sent_by_value g s x else [])) z t) (sym value)
+      (same_valued g chooser t of_chooser made s few (active g s.values (producer g x)) first (if active g s.values (producer g x) then sent_by_value g s x else []) valued)
 
   no_start : (p : ℕ) → item_at g x ≡ Start p → is_sent_item g (item_at g x) ≡ true → ⊥
   no_start p is sent = true≢false (sym sent ∙ ap (is_sent_item g) is)

@@ -19,25 +19,25 @@ use Rattle.cpg_run.proofs.Runs.{has_time}
 use Rattle.cpg_run.proofs.RunExists.{a_run}
 use Rattle.cpg_run.proofs.RunUnique.{AgreeBefore, agree_before}
 use Rattle.cpg_tree.specs.Tree.{IsConstant}
-use Rattle.cpg_expand.specs.Agreeing.{Tells}
+use Rattle.cpg_expand.specs.Agreeing.{HasValueFrom}
 use Rattle.cpg_expand.specs.Forest.{ForestState, HasTrees, no_tree, times_of, ends_of, ready_at, ready_by}
 use Rattle.cpg_expand.specs.declared.forest.Ready.{Ready}
 use Rattle.cpg_expand.specs.declared.forest.Ready.TheVariants.{After, At}
 use Rattle.cpg_expand.specs.Grown.{RowsHold, IsReadyLine, IsFreeLine, Lines, IsEarlier, AreSettledOf, IsGrown, IsReadyFirst, IsBare}
-use Rattle.cpg_expand.specs.Told.{HasTold}
+use Rattle.cpg_expand.specs.TreeValues.{HasTreeValues}
 use Rattle.cpg_expand.specs.Waiting.{ready_of, free_of}
 use Rattle.cpg_expand.proofs.AgreeingTrees.{agrees_constant, agrees_weaker}
-use Rattle.cpg_expand.proofs.CarriedOn.{told_by_tree}
-use Rattle.cpg_expand.proofs.TreesTold.{times_tree}
+use Rattle.cpg_expand.proofs.CarriedOn.{valued_by_tree}
+use Rattle.cpg_expand.proofs.GuardTrees.{times_tree}
 
 -- ---- what is told
 
-pub told_from_lines : (g : Graph) (order : List ℕ) (rows : List (List Column)) (i : ℕ) (f : ForestState) → HasTrees g f → RowsHold g order i f rows →
+pub valued_from_lines : (g : Graph) (order : List ℕ) (rows : List (List Column)) (i : ℕ) (f : ForestState) → HasTrees g f → RowsHold g order i f rows →
     (frozen : List (Option ℕ)) (s : Scenario) (t : Times) → IsRun g order frozen s t →
-    Lines g order rows s t i f → HasTold g order rows s t i f
-told_from_lines g order rows i f has hold frozen s t run lines = record {
+    Lines g order rows s t i f → HasTreeValues g order rows s t i f
+valued_from_lines g order rows i f has hold frozen s t run lines = record {
   ends = λ q l sooner on. lines.ends q l sooner;
-  sends = λ x l sent sooner on. told_by_tree g.faults rows s x (λ (y : Option ℕ). y ≡ get_or t.times x None) (times_of g f x) (times_tree g f has x l).faults
+  sends = λ x l sent sooner on. valued_by_tree g.faults rows s x (λ (y : Option ℕ). y ≡ get_or t.times x None) (times_of g f x) (times_tree g f has x l).faults
       (λ p is_on.
       let here = (lines.times x l sooner).value p is_on in
       (here, hold.sends x l sent sooner p _ is_on.stands (here ∙ has_time g order frozen s t run x l on)));
@@ -48,10 +48,10 @@ told_from_lines g order rows i f has hold frozen s t run lines = record {
 module _ (g : Graph) (order : List ℕ) (topological : IsTopological g order) (rows : List (List Column)) (s : Scenario) (i : ℕ) (f : ForestState) where
   lines_same : (t u : Times) → AgreeBefore g order t u (i * phases g) → Lines g order rows s t i f → Lines g order rows s u i f
   lines_same t u a lines = record {
-    times = λ x h l. subst (λ (o : Option ℕ). Tells s (carried g order rows s x) o (times_of g f x)) (a.items x h (item_before g order topological s t u i a x h l)) (lines.times x h l);
-    ends = λ q h l. subst (λ (o : Option ℕ). Tells s (carried_at_end g order rows s q) o (ends_of g f q)) (a.ends q h (end_before g order topological s t u i a q l)) (lines.ends q h l);
-    ready = λ node l w. let r = lines.ready node l w in record { time = r.time; is = ready_same g order topological s t u i a node r.time r.is; tells = r.tells };
-    free = λ node l q. let r = lines.free node l q in record { time = r.time; is = free_same g order topological s t u i a node r.time r.is; tells = r.tells };
+    times = λ x h l. subst (λ (o : Option ℕ). HasValueFrom s (carried g order rows s x) o (times_of g f x)) (a.items x h (item_before g order topological s t u i a x h l)) (lines.times x h l);
+    ends = λ q h l. subst (λ (o : Option ℕ). HasValueFrom s (carried_at_end g order rows s q) o (ends_of g f q)) (a.ends q h (end_before g order topological s t u i a q l)) (lines.ends q h l);
+    ready = λ node l w. let r = lines.ready node l w in record { time = r.time; is = ready_same g order topological s t u i a node r.time r.is; has_value = r.has_value };
+    free = λ node l q. let r = lines.free node l q in record { time = r.time; is = free_same g order topological s t u i a node r.time r.is; has_value = r.has_value };
   }
 
   -- lines go over to a list of frozen times that is the same for what is made before the place
@@ -69,7 +69,7 @@ module _ (g : Graph) (order : List ℕ) (f : ForestState) (bare : IsBare g f) (h
   ready_first node l = record {
     time = 0;
     is = record { ends = λ q k before. absurd (omega (arith, before)); heard = λ q c k before. absurd (omega (arith, before)); least = λ b x y. omega arith };
-    tells = agrees_weaker s (ready_of g f node) [] _ (λ z. z ≡ 0) (λ z. z ≡ 0) (λ l j. absurd (Contains-nil l j)) (λ z e. e)
+    has_value = agrees_weaker s (ready_of g f node) [] _ (λ z. z ≡ 0) (λ z. z ≡ 0) (λ l j. absurd (Contains-nil l j)) (λ z e. e)
         (agrees_constant s 0 g.faults (ready_of g f node) (λ z. z ≡ 0) refl
         (first (ready_at g f node) (All-get_or (IsReadyFirst g.faults) f.ready node (At (no_tree g.faults)) (omega (arith, l, has.ready)) bare.ready)));
   }
@@ -82,7 +82,7 @@ module _ (g : Graph) (order : List ℕ) (f : ForestState) (bare : IsBare g f) (h
   free_first node l = record {
     time = 0;
     is = record { above = λ y h. absurd (let before = h.1 in omega (arith, before)); least = λ b h. omega arith };
-    tells = agrees_weaker s (free_of g f node) [] _ (λ z. z ≡ 0) (λ z. z ≡ 0) (λ l j. absurd (Contains-nil l j)) (λ z e. e)
+    has_value = agrees_weaker s (free_of g f node) [] _ (λ z. z ≡ 0) (λ z. z ≡ 0) (λ l j. absurd (Contains-nil l j)) (λ z e. e)
         (agrees_constant s 0 g.faults (free_of g f node) (λ z. z ≡ 0) refl (All-get_or (IsConstant 0 g.faults) f.free node (no_tree g.faults) (omega (arith, l, has.free)) bare.free));
   }
 

@@ -21,7 +21,7 @@ use Rattle.cpg_run.specs.Carried.{carried, queued}
 use Rattle.cpg_run.proofs.Runs.{time_is}
 use Rattle.cpg_run.proofs.Sends.{Contains-take}
 use Rattle.cpg_run.proofs.Steps.{free_here, free_other}
-use Rattle.cpg_expand.specs.Agreeing.{Tells}
+use Rattle.cpg_expand.specs.Agreeing.{HasValueFrom}
 use Rattle.cpg_expand.specs.Forest.{ForestState, times_of}
 use Rattle.cpg_expand.specs.Grown.{RowsHold, IsFreeLine, Lines, SendLines, IsEarlier, IsDone, AreSettledOf, IsGrown, IsSending}
 use Rattle.cpg_expand.specs.Sent.{IsFreeOnce, sent_before, sent_so_far}
@@ -73,12 +73,12 @@ module _ (g : Graph) (order : List ℕ) (topological : IsTopological g order) (p
 
   module _ (rows : List (List Column)) (hold : RowsHold g order (place order p + 1) f rows) (s : Scenario) (t : Times) (run : IsRun g order frozen s t)
       (lines : SendLines g order rows s t p (length (queue_of g p)) f) where
-    unsent_line : (x : ℕ) → process_count g ≤ x → x < item_count g → is_sent g x ≡ false → Tells s (carried g order rows s x) (get_or t.times x None) (times_of g f x)
+    unsent_line : (x : ℕ) → process_count g ≤ x → x < item_count g → is_sent g x ≡ false → HasValueFrom s (carried g order rows s x) (get_or t.times x None) (times_of g f x)
     unsent_line x big h is = agrees_weaker s (times_of g f x) [] (carried g order rows s x) (λ z. z ≡ None) (λ z. z ≡ get_or t.times x None) (λ y j. absurd (Contains-nil y j))
         (λ z e. e ∙ sym (time_is g order frozen s t run x h ∙ cond-false _ _ _ (unsent_idle g s.values x big (item_cases g x h) is)))
         (agrees_constant s None g.faults (times_of g f x) (λ z. z ≡ None) refl (sending.unsent x big h is))
 
-    time_line : (x : ℕ) → x < item_count g → IsEarlier g order (place order p + 1) x → Tells s (carried g order rows s x) (get_or t.times x None) (times_of g f x)
+    time_line : (x : ℕ) → x < item_count g → IsEarlier g order (place order p + 1) x → HasValueFrom s (carried g order rows s x) (get_or t.times x None) (times_of g f x)
     time_line x h sooner = elim (cases_lt x (process_count g)) [
       | inl k ↦ lines.times x h (done x h (inl k) sooner)
       | inr big ↦ elim (cases_Bool (is_sent g x)) [
@@ -94,12 +94,12 @@ module _ (g : Graph) (order : List ℕ) (topological : IsTopological g order) (p
     free_line_here once = record {
       time = once.time;
       is = free_here g order topological frozen s t run (place order p) p l refl once.time once.is;
-      tells = agrees_weaker s (free_of g f (node_of g p)) (flat_map (queued g order rows s) (sent_so_far g order p (length (queue_of g p))))
+      has_value = agrees_weaker s (free_of g f (node_of g p)) (flat_map (queued g order rows s) (sent_so_far g order p (length (queue_of g p))))
           (flat_map (queued g order rows s) (sent_before g order (place order p + 1) (node_of g p)))
           (λ z. z ≡ once.time) (λ z. z ≡ once.time)
           (λ y j. let r = Contains-flat_map_parts (queued g order rows s) (sent_so_far g order p (length (queue_of g p))) y j in
           Contains-flat_map (queued g order rows s) (sent_before g order (place order p + 1) (node_of g p)) r.0 y (more r.0 r.1) r.2)
-          (λ z e. e) once.tells;
+          (λ z e. e) once.has_value;
     }
       where
         more : (y : ℕ) → Contains (sent_so_far g order p (length (queue_of g p))) y → Contains (sent_before g order (place order p + 1) (node_of g p)) y
@@ -116,13 +116,13 @@ module _ (g : Graph) (order : List ℕ) (topological : IsTopological g order) (p
         record {
           time = line.time;
           is = free_other g order topological frozen s t run (place order p) p l refl node line.time other line.is;
-          tells = agrees_weaker s (free_of g f node) (flat_map (queued g order rows s) (sent_before g order (place order p) node))
+          has_value = agrees_weaker s (free_of g f node) (flat_map (queued g order rows s) (sent_before g order (place order p) node))
               (flat_map (queued g order rows s) (sent_before g order (place order p + 1) node)) (λ z. z ≡ line.time) (λ z. z ≡ line.time)
               (λ y j. let r = Contains-flat_map_parts (queued g order rows s) (sent_before g order (place order p) node) y j in
               let q = Contains-flat_map_parts (queue_of g) (on_node g order (place order p) node) r.0 r.1 in
               Contains-flat_map (queued g order rows s) (sent_before g order (place order p + 1) node) r.0 y
               (Contains-flat_map (queue_of g) (on_node g order (place order p + 1) node) q.0 r.0 (kept_on g order topological (place order p) p l refl node q.0 q.1) q.2) r.2)
-              (λ z e. e) line.tells;
+              (λ z e. e) line.has_value;
         }
 
     next_lines : Lines g order rows s t (place order p + 1) f

@@ -27,11 +27,11 @@ use Rattle.cpg_tree.specs.Tree.{TreeState}
 use Rattle.cpg_expand.specs.Forest.{ForestState, times_of}
 use Rattle.cpg_expand.specs.Grown.{RowsHold, IsEarlier, IsGrown}
 use Rattle.cpg_expand.specs.MadeRows.{AreEntriesOf, AreMergedOf, IsRowOf, AreRowsOf}
-use Rattle.cpg_expand.specs.Peaks.{TellEnds}
+use Rattle.cpg_expand.specs.Peaks.{GiveEnds}
 use Rattle.cpg_expand.specs.TreeRows.{IsTreeOf}
 use Rattle.cpg_expand.proofs.Begun.{own_rows, own_rows_hold}
 use Rattle.cpg_expand.proofs.TreeColumns.{column_there, tree_row_carries, merged_row_carries}
-use Rattle.cpg_expand.proofs.TreesTold.{times_tree}
+use Rattle.cpg_expand.proofs.GuardTrees.{times_tree}
 
 -- what is said of a problem, an order and a slice of trees is said of the graph, the list and the trees that they are
 pub said_of : (P : Graph → List ℕ → List (TreeState (Option ℕ)) → Type 0) (g h : Graph) (us vs : List ℕ) (ts rs : List (TreeState (Option ℕ))) → h ≡ g → vs ≡ us → rs ≡ ts → P h vs rs → P g us ts
@@ -46,8 +46,8 @@ module _ (g : Graph) (urgency : List ℕ) (guards : Guards) (a : IsAdmitted g ur
   earlier : (x : ℕ) → x < item_count g → IsEarlier g order (process_count g) x
   earlier x l = placed (producer g x) (producer_within g a.well_formed x l)
 
-  pub grown_tells_ends : TellEnds g order frozen f.ends
-  grown_tells_ends s t law run q l x on = ((grown.lines (own_rows f) (own_rows_hold g order (process_count g) f grown.trees) s law t run).ends q l (placed q l)).value x on
+  pub grown_gives_ends : GiveEnds g order frozen f.ends
+  grown_gives_ends s t law run q l x on = ((grown.lines (own_rows f) (own_rows_hold g order (process_count g) f grown.trees) s law t run).ends q l (placed q l)).value x on
 
   pub grown_frozen : AreFrozenTimes g order frozen
   grown_frozen = record {

@@ -11,22 +11,22 @@ use Rattle.cpg_expand.specs.Large.{IsLarge, IsLargeDown, IsLargeWith, ShowsLarge
 use Rattle.cpg_expand.specs.Later.{IsLatest}
 use Rattle.cpg_expand.proofs.LargeShown.{shown_as}
 
-module _ {T : Type 0} (large : Activation → Type 0) (told : Guard → TreeState T → Type 0) (wide : Option ℕ) (fault : BuildFault) (guard : Guard) where
+module _ {T : Type 0} (large : Activation → Type 0) (fits : Guard → TreeState T → Type 0) (wide : Option ℕ) (fault : BuildFault) (guard : Guard) where
   abbrev IsShown : Guard → Type 0
-  IsShown part = ShowsLarge wide (IsLargeDown large told part) fault
+  IsShown part = ShowsLarge wide (IsLargeDown large fits part) fault
 
   pub large_leaf : (a : Activation) → guard ≡ Leaf a → ShowsLarge wide (large a) fault → IsShown guard
   large_leaf a is h = subst IsShown (sym is) h
 
   module _ (c : ℕ) (off on : Guard) (is : guard ≡ Test c off on) where
     pub large_off : IsShown off → IsShown guard
-    large_off h = subst IsShown (sym is) (shown_as (IsLargeDown large told off) (IsLargeDown large told (Test c off on)) wide fault (λ x. inl x) h)
+    large_off h = subst IsShown (sym is) (shown_as (IsLargeDown large fits off) (IsLargeDown large fits (Test c off on)) wide fault (λ x. inl x) h)
 
     pub large_on : IsShown on → IsShown guard
-    large_on h = subst IsShown (sym is) (shown_as (IsLargeDown large told on) (IsLargeDown large told (Test c off on)) wide fault (λ x. inr (inl x)) h)
+    large_on h = subst IsShown (sym is) (shown_as (IsLargeDown large fits on) (IsLargeDown large fits (Test c off on)) wide fault (λ x. inr (inl x)) h)
 
-    pub large_part : (t : TreeState T) → told (Test c off on) t → ShowsLarge wide (IsLarge t) fault → IsShown guard
-    large_part t tells h = subst IsShown (sym is) (shown_as (IsLarge t) (IsLargeDown large told (Test c off on)) wide fault (λ x. inr (inr (t, tells, x))) h)
+    pub large_part : (t : TreeState T) → fits (Test c off on) t → ShowsLarge wide (IsLarge t) fault → IsShown guard
+    large_part t has_value h = subst IsShown (sym is) (shown_as (IsLarge t) (IsLargeDown large fits (Test c off on)) wide fault (λ x. inr (inr (t, has_value, x))) h)
 
 module _ (g : Graph) (f : ForestState) (wait : TreeState ℕ) (wide : Option ℕ) (fault : BuildFault) (whole : List ℕ) (e : ℕ) (es : List ℕ) (is : whole ≡ e ∷ es) where
   abbrev IsShownWith : List ℕ → Type 0

@@ -23,15 +23,15 @@ shown_as A B wide (TooWide x) f h = (h.0, f h.1)
 shown_as A B wide OutOfMemory f h = h
 
 -- a fault that is handed on
-pub handed_on : {T : Type 0} (P : BuildFault → Type 0) (result : Result T BuildFault) (told : BuildFault) → IsErrAnd result (λ e. e ≡ told) → P told → IfErr result P
-handed_on P (Ok x) told same h = absurd same
-handed_on P (Err e) told same h = subst P (sym same) h
+pub handed_on : {T : Type 0} (P : BuildFault → Type 0) (result : Result T BuildFault) (shown : BuildFault) → IsErrAnd result (λ e. e ≡ shown) → P shown → IfErr result P
+handed_on P (Ok x) shown same h = absurd same
+handed_on P (Err e) shown same h = subst P (sym same) h
 
 -- for another cause
-pub handed_as : {T : Type 0} (A B : Type 0) (wide : Option ℕ) (result : Result T BuildFault) (told : BuildFault) → IsErrAnd result (λ e. e ≡ told) → (A → B) → ShowsLarge wide A told →
+pub handed_as : {T : Type 0} (A B : Type 0) (wide : Option ℕ) (result : Result T BuildFault) (shown : BuildFault) → IsErrAnd result (λ e. e ≡ shown) → (A → B) → ShowsLarge wide A shown →
     IfErr result (ShowsLarge wide B)
-handed_as A B wide (Ok x) told same f h = absurd same
-handed_as A B wide (Err e) told same f h = subst (ShowsLarge wide B) (sym same) (shown_as A B wide told f h)
+handed_as A B wide (Ok x) shown same f h = absurd same
+handed_as A B wide (Err e) shown same f h = subst (ShowsLarge wide B) (sym same) (shown_as A B wide shown f h)
 
 -- the fault of one name for an item is that of another name for it
 pub named_as : (A : Type 0) (wide other : Option ℕ) (fault : BuildFault) → wide ≡ other → ShowsLarge wide A fault → ShowsLarge other A fault

@@ -12,7 +12,7 @@ use Rattle.cpg_base.proofs.Lists.{Contains-cases, Contains-nil}
 use Rattle.cpg_rules.specs.Guards.{Guards}
 use Rattle.cpg_run.proofs.Sends.{in_next}
 use Rattle.cpg_tree_columns.specs.Meeting.{HasWhere, IsMostWhere, IsNowhere}
-use Rattle.cpg_tree.specs.Space.{HasFew}
+use Rattle.cpg_tree.specs.Space.{HasAtMostFaults}
 use Rattle.cpg_tree.specs.Tree.{TreeState}
 use Rattle.cpg_tree.proofs.OnePath.{scenario_few, the_path}
 use Rattle.cpg_expand.specs.Agreeing.{IsTree}
@@ -27,11 +27,11 @@ use Rattle.cpg_expand.specs.Waited.{stands_before}
 
 pub top_where : (g : Graph) → process_count g ≤ 128 → (t : TreeState (Option ℕ)) (u : TreeState Bool) → IsTree g t → IsTree g u → (o : Option ℕ) → IfNone o (IsNowhere t u) →
     IfSome o (IsMostWhere t u) → IsTop g (HasWhere t u) o
-top_where g few t u of of_u None none some = λ time s law h. none s time (subst (λ n. HasFew n s) (sym of.faults) (scenario_few g s law)) h
+top_where g few t u of of_u None none some = λ time s law h. none s time (subst (λ n. HasAtMostFaults n s) (sym of.faults) (scenario_few g s law)) h
 top_where g few t u of of_u (Some most) none some =
     let r = some.reached g (record { few = few; faults = of.faults; known = of.known; known_too = of_u.known }) in
     record {
-      above = λ time s law h. some.above s time (subst (λ n. HasFew n s) (sym of.faults) (scenario_few g s law)) h;
+      above = λ time s law h. some.above s time (subst (λ n. HasAtMostFaults n s) (sym of.faults) (scenario_few g s law)) h;
       scenario = r.scenario;
       lawful = r.lawful;
       there = r.has;

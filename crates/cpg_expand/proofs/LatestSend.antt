@@ -14,10 +14,10 @@ use Rattle.cpg_order.specs.Urgency.{IsTopological}
 use Rattle.cpg_run.specs.Run.{Times, IsRun, end_in, time_in, send_bounds, unfrozen_time}
 use Rattle.cpg_run.proofs.Bounded.{send_bounds_le}
 use Rattle.cpg_run.proofs.RunExists.{a_run}
-use Rattle.cpg_tree_columns.specs.Greatest.{HasValue}
+use Rattle.cpg_tree_columns.specs.Greatest.{HasValueAt}
 use Rattle.cpg_tree_columns.specs.Meeting.{HasWhere}
-use Rattle.cpg_tree.specs.Space.{HasFew}
-use Rattle.cpg_tree.specs.Tree.{Path, TreeState, IsOn}
+use Rattle.cpg_tree.specs.Space.{HasAtMostFaults}
+use Rattle.cpg_tree.specs.Tree.{Path, TreeState, IsOnPath}
 use Rattle.cpg_tree.proofs.OnePath.{scenario_few, the_path}
 use Rattle.cpg_expand.specs.Agreeing.{IsTree}
 use Rattle.cpg_expand.specs.Forest.{ForestState, times_of}
@@ -42,38 +42,38 @@ next_slot_later g node first second l = elim (cases_lt 0 (round g)) [
 ]
 
 -- what the trees tell of a send in one scenario with its run
-pub record IsToldSend (g : Graph) (order : List ℕ) (f : ForestState) (goes : TreeState Bool) (end : TreeState (Option ℕ)) (x : ℕ) (s : Scenario) (t : Times) : Type 0 where
-  pub acts : (c : Path Bool) → IsOn goes.paths s c → c.1 ≡ item_active g s.values (item_at g x)
-  pub ends : (e : Path (Option ℕ)) → IsOn end.paths s e → e.1 ≡ get_or t.ends (producer g x) None
+pub record IsSendByTrees (g : Graph) (order : List ℕ) (f : ForestState) (goes : TreeState Bool) (end : TreeState (Option ℕ)) (x : ℕ) (s : Scenario) (t : Times) : Type 0 where
+  pub acts : (c : Path Bool) → IsOnPath goes.paths s c → c.1 ≡ item_active g s.values (item_at g x)
+  pub ends : (e : Path (Option ℕ)) → IsOnPath end.paths s e → e.1 ≡ get_or t.ends (producer g x) None
   pub ended : item_active g s.values (item_at g x) ≡ true → get_or t.ends (producer g x) None ≡ Some (end_in t (producer g x))
   pub early : end_in t (producer g x) < 2 ^ 59
   pub value : unfrozen_time g order s t x ≡ greatest (send_bounds g order s t x)
   -- what stands before it was sent at the time of its tree
-  pub sent : (y : ℕ) → Contains (queued_before g order x) y → item_active g s.values (item_at g y) ≡ true → (time : ℕ) × HasValue (times_of g f y).paths (Some time) s ×
+  pub sent : (y : ℕ) → Contains (queued_before g order x) y → item_active g s.values (item_at g y) ≡ true → (time : ℕ) × HasValueAt (times_of g f y).paths (Some time) s ×
       (time_in t y + round g ≡ time_later (round g) (Some time)) × (y < item_count g) × (stands_before g order y x ≡ true)
-  pub came : (y time : ℕ) → y < item_count g → stands_before g order y x ≡ true → HasValue (times_of g f y).paths (Some time) s →
+  pub came : (y time : ℕ) → y < item_count g → stands_before g order y x ≡ true → HasValueAt (times_of g f y).paths (Some time) s →
       time_later (round g) (Some time) ≤ greatest (send_bounds g order s t x)
 
 module _ (g : Graph) (order : List ℕ) (frozen : List (Option ℕ)) (topological : IsTopological g order) (f : ForestState) (goes : TreeState Bool) (of_goes : IsTree g goes) (end : TreeState (Option ℕ))
     (of_end : IsTree g end) (x : ℕ)
-    (told : (s : Scenario) → IsScenario g s → (t : Times) → IsRun g order frozen s t → IsToldSend g order f goes end x s t) (latest : Option ℕ)
+    (valued : (s : Scenario) → IsScenario g s → (t : Times) → IsRun g order frozen s t → IsSendByTrees g order f goes end x s t) (latest : Option ℕ)
     (top : IsLatestSend g order f (share_of g (home g x)) goes end x latest) where
   -- ---- in one scenario
 
   module _ (s : Scenario) (law : IsScenario g s) (t : Times) (run : IsRun g order frozen s t) where
-    here : IsToldSend g order f goes end x s t
-    here = told s law t run
+    here : IsSendByTrees g order f goes end x s t
+    here = valued s law t run
 
-    few : HasFew g.faults s
+    few : HasAtMostFaults g.faults s
     few = scenario_few g s law
 
     abbrev bounds : ℕ
     bounds = greatest (send_bounds g order s t x)
 
-    acts : HasValue goes.paths true s → item_active g s.values (item_at g x) ≡ true
+    acts : HasValueAt goes.paths true s → item_active g s.values (item_at g x) ≡ true
     acts h = sym (here.acts h.0 h.1) ∙ h.2
 
-    goes_there : item_active g s.values (item_at g x) ≡ true → HasValue goes.paths true s
+    goes_there : item_active g s.values (item_at g x) ≡ true → HasValueAt goes.paths true s
     goes_there on = let c = the_path g.faults goes.paths of_goes.each s few in (c.0, c.1, here.acts c.0 c.1 ∙ on)
 
     end_there : item_active g s.values (item_at g x) ≡ true → HasWhere end goes (end_in t (producer g x)) s
@@ -119,7 +119,7 @@ module _ (g : Graph) (order : List ℕ) (frozen : List (Option ℕ)) (topologica
     abbrev Reached : Type 0
     Reached = (s : Scenario) × IsScenario g s × (item_active g s.values (item_at g x) ≡ true) × ((t : Times) → IsRun g order frozen s t → m ≤ unfrozen_time g order s t x)
 
-    acts_there : (s : Scenario) → IsScenario g s → HasValue goes.paths true s → item_active g s.values (item_at g x) ≡ true
+    acts_there : (s : Scenario) → IsScenario g s → HasValueAt goes.paths true s → item_active g s.values (item_at g x) ≡ true
     acts_there s law h = let t = a_run g order frozen s topological in acts s law t.0 t.1 h
 
     slot_reached : Reached

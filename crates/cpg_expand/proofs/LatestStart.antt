@@ -12,9 +12,9 @@ use Rattle.cpg_rules.specs.Guards.{Guards}
 use Rattle.cpg_run.proofs.Bounded.{start_bounds_le}
 use Rattle.cpg_run.proofs.RunExists.{a_run}
 use Rattle.cpg_run.specs.Run.{Times, IsRun, end_in, heard_there, input_there, input_bounds, start_bounds, unfrozen_time}
-use Rattle.cpg_tree_columns.specs.Greatest.{HasValue}
+use Rattle.cpg_tree_columns.specs.Greatest.{HasValueAt}
 use Rattle.cpg_tree_columns.specs.Meeting.{HasWhere}
-use Rattle.cpg_tree.specs.Tree.{Path, TreeState, IsOn}
+use Rattle.cpg_tree.specs.Tree.{Path, TreeState, IsOnPath}
 use Rattle.cpg_tree.proofs.OnePath.{scenario_few, the_path}
 use Rattle.cpg_expand.specs.Agreeing.{IsTree}
 use Rattle.cpg_expand.specs.Earlier.{IsBetween, IsAskedOf}
@@ -30,7 +30,7 @@ pub record HasEndAt (g : Graph) (order : List ℕ) (f : ForestState) (from p : �
   pub process : ℕ
   pub between : IsBetween g order (node_of g p) from (place order p) process
   pub time : ℕ
-  pub has : HasValue (ends_of g f process).paths (Some time) s
+  pub has : HasValueAt (ends_of g f process).paths (Some time) s
   pub late : n ≤ time_later 0 (Some time)
 
 -- the node hears a condition that one of these or p tests at the time of its tree
@@ -38,47 +38,47 @@ pub record IsHeardAt (g : Graph) (order : List ℕ) (guards : Guards) (f : Fores
   pub below : c < condition_count g
   pub asked : IsAskedOf g order guards (node_of g p) from (place order p + 1) c (process_count g) s.values
   pub time : ℕ
-  pub has : HasValue (heard_tree g f (node_of g p) c).paths (Some time) s
+  pub has : HasValueAt (heard_tree g f (node_of g p) c).paths (Some time) s
   pub is : heard_there g t (node_of g p) c ≡ time_later (heard_delay g (node_of g p) c) (Some time)
 
 -- what the trees tell of a start in one scenario with its run
-pub record IsToldStart (g : Graph) (order : List ℕ) (guards : Guards) (f : ForestState) (chooser : TreeState Bool) (from p : ℕ) (s : Scenario) (t : Times) : Type 0 where
-  pub acts : (x : Path Bool) → IsOn chooser.paths s x → x.1 ≡ active g s.values p
+pub record IsStartByTrees (g : Graph) (order : List ℕ) (guards : Guards) (f : ForestState) (chooser : TreeState Bool) (from p : ℕ) (s : Scenario) (t : Times) : Type 0 where
+  pub acts : (x : Path Bool) → IsOnPath chooser.paths s x → x.1 ≡ active g s.values p
   pub value : unfrozen_time g order s t p ≡ greatest (start_bounds g order s t p)
   -- what stands before it on its node has ended once one from the place on has
   pub ends : (q : ℕ) → Contains (before_on_node g order p) q → active g s.values q ≡ true → HasEndAt g order f from p s (end_in t q)
-  pub ended : (q time : ℕ) → IsBetween g order (node_of g p) from (place order p) q → HasValue (ends_of g f q).paths (Some time) s → time_later 0 (Some time) ≤ greatest (start_bounds g order s t p)
+  pub ended : (q time : ℕ) → IsBetween g order (node_of g p) from (place order p) q → HasValueAt (ends_of g f q).paths (Some time) s → time_later 0 (Some time) ≤ greatest (start_bounds g order s t p)
   -- the node has heard what decides them once one from the place on has ended, or at the time of its tree
   pub hears : (c : ℕ) → Contains (flat_map (deciding g s.values) (before_on_node g order p ++ p ∷ [])) c → HasEndAt g order f from p s (heard_there g t (node_of g p) c) ⊎
       IsHeardAt g order guards f from p s t c
-  pub heard : (c time : ℕ) → IsAskedOf g order guards (node_of g p) from (place order p + 1) c (process_count g) s.values → HasValue (heard_tree g f (node_of g p) c).paths (Some time) s →
+  pub heard : (c time : ℕ) → IsAskedOf g order guards (node_of g p) from (place order p + 1) c (process_count g) s.values → HasValueAt (heard_tree g f (node_of g p) c).paths (Some time) s →
       time_later (heard_delay g (node_of g p) c) (Some time) ≤ greatest (start_bounds g order s t p)
   -- the inputs from other nodes have their times exactly if they are live
   pub comes : (e : ℕ) → Contains (inputs g p) e → is_message g e ≡ true → live g s.values e ≡ true → (time : ℕ) × (get_or t.times (message_item g e) None ≡ Some time) ×
       (input_there g t e ≡ time_later (input_delay g e) (Some time))
   pub lives : (e time : ℕ) → Contains (inputs g p) e → is_message g e ≡ true → get_or t.times (message_item g e) None ≡ Some time → live g s.values e ≡ true
-  pub tells : (e : ℕ) → Contains (inputs g p) e → is_message g e ≡ true → (x : Path (Option ℕ)) × IsOn (input_tree g f e).paths s x × (x.1 ≡ get_or t.times (message_item g e) None)
-  pub told : (e : ℕ) → Contains (inputs g p) e → is_message g e ≡ true → (x : Path (Option ℕ)) → IsOn (input_tree g f e).paths s x → x.1 ≡ get_or t.times (message_item g e) None
+  pub has_value : (e : ℕ) → Contains (inputs g p) e → is_message g e ≡ true → (x : Path (Option ℕ)) × IsOnPath (input_tree g f e).paths s x × (x.1 ≡ get_or t.times (message_item g e) None)
+  pub valued : (e : ℕ) → Contains (inputs g p) e → is_message g e ≡ true → (x : Path (Option ℕ)) → IsOnPath (input_tree g f e).paths s x → x.1 ≡ get_or t.times (message_item g e) None
   -- the others are there once one from the place on has ended
   pub own : (e : ℕ) → Contains (inputs g p) e → is_message g e ≡ false → live g s.values e ≡ true → HasEndAt g order f from p s (input_there g t e)
 
 module _ (g : Graph) (order : List ℕ) (guards : Guards) (frozen : List (Option ℕ)) (f : ForestState) (chooser : TreeState Bool) (of_chooser : IsTree g chooser) (from p : ℕ)
     (topological : IsTopological g order)
-    (told : (s : Scenario) → IsScenario g s → (t : Times) → IsRun g order frozen s t → IsToldStart g order guards f chooser from p s t) (latest : Option ℕ)
+    (valued : (s : Scenario) → IsScenario g s → (t : Times) → IsRun g order frozen s t → IsStartByTrees g order guards f chooser from p s t) (latest : Option ℕ)
     (top : IsLatestStart g order guards f (node_of g p) from (place order p) (process_at g p).release (inputs g p) chooser latest) where
   -- ---- in one scenario
 
   module _ (s : Scenario) (law : IsScenario g s) (t : Times) (run : IsRun g order frozen s t) where
-    here : IsToldStart g order guards f chooser from p s t
-    here = told s law t run
+    here : IsStartByTrees g order guards f chooser from p s t
+    here = valued s law t run
 
     abbrev bounds : ℕ
     bounds = greatest (start_bounds g order s t p)
 
-    ready_value : (x : Path (Option ℕ)) → IsOn top.ready.paths s x → x.1 ≡ Some (process_at g p).release
+    ready_value : (x : Path (Option ℕ)) → IsOnPath top.ready.paths s x → x.1 ≡ Some (process_at g p).release
     ready_value x on = (agrees_constant s (Some (process_at g p).release) g.faults top.ready (λ y. y ≡ Some (process_at g p).release) refl top.at).value x on
 
-    acts_there : active g s.values p ≡ true → HasValue chooser.paths true s
+    acts_there : active g s.values p ≡ true → HasValueAt chooser.paths true s
     acts_there on = let c = the_path g.faults chooser.paths of_chooser.each s (scenario_few g s law) in (c.0, c.1, here.acts c.0 c.1 ∙ on)
 
     ready_there : active g s.values p ≡ true → HasWhere top.ready chooser (process_at g p).release s
@@ -86,7 +86,7 @@ module _ (g : Graph) (order : List ℕ) (guards : Guards) (frozen : List (Option
         let x = the_path g.faults top.ready.paths top.each s (scenario_few g s law) in
         record { has = (x.0, x.1, ready_value x.0 x.1); there = acts_there on }
 
-    acts : HasValue chooser.paths true s → active g s.values p ≡ true
+    acts : HasValueAt chooser.paths true s → active g s.values p ≡ true
     acts h = sym (here.acts h.0 h.1) ∙ h.2
 
     -- nothing ends, is heard or comes later than the latest of all
@@ -122,7 +122,7 @@ module _ (g : Graph) (order : List ℕ) (guards : Guards) (frozen : List (Option
       input_under : (e : ℕ) → Contains (inputs g p) e → live g s.values e ≡ true → (b : Bool) → is_message g e ≡ b → input_there g t e ≤ m
       input_under e c lives true is =
           let k = here.comes e c is lives in
-          let x = here.tells e c is in
+          let x = here.has_value e c is in
           omega (
             arith,
             k.2,
@@ -146,7 +146,7 @@ module _ (g : Graph) (order : List ℕ) (guards : Guards) (frozen : List (Option
     input_below m h =
         let e = h.edge in
         let i = h.there in
-        let is : get_or t.times (message_item g e) None ≡ Some i.time = sym (here.told e h.of i.message i.has.has.0 i.has.has.1) ∙ i.has.has.2 in
+        let is : get_or t.times (message_item g e) None ≡ Some i.time = sym (here.valued e h.of i.message i.has.has.0 i.has.has.1) ∙ i.has.has.2 in
         let lives = here.lives e i.time h.of i.message is in
         let r = here.comes e h.of i.message lives in
         let same = some_same r.0 i.time (sym r.1 ∙ is) in
@@ -174,11 +174,11 @@ module _ (g : Graph) (order : List ℕ) (guards : Guards) (frozen : List (Option
   pub latest_reached : (m : ℕ) → latest ≡ Some m → (s : Scenario) × IsScenario g s × (active g s.values p ≡ true) × ((t : Times) → IsRun g order frozen s t → m ≤ unfrozen_time g order s t p)
   latest_reached m e = by (subst (IsLatestOf g order guards f (node_of g p) from (place order p) top.ready (inputs g p) chooser) e top.is)
     where
-      active_there : (s : Scenario) → IsScenario g s → HasValue chooser.paths true s → active g s.values p ≡ true
+      active_there : (s : Scenario) → IsScenario g s → HasValueAt chooser.paths true s → active g s.values p ≡ true
       active_there s law h = let r = a_run g order frozen s topological in acts s law r.0 r.1 h
 
       -- no later than the start where some scenario has it
-      found : (m n : ℕ) (s : Scenario) → IsScenario g s → HasValue chooser.paths true s → m ≡ n → ((t : Times) → IsRun g order frozen s t → n ≤ greatest (start_bounds g order s t p)) →
+      found : (m n : ℕ) (s : Scenario) → IsScenario g s → HasValueAt chooser.paths true s → m ≡ n → ((t : Times) → IsRun g order frozen s t → n ≤ greatest (start_bounds g order s t p)) →
           (s : Scenario) × IsScenario g s × (active g s.values p ≡ true) × ((t : Times) → IsRun g order frozen s t → m ≤ unfrozen_time g order s t p)
       found m n s law on same below = (s, law, active_there s law on, λ t run. by_bounds s law t run m (omega (arith, same, below t run)))
 

@@ -1,6 +1,6 @@
 pub mod AgreeingTrees
 pub mod TreeColumns
-pub mod TreesTold
+pub mod GuardTrees
 pub mod StartsWhere
 pub mod PartsKnown
 pub mod CarriedOn
@@ -18,7 +18,7 @@ pub mod FrozenFound
 pub mod LatestFound
 pub mod LatestStart
 pub mod LatestSend
-pub mod StartTold
+pub mod StartByTrees
 pub mod UnfrozenStart
 pub mod Begun
 pub mod GrownNext

@@ -27,7 +27,7 @@ use Rattle.cpg_run.proofs.Sends.{in_next}
 use Rattle.cpg_run.proofs.Settled.{frozen_time_kept, frozen_time_set}
 use Rattle.cpg_run.proofs.Steps.{ready_other, ready_idle, ready_active}
 use Rattle.cpg_tree.specs.Tree.{TreeState}
-use Rattle.cpg_expand.specs.Agreeing.{Tells}
+use Rattle.cpg_expand.specs.Agreeing.{HasValueFrom}
 use Rattle.cpg_expand.specs.Grown.{IsReadyLine, AreSettledOf}
 use Rattle.cpg_expand.proofs.AgreeingTrees.{agrees_weaker}
 
@@ -68,13 +68,13 @@ module _ (g : Graph) (order : List ℕ) (topological : IsTopological g order) (i
       -- the node of the process, by when it was ready before and when it has heard what decides the process
       pub ready_next : (r h : ℕ) → IsReady g order s t i (node_of g p) r → IsMost (λ c. (c < condition_count g) × (decides g s.values p c ≡ true)) (heard_there g t (node_of g p)) h →
           (active g s.values p ≡ true → max r h ≤ end_in t p) → (tree : TreeState ℕ) →
-          Tells s (flat_map (passed g rows s) (before_on_node g order p) ++ passed g rows s p) (if active g s.values p then end_in t p else max r h) tree →
+          HasValueFrom s (flat_map (passed g rows s) (before_on_node g order p) ++ passed g rows s p) (if active g s.values p then end_in t p else max r h) tree →
           IsReadyLine g order rows s t (i + 1) (node_of g p) tree
-      ready_next r h ready heard ended tree tells = record {
+      ready_next r h ready heard ended tree has_value = record {
         time = v;
         is = by (active g s.values p) refl;
-        tells = agrees_weaker s tree (flat_map (passed g rows s) (before_on_node g order p) ++ passed g rows s p) (flat_map (passed g rows s) (on_node g order (i + 1) (node_of g p))) (λ z. z ≡ v)
-            (λ z. z ≡ v) then_on (λ z e. e) tells;
+        has_value = agrees_weaker s tree (flat_map (passed g rows s) (before_on_node g order p) ++ passed g rows s p) (flat_map (passed g rows s) (on_node g order (i + 1) (node_of g p))) (λ z. z ≡ v)
+            (λ z. z ≡ v) then_on (λ z e. e) has_value;
       }
         where
           v : ℕ
@@ -90,10 +90,10 @@ module _ (g : Graph) (order : List ℕ) (topological : IsTopological g order) (i
       ready_elsewhere node other tree line = record {
         time = line.time;
         is = ready_other g order topological frozen s t run i p l at node line.time other line.is;
-        tells = agrees_weaker s tree (flat_map (passed g rows s) (on_node g order i node)) (flat_map (passed g rows s) (on_node g order (i + 1) node)) (λ z. z ≡ line.time) (λ z. z ≡ line.time)
+        has_value = agrees_weaker s tree (flat_map (passed g rows s) (on_node g order i node)) (flat_map (passed g rows s) (on_node g order (i + 1) node)) (λ z. z ≡ line.time) (λ z. z ≡ line.time)
             (λ x j. let r = Contains-flat_map_parts (passed g rows s) (on_node g order i node) x j in
             Contains-flat_map (passed g rows s) (on_node g order (i + 1) node) r.0 x (kept_on node r.0 r.1) r.2)
-            (λ z e. e) line.tells;
+            (λ z e. e) line.has_value;
       }
 
 -- ---- frozen times

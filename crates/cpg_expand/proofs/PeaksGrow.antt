@@ -9,15 +9,15 @@ use Rattle.cpg_base.specs.Graph.{Graph, process_count}
 use Rattle.cpg_base.specs.Duration.{due}
 use Rattle.cpg_base.specs.Scenario.{zero_scenario, is_before, Scenario, IsScenario}
 use Rattle.cpg_base.proofs.ScenarioOrder.{before_one_way, not_before_transitive}
-use Rattle.cpg_tree_columns.specs.Greatest.{HasValue, IsGreatestOf}
-use Rattle.cpg_tree.specs.Tree.{Path, TreeState, IsOn}
+use Rattle.cpg_tree_columns.specs.Greatest.{HasValueAt, IsGreatestOf}
+use Rattle.cpg_tree.specs.Tree.{Path, TreeState, IsOnPath}
 use Rattle.cpg_expand.specs.Agreeing.{IsTree}
 use Rattle.cpg_expand.specs.Tops.{IsTop, HasFrom, reaches}
 use Rattle.cpg_expand.specs.Values.{time_past}
 use Rattle.cpg_expand.specs.Peaks.{tree_at, EndsAt, EndsPast, IsPeakOf, IsPeakBy, IsPeak, goes_before_by, goes_before, or_time, IsNextPeak, IsNextExcess}
 use Rattle.cpg_expand.specs.declared.measuring.Peak.{Peak}
 use Rattle.cpg_tree.proofs.OnePath.{scenario_few, the_path}
-use Rattle.cpg_expand.proofs.TreesTold.{few_of}
+use Rattle.cpg_expand.proofs.GuardTrees.{few_of}
 
 -- no process, and so no peak
 pub no_peak : (g : Graph) (urgency : List ℕ) (has : ℕ → ℕ → Scenario → Type 0) (peak : Peak) → peak ≡ record { time = 0; scenario = zero_scenario g; process = None } → IsPeak g urgency 0 has peak
@@ -80,7 +80,7 @@ module _ (g : Graph) (urgency : List ℕ) (n : ℕ) (has : ℕ → ℕ → Scena
   pub next_none : (peak : Peak) → IsPeak g urgency n has peak → ((time : ℕ) (s : Scenario) → IsScenario g s → has n time s → ⊥) → IsPeak g urgency (n + 1) has peak
   next_none peak a none = stays peak peak.process a (λ e. none) (λ p e time s law h. absurd (none time s law h))
 
-  module _ (paths : List (Path (Option ℕ))) (into : (time : ℕ) (s : Scenario) → IsScenario g s → has n time s → HasValue paths (Some time) s)
+  module _ (paths : List (Path (Option ℕ))) (into : (time : ℕ) (s : Scenario) → IsScenario g s → has n time s → HasValueAt paths (Some time) s)
       (there : (time : ℕ) (s : Scenario) → IsGreatestOf g urgency paths time s → has n time s) where
     -- ---- the next process has no time
 
@@ -167,8 +167,8 @@ module _ (g : Graph) (urgency : List ℕ) (n : ℕ) (has : ℕ → ℕ → Scena
   pub next_under : reaches bar top ≡ false → (peak : Peak) → IsPeak g urgency n (HasFrom bar has) peak → IsPeak g urgency (n + 1) (HasFrom bar has) peak
   next_under f peak a = next_none g urgency n (HasFrom bar has) peak a (none_from top is_top f)
 
-  module _ (reached : reaches bar top ≡ true) (paths : List (Path (Option ℕ))) (into : (time : ℕ) (s : Scenario) → IsScenario g s → has n time s → HasValue paths (Some time) s)
-      (from : (time : ℕ) (s : Scenario) → IsScenario g s → HasValue paths (Some time) s → has n time s) where
+  module _ (reached : reaches bar top ≡ true) (paths : List (Path (Option ℕ))) (into : (time : ℕ) (s : Scenario) → IsScenario g s → has n time s → HasValueAt paths (Some time) s)
+      (from : (time : ℕ) (s : Scenario) → IsScenario g s → HasValueAt paths (Some time) s → has n time s) where
     -- the greatest time of one that reaches the bar isn't under it
     not_under : (o : Option ℕ) → IsTop g (has n) o → reaches bar o ≡ true → (time : ℕ) (s : Scenario) → IsGreatestOf g urgency paths time s → bar ≤ time
     not_under None is t time s greatest = absurd (false≢true t)
@@ -194,28 +194,28 @@ module _ (g : Graph) (urgency : List ℕ) (trees : List (TreeState (Option ℕ))
     pub next_end : IsTop g (EndsAt g trees n) top → IsPeak g urgency n (HasFrom bar (EndsAt g trees)) old → IsNextPeak g urgency end.paths n old next →
         IsPeak g urgency (n + 1) (HasFrom bar (EndsAt g trees)) next
     next_end is_top a is = next_from g urgency n (EndsAt g trees) bar top is_top reached end.paths
-        (λ time s law h. subst (λ (t : TreeState (Option ℕ)). HasValue t.paths (Some time) s) (sym same) h)
-        (λ time s law h. subst (λ (t : TreeState (Option ℕ)). HasValue t.paths (Some time) s) same h)
+        (λ time s law h. subst (λ (t : TreeState (Option ℕ)). HasValueAt t.paths (Some time) s) (sym same) h)
+        (λ time s law h. subst (λ (t : TreeState (Option ℕ)). HasValueAt t.paths (Some time) s) same h)
         old next a is
 
   module _ (of_end : IsTree g end) (is : IsNextExcess g urgency end n old next) where
     -- what the tree of the excesses has is what the ends are past the due
-    excess_value : (s : Scenario) → IsScenario g s → (x z : Path (Option ℕ)) → IsOn end.paths s x → IsOn is.tree.paths s z → z.1 ≡ time_past (due g n) x.1
+    excess_value : (s : Scenario) → IsScenario g s → (x z : Path (Option ℕ)) → IsOnPath end.paths s x → IsOnPath is.tree.paths s z → z.1 ≡ time_past (due g n) x.1
     excess_value s law x z on_x on_z = is.made.value s x z (few_of g.faults end.faults s of_end.faults (scenario_few g s law)) on_x on_z
 
-    excess_into : (time : ℕ) (s : Scenario) → IsScenario g s → EndsPast g trees n time s → HasValue is.tree.paths (Some time) s
+    excess_into : (time : ℕ) (s : Scenario) → IsScenario g s → EndsPast g trees n time s → HasValueAt is.tree.paths (Some time) s
     excess_into time s law h =
-        let v : HasValue end.paths (Some h.0) s = subst (λ (t : TreeState (Option ℕ)). HasValue t.paths (Some h.0) s) (sym same) h.1 in
+        let v : HasValueAt end.paths (Some h.0) s = subst (λ (t : TreeState (Option ℕ)). HasValueAt t.paths (Some h.0) s) (sym same) h.1 in
         let z = the_path g.faults is.tree.paths is.of.each s (scenario_few g s law) in
         (z.0, z.1, excess_value s law v.0 z.0 v.1 z.1 ∙ ap (time_past (due g n)) v.2 ∙ h.2)
 
-    excess_from : (time : ℕ) (s : Scenario) → IsScenario g s → HasValue is.tree.paths (Some time) s → EndsPast g trees n time s
+    excess_from : (time : ℕ) (s : Scenario) → IsScenario g s → HasValueAt is.tree.paths (Some time) s → EndsPast g trees n time s
     excess_from time s law v =
         let x = the_path g.faults end.paths of_end.each s (scenario_few g s law) in
         let past : time_past (due g n) x.0.1 ≡ Some time = sym (excess_value s law x.0 v.0 x.1 v.1) ∙ v.2 in
         let at = past_end x.0.1 (due g n) time past in (
           at.0,
-          subst (λ (t : TreeState (Option ℕ)). HasValue t.paths (Some at.0) s) same (x.0, x.1, at.1),
+          subst (λ (t : TreeState (Option ℕ)). HasValueAt t.paths (Some at.0) s) same (x.0, x.1, at.1),
           ap (time_past (due g n)) (sym at.1) ∙ past,
         )
 

@@ -18,7 +18,7 @@ use Rattle.cpg_tree.specs.Tree.{TreeState}
 use Rattle.cpg_expand.specs.Agreeing.{IsTree}
 use Rattle.cpg_expand.specs.Forest.{no_tree}
 use Rattle.cpg_expand.specs.Values.{time_past}
-use Rattle.cpg_expand.specs.Peaks.{tree_at, EndsAt, EndsPast, TellEnds, IsPeakBy, IsPeak}
+use Rattle.cpg_expand.specs.Peaks.{tree_at, EndsAt, EndsPast, GiveEnds, IsPeakBy, IsPeak}
 use Rattle.cpg_expand.specs.declared.measuring.Peak.{Peak}
 use Rattle.cpg_tree.proofs.OnePath.{scenario_few, the_path}
 use Rattle.cpg_expand.proofs.PeaksGrow.{past_end}
@@ -128,16 +128,16 @@ module _ (g : Graph) (order : List ℕ) (top : IsTopological g order) (frozen : 
 
   -- ---- of trees
 
-  module _ (trees : List (TreeState (Option ℕ))) (all : All (IsTree g) trees) (count : length trees ≡ process_count g) (tell : TellEnds g order frozen trees) where
+  module _ (trees : List (TreeState (Option ℕ))) (all : All (IsTree g) trees) (count : length trees ≡ process_count g) (support : GiveEnds g order frozen trees) where
     tree_of : (q : ℕ) → q < process_count g → IsTree g (tree_at g trees q)
     tree_of q l = All-get_or (IsTree g) trees q (no_tree g.faults) (omega (arith, l, count)) all
 
     ends_values : AreValues (λ t q. get_or t.ends q None) (EndsAt g trees)
     ends_values = record {
-      into = λ s t law run q x l h. sym (tell s t law run q l h.0 h.1) ∙ h.2;
+      into = λ s t law run q x l h. sym (support s t law run q l h.0 h.1) ∙ h.2;
       from = λ s t law run q x l e.
           let p = the_path g.faults (tree_at g trees q).paths (tree_of q l).each s (scenario_few g s law) in
-          (p.0, p.1, tell s t law run q l p.0 p.1 ∙ e);
+          (p.0, p.1, support s t law run q l p.0 p.1 ∙ e);
     }
 
     past_values : AreValues past_of (EndsPast g trees)

@@ -12,7 +12,7 @@ use Rattle.cpg_base.specs.Duration.{due}
 use Rattle.cpg_base.specs.Numbers.{numbers_below}
 use Rattle.cpg_base.proofs.Lists.{Contains-map_parts, get_or-map-below, greatest_cases}
 use Rattle.cpg_base.specs.Scenario.{Scenario, IsScenario}
-use Rattle.cpg_tree_columns.specs.Greatest.{IsMost}
+use Rattle.cpg_tree_columns.specs.Greatest.{IsGreatestNumber}
 use Rattle.cpg_tree.specs.Tree.{Path, TreeState}
 use Rattle.cpg_tree.proofs.Passing.{known_from}
 use Rattle.cpg_expand.specs.Agreeing.{IsTree}
@@ -70,7 +70,7 @@ module _ (g : Graph) (urgency : List ℕ) (n : ℕ) (has : ℕ → ℕ → Scena
 
 -- ---- the tops of trees
 
-pub top_from : (t : TreeState (Option ℕ)) (o : Option ℕ) → IfNone o (All (λ p. p.1 ≡ None) t.paths) → IfSome o (IsMost t) → IsTopOf t o
+pub top_from : (t : TreeState (Option ℕ)) (o : Option ℕ) → IfNone o (All (λ p. p.1 ≡ None) t.paths) → IfSome o (IsGreatestNumber t) → IsTopOf t o
 top_from t None none some = none
 top_from t (Some m) none some = some
 

@@ -15,9 +15,9 @@ use Rattle.cpg_cube.specs.Column.{Column}
 use Rattle.cpg_run.specs.Run.{Times, end_in}
 use Rattle.cpg_run.specs.Carried.{decided, heard, passed, carried_at_end}
 use Rattle.cpg_run.specs.Known.{AreSmall}
-use Rattle.cpg_tree.specs.Space.{HasFew}
+use Rattle.cpg_tree.specs.Space.{HasAtMostFaults}
 use Rattle.cpg_tree.specs.Tree.{TreeState}
-use Rattle.cpg_expand.specs.Agreeing.{Tells}
+use Rattle.cpg_expand.specs.Agreeing.{HasValueFrom}
 use Rattle.cpg_expand.specs.Ending.{IsReadyTree}
 use Rattle.cpg_expand.specs.Guarded.{IsActiveTree, value_known, values_known}
 use Rattle.cpg_expand.specs.Values.{time_later}
@@ -25,7 +25,7 @@ use Rattle.cpg_expand.proofs.AgreeingTrees.{agrees_weaker}
 use Rattle.cpg_expand.proofs.CarriedOn.{end_parts, ready_carried}
 use Rattle.cpg_expand.proofs.StartTimes.{later_exact}
 
-module _ (g : Graph) (order : List ℕ) (topological : IsTopological g order) (rows : List (List Column)) (s : Scenario) (few : HasFew g.faults s) (t : Times) (small : AreSmall t) (p : ℕ)
+module _ (g : Graph) (order : List ℕ) (topological : IsTopological g order) (rows : List (List Column)) (s : Scenario) (few : HasAtMostFaults g.faults s) (t : Times) (small : AreSmall t) (p : ℕ)
     (guard : Guard)
     (leads : outcome_at guard s.values ≡ activation g s.values p) (on_way : (c : ℕ) → Contains (way guard s.values) c → Contains (deciding g s.values p) c) where
   abbrev wait_says : List Literal
@@ -36,7 +36,8 @@ module _ (g : Graph) (order : List ℕ) (topological : IsTopological g order) (r
 
   -- the line of the time from which a node goes on after a process
   pub ready_line : (chooser : TreeState Bool) (end : TreeState (Option ℕ)) (wait tree : TreeState ℕ) (waited : ℕ) → IsActiveTree g.faults guard chooser → IsReadyTree g.faults chooser end wait tree →
-      Tells s (carried_at_end g order rows s p) (get_or t.ends p None) end → Tells s wait_says waited wait → Tells s then_says (if active g s.values p then end_in t p else waited) tree
+      HasValueFrom s (carried_at_end g order rows s p) (get_or t.ends p None) end → HasValueFrom s wait_says waited wait
+      → HasValueFrom s then_says (if active g s.values p then end_in t p else waited) tree
   ready_line chooser end wait tree waited actives readies ends waits = agrees_weaker s tree (values_known s (way guard s.values) ++ second) then_says (λ z. z ≡ v) (λ z. z ≡ v) within (λ z e. e)
       (readies s few (active g s.values p) (values_known s (way guard s.values)) second (get_or t.ends p None) waited v chosen by_end by_wait)
     where
@@ -46,17 +47,17 @@ module _ (g : Graph) (order : List ℕ) (topological : IsTopological g order) (r
       v : ℕ
       v = if active g s.values p then end_in t p else waited
 
-      chosen : Tells s (values_known s (way guard s.values)) (active g s.values p) chooser
-      chosen = subst (λ (a : Activation). Tells s (values_known s (way guard s.values)) (is_active a) chooser) leads (actives s few)
+      chosen : HasValueFrom s (values_known s (way guard s.values)) (active g s.values p) chooser
+      chosen = subst (λ (a : Activation). HasValueFrom s (values_known s (way guard s.values)) (is_active a) chooser) leads (actives s few)
 
-      by_end : active g s.values p ≡ true → Tells s second (get_or t.ends p None) end × (v ≡ time_later 0 (get_or t.ends p None))
+      by_end : active g s.values p ≡ true → HasValueFrom s second (get_or t.ends p None) end × (v ≡ time_later 0 (get_or t.ends p None))
       by_end e = (
-        subst (λ (b : Bool). Tells s (if b then carried_at_end g order rows s p else wait_says) (get_or t.ends p None) end) (sym e) ends,
+        subst (λ (b : Bool). HasValueFrom s (if b then carried_at_end g order rows s p else wait_says) (get_or t.ends p None) end) (sym e) ends,
         ap (λ (b : Bool). if b then end_in t p else waited) e ∙ (let exact = later_exact (get_or t.ends p None) 0 (small.ends p) (omega arith) in omega (arith, exact)),
       )
 
-      by_wait : active g s.values p ≡ false → Tells s second waited wait × (v ≡ waited)
-      by_wait e = (subst (λ (b : Bool). Tells s (if b then carried_at_end g order rows s p else wait_says) waited wait) (sym e) waits, ap (λ (b : Bool). if b then end_in t p else waited) e)
+      by_wait : active g s.values p ≡ false → HasValueFrom s second waited wait × (v ≡ waited)
+      by_wait e = (subst (λ (b : Bool). HasValueFrom s (if b then carried_at_end g order rows s p else wait_says) waited wait) (sym e) waits, ap (λ (b : Bool). if b then end_in t p else waited) e)
 
       of_second : (b : Bool) → active g s.values p ≡ b → (x : Literal) → Contains (if b then carried_at_end g order rows s p else wait_says) x → Contains then_says x
       of_second true e x j = elim (end_parts g order topological rows s p e x j) [

@@ -11,18 +11,18 @@ use Rattle.cpg_tree.specs.Tree.{TreeState, IsConstant}
 use Rattle.cpg_expand.specs.Agreeing.{Agrees}
 use Rattle.cpg_expand.specs.Forest.{ForestState, later_tree, no_tree}
 use Rattle.cpg_expand.specs.Waited.{IsQueuedFor, IsReadyOnce}
-use Rattle.cpg_expand.proofs.TreesTold.{ready_always}
+use Rattle.cpg_expand.proofs.GuardTrees.{ready_always}
 
 -- a tree without paths tells anything
-none_tells : {T : Type 0} (k : ℕ) (s : Scenario) (literals : List Literal) (fact : T → Type 0) → Agrees s literals fact (no_tree k)
-none_tells k s literals fact = record { value = λ x on. absurd (Contains-nil x on.stands); says = λ x on. absurd (Contains-nil x on.stands) }
+none_has_value : {T : Type 0} (k : ℕ) (s : Scenario) (literals : List Literal) (fact : T → Type 0) → Agrees s literals fact (no_tree k)
+none_has_value k s literals fact = record { value = λ x on. absurd (Contains-nil x on.stands); says = λ x on. absurd (Contains-nil x on.stands) }
 
 -- if the process is active everywhere, nothing is asked of what it waited for
 pub ready_everywhere : (g : Graph) (f : ForestState) (node : ℕ) (guard : Guard) (active : TreeState Bool) (end : TreeState (Option ℕ)) → IsConstant true active.faults active →
     IsReadyOnce g f node guard active end (later_tree end)
 ready_everywhere g f node guard active end always = record {
   wait = no_tree g.faults;
-  waits = λ s few base x tells tell time told. none_tells g.faults s _ _;
+  waits = λ s few base x has_value support time valued. none_has_value g.faults s _ _;
   is = ready_always g active end (no_tree g.faults) always;
 }
 

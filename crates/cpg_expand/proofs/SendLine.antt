@@ -11,14 +11,14 @@ use Rattle.cpg_base.specs.Scenario.{Scenario}
 use Rattle.cpg_cube.specs.declared.literal.Literal.{Literal}
 use Rattle.cpg_cube.specs.Column.{Column}
 use Rattle.cpg_run.specs.Carried.{number_known, decided, heard, received, passed, carried_at_start, carried_at_end, carried_at_send, sent_by_value, queued}
-use Rattle.cpg_tree.specs.Space.{HasFew}
+use Rattle.cpg_tree.specs.Space.{HasAtMostFaults}
 use Rattle.cpg_tree.specs.Tree.{TreeState}
-use Rattle.cpg_expand.specs.Agreeing.{Tells}
+use Rattle.cpg_expand.specs.Agreeing.{HasValueFrom}
 use Rattle.cpg_expand.specs.Sending.{IsSentTree, IsFreeTree}
 use Rattle.cpg_expand.specs.Values.{slot_from, time_later}
 use Rattle.cpg_expand.proofs.AgreeingTrees.{agrees_weaker}
 
-module _ (g : Graph) (order : List ℕ) (rows : List (List Column)) (s : Scenario) (few : HasFew g.faults s) where
+module _ (g : Graph) (order : List ℕ) (rows : List (List Column)) (s : Scenario) (few : HasAtMostFaults g.faults s) where
   -- what decides a process is carried beside its end
   decided_at_end : (p : ℕ) (l : Literal) → Contains (decided g s p) l → Contains (carried_at_end g order rows s p) l
   decided_at_end p l j = Contains-append_left (carried_at_start g order rows s p) (number_known s p ∷ []) l (by (process_at g p).frozen)
@@ -33,7 +33,7 @@ module _ (g : Graph) (order : List ℕ) (rows : List (List Column)) (s : Scenari
           (Contains-append_right (flat_map (passed g rows s) (before_on_node g order p)) (decided g s p) l j))
 
   module _ (x : ℕ) (acts : item_active g s.values (item_at g x) ≡ true → active g s.values (producer g x) ≡ true)
-      (says : List Literal) (goes : TreeState Bool) (of_goes : Tells s says (item_active g s.values (item_at g x)) goes)
+      (says : List Literal) (goes : TreeState Bool) (of_goes : HasValueFrom s says (item_active g s.values (item_at g x)) goes)
       (at_most : (l : Literal) → Contains says l → Contains (decided g s (producer g x)) l ⊎ ((active g s.values (producer g x) ≡ true) × Contains (sent_by_value g s x) l)) where
     abbrev before_it : List Literal
     before_it = flat_map (queued g order rows s) (queued_before g order x)
@@ -47,8 +47,8 @@ module _ (g : Graph) (order : List ℕ) (rows : List (List Column)) (s : Scenari
     -- the line of a send that isn't frozen
     pub send_line : is_frozen g x ≡ false → (share : ShareState) (end : TreeState (Option ℕ)) (free : TreeState ℕ) (tree : TreeState (Option ℕ)) (ended : Option ℕ) (y : ℕ) →
         IsSentTree g.faults share goes end free tree →
-        (item_active g s.values (item_at g x) ≡ true → Tells s (carried_at_end g order rows s (producer g x)) ended end) → Tells s before_it y free →
-        Tells s (carried_at_send g order rows s x) (if item_active g s.values (item_at g x) then slot_from share y ended else None) tree
+        (item_active g s.values (item_at g x) ≡ true → HasValueFrom s (carried_at_end g order rows s (producer g x)) ended end) → HasValueFrom s before_it y free →
+        HasValueFrom s (carried_at_send g order rows s x) (if item_active g s.values (item_at g x) then slot_from share y ended else None) tree
     send_line thawed share end free tree ended y sends ends frees =
         agrees_weaker s tree (says ++ (if item_active g s.values (item_at g x) then carried_at_end g order rows s (producer g x) ++ before_it else [])) (carried_at_send g order rows s x)
         (λ z. z ≡ (if item_active g s.values (item_at g x) then slot_from share y ended else None)) (λ z. z ≡ (if item_active g s.values (item_at g x) then slot_from share y ended else None)) within
@@ -79,8 +79,8 @@ module _ (g : Graph) (order : List ℕ) (rows : List (List Column)) (s : Scenari
 
     -- the line of the time from which the slots are free then
     pub free_line : (turn : ℕ) (sent : TreeState (Option ℕ)) (free tree : TreeState ℕ) (time : Option ℕ) (y : ℕ) → IsFreeTree g.faults turn goes sent free tree →
-        Tells s (carried_at_send g order rows s x) time sent → Tells s before_it y free →
-        Tells s (before_it ++ queued g order rows s x) (if item_active g s.values (item_at g x) then time_later turn time else y) tree
+        HasValueFrom s (carried_at_send g order rows s x) time sent → HasValueFrom s before_it y free →
+        HasValueFrom s (before_it ++ queued g order rows s x) (if item_active g s.values (item_at g x) then time_later turn time else y) tree
     free_line turn sent free tree time y frees sends waits =
         agrees_weaker s tree (says ++ second) (before_it ++ queued g order rows s x) (λ z. z ≡ v) (λ z. z ≡ v) within (λ z e. e)
         (frees s few (item_active g s.values (item_at g x)) says second time y v of_goes by_send by_wait)
@@ -91,11 +91,15 @@ module _ (g : Graph) (order : List ℕ) (rows : List (List Column)) (s : Scenari
         v : ℕ
         v = if item_active g s.values (item_at g x) then time_later turn time else y
 
-        by_send : item_active g s.values (item_at g x) ≡ true → Tells s second time sent × (v ≡ time_later turn time)
-        by_send e = (subst (λ (b : Bool). Tells s (if b then carried_at_send g order rows s x else before_it) time sent) (sym e) sends, ap (λ (b : Bool). if b then time_later turn time else y) e)
+        by_send : item_active g s.values (item_at g x) ≡ true → HasValueFrom s second time sent × (v ≡ time_later turn time)
+        by_send e = (
+          subst (λ (b : Bool). HasValueFrom s (if b then carried_at_send g order rows s x else before_it) time sent) (sym e) sends,
+          ap
+              (λ (b : Bool). if b then time_later turn time else y) e,
+        )
 
-        by_wait : item_active g s.values (item_at g x) ≡ false → Tells s second y free × (v ≡ y)
-        by_wait e = (subst (λ (b : Bool). Tells s (if b then carried_at_send g order rows s x else before_it) y free) (sym e) waits, ap (λ (b : Bool). if b then time_later turn time else y) e)
+        by_wait : item_active g s.values (item_at g x) ≡ false → HasValueFrom s second y free × (v ≡ y)
+        by_wait e = (subst (λ (b : Bool). HasValueFrom s (if b then carried_at_send g order rows s x else before_it) y free) (sym e) waits, ap (λ (b : Bool). if b then time_later turn time else y) e)
 
         value_part : List Literal
         value_part = if active g s.values (producer g x) then sent_by_value g s x else []

@@ -41,7 +41,7 @@ use Rattle.cpg_run.proofs.SameSends.{producer_active}
 use Rattle.cpg_run.proofs.Sends.{here_sent, in_next}
 use Rattle.cpg_run.proofs.Small.{run_small}
 use Rattle.cpg_tree.specs.Tree.{TreeState, IsConstant}
-use Rattle.cpg_expand.specs.Agreeing.{IsTree, Tells}
+use Rattle.cpg_expand.specs.Agreeing.{IsTree, HasValueFrom}
 use Rattle.cpg_expand.specs.Forest.{ForestState, HasTrees, times_of, ends_of}
 use Rattle.cpg_expand.specs.Grown.{RowsHold, IsReadyLine, IsFreeLine, SendLines, LeavesUnsent, IsDone, AreSettledOf, IsSending}
 use Rattle.cpg_expand.specs.Guarded.{IsActiveTree, value_known, values_known}
@@ -53,19 +53,19 @@ use Rattle.cpg_expand.proofs.Begun.{own_rows, own_rows_hold}
 use Rattle.cpg_expand.proofs.FreeRead.{has_put}
 use Rattle.cpg_expand.proofs.FrozenFound.{IsFound, frozen_found}
 use Rattle.cpg_expand.proofs.ItemKept.{other_times, same_ends, same_ready, other_free}
-use Rattle.cpg_expand.proofs.LatestSend.{IsToldSend, send_above, send_reached}
+use Rattle.cpg_expand.proofs.LatestSend.{IsSendByTrees, send_above, send_reached}
 use Rattle.cpg_expand.proofs.NextPlace.{settled_idle, settled_more}
 use Rattle.cpg_expand.proofs.SendingOver.{done_sooner, send_lines_over}
 use Rattle.cpg_expand.proofs.SentBefore.{queued_so_far}
 use Rattle.cpg_expand.proofs.StartTimes.{later_exact}
-use Rattle.cpg_expand.proofs.SentOne.{item_told, free_once}
-use Rattle.cpg_expand.proofs.TreesTold.{ends_tree, times_tree}
+use Rattle.cpg_expand.proofs.SentOne.{item_valued, free_once}
+use Rattle.cpg_expand.proofs.GuardTrees.{ends_tree, times_tree}
 
 -- the tree of a guard tells where its process is active, and no more than what decides it
-pub chosen_told : (g : Graph) (urgency : List ℕ) → IsUrgencyOrder g urgency → IsTopological g urgency → (p : ℕ) (guard : Guard) → IsGuardOf g urgency p guard → (chooser : TreeState Bool) →
+pub chosen_valued : (g : Graph) (urgency : List ℕ) → IsUrgencyOrder g urgency → IsTopological g urgency → (p : ℕ) (guard : Guard) → IsGuardOf g urgency p guard → (chooser : TreeState Bool) →
     IsActiveTree g.faults guard chooser →
-    (s : Scenario) → IsScenario g s → Tells s (decided g s p) (active g s.values p) chooser
-chosen_told g urgency is_urgency urgent p guard is_guard chooser actives s law =
+    (s : Scenario) → IsScenario g s → HasValueFrom s (decided g s p) (active g s.values p) chooser
+chosen_valued g urgency is_urgency urgent p guard is_guard chooser actives s law =
     agrees_weaker s chooser (values_known s (way guard s.values)) (decided g s p) (λ z. z ≡ is_active (outcome_at guard s.values)) (λ z. z ≡ active g s.values p)
     (λ x j. let m = Contains-map_parts (value_known s) (way guard s.values) x j in subst (Contains (decided g s p)) m.2 (Contains-map (value_known s) (deciding g s.values p) m.0 (decides_it m.0 m.1)))
     (λ z e. e ∙ ap (λ (a : Activation). is_active a) (is_guard.is s.values law.values)) (actives s (scenario_few g s law))
@@ -84,7 +84,7 @@ carried_sent g order rows s x (Broadcast c) is = refl
 
 module _ (g : Graph) (limits : IsWithinLimits g) (order : List ℕ) (topological : IsTopological g order) (p : ℕ) (l : p < process_count g) (on_node : node_of g p < length g.nodes)
     (chooser : TreeState Bool)
-    (chosen : (s : Scenario) → IsScenario g s → Tells s (decided g s p) (active g s.values p) chooser) where
+    (chosen : (s : Scenario) → IsScenario g s → HasValueFrom s (decided g s p) (active g s.values p) chooser) where
   module _ (k : ℕ) (inside : k < length (queue_of g p)) (old new : ForestState) (before after : List (Option ℕ)) (sending : IsSending g order p k before old)
       (added : IsItemAdded g order chooser (get_or (queue_of g p) k 0) old new before after) where
     abbrev here : ℕ
@@ -177,14 +177,14 @@ module _ (g : Graph) (limits : IsWithinLimits g) (order : List ℕ) (topological
         (or_cases _ _ b.1)))
 
     -- what the trees tell of it
-    told_send : (s : Scenario) → IsScenario g s → (t : Times) → IsRun g order before s t → IsToldSend g order old added.goes (ends_of g old (producer g here)) here s t
-    told_send s law t run =
+    valued_send : (s : Scenario) → IsScenario g s → (t : Times) → IsRun g order before s t → IsSendByTrees g order old added.goes (ends_of g old (producer g here)) here s t
+    valued_send s law t run =
         let rows : List (List Column) = own_rows old in
         let few = scenario_few g s law in
         let lines = sending.lines rows (own_rows_hold g order (place order p) old sending.trees) s law t run in
         let small = run_small g order before s t limits topological law early_before run in
-        let goes = added.goes_where s few (decided g s (producer g here)) (subst (λ q. Tells s (decided g s q) (active g s.values q) chooser) (sym by_p) (chosen s law)) in
-        let ends = subst (λ q. Tells s (carried_at_end g order rows s q) (get_or t.ends q None) (ends_of g old q)) (sym by_p) (lines.ends p l p_ends) in
+        let goes = added.goes_where s few (decided g s (producer g here)) (subst (λ q. HasValueFrom s (decided g s q) (active g s.values q) chooser) (sym by_p) (chosen s law)) in
+        let ends = subst (λ q. HasValueFrom s (carried_at_end g order rows s q) (get_or t.ends q None) (ends_of g old q)) (sym by_p) (lines.ends p l p_ends) in
         record {
           acts = λ c on. goes.value c on;
           ends = λ e on. ends.value e on;
@@ -215,8 +215,8 @@ module _ (g : Graph) (limits : IsWithinLimits g) (order : List ℕ) (topological
 
     found : IsFrozenSend g order added.goes here old before after added.sent → IsFound g order before here after
     found f = frozen_found g order topological before here (omega (arith, within, sending.settled.count)) unset f.latest
-        (send_above g order before topological old added.goes added.goes_tree (ends_of g old (producer g here)) of_ends here told_send f.latest f.top)
-        (send_reached g order before topological old added.goes added.goes_tree (ends_of g old (producer g here)) of_ends here told_send f.latest f.top) after f.frozen.set
+        (send_above g order before topological old added.goes added.goes_tree (ends_of g old (producer g here)) of_ends here valued_send f.latest f.top)
+        (send_reached g order before topological old added.goes added.goes_tree (ends_of g old (producer g here)) of_ends here valued_send f.latest f.top) after f.frozen.set
 
     -- ---- the frozen times
 
@@ -259,9 +259,9 @@ module _ (g : Graph) (limits : IsWithinLimits g) (order : List ℕ) (topological
       small : AreSmall t
       small = run_small g order after s t limits topological law early_after run
 
-      told_here : Tells s (carried g order rows s here) (get_or t.times here None) (times_of g new here)
-      told_here = subst (λ ls. Tells s ls (get_or t.times here None) (times_of g new here)) (sym (carried_sent g order rows s here (item_at g here) goes_over))
-          (item_told g limits order topological rows s law (scenario_few g s law) after t run small p l k inside chooser old new before after sending.trees added on_node (chosen s law)
+      valued_here : HasValueFrom s (carried g order rows s here) (get_or t.times here None) (times_of g new here)
+      valued_here = subst (λ ls. HasValueFrom s ls (get_or t.times here None) (times_of g new here)) (sym (carried_sent g order rows s here (item_at g here) goes_over))
+          (item_valued g limits order topological rows s law (scenario_few g s law) after t run small p l k inside chooser old new before after sending.trees added on_node (chosen s law)
           (λ on. old_lines.ends p l p_ends) old_lines.here refl (omega (arith, within, sending.settled.count)) unset (λ is. settled_then.each here within is one_more))
 
       freed : IsQueuedFor g order (place order p) (node_of g p) → IsFreeOnce g order rows s t p (k + 1) new
@@ -271,11 +271,11 @@ module _ (g : Graph) (limits : IsWithinLimits g) (order : List ℕ) (topological
       send_lines : SendLines g order rows s t p (k + 1) new
       send_lines = record {
         times = λ x h done. elim (only x done) [
-          | inl d ↦ subst (λ (tree : TreeState (Option ℕ)). Tells s (carried g order rows s x) (get_or t.times x None) tree)
+          | inl d ↦ subst (λ (tree : TreeState (Option ℕ)). HasValueFrom s (carried g order rows s x) (get_or t.times x None) tree)
               (sym (other_times g order chooser here old new before after added x (apart x h d))) (old_lines.times x h d)
-          | inr e ↦ subst (λ z. Tells s (carried g order rows s z) (get_or t.times z None) (times_of g new z)) (sym e) told_here
+          | inr e ↦ subst (λ z. HasValueFrom s (carried g order rows s z) (get_or t.times z None) (times_of g new z)) (sym e) valued_here
         ];
-        ends = λ q h less. subst (λ (tree : TreeState (Option ℕ)). Tells s (carried_at_end g order rows s q) (get_or t.ends q None) tree)
+        ends = λ q h less. subst (λ (tree : TreeState (Option ℕ)). HasValueFrom s (carried_at_end g order rows s q) (get_or t.ends q None) tree)
             (sym (same_ends g order chooser here old new before after added q)) (old_lines.ends q h less);
         ready = λ node h w. subst (λ (tree : TreeState ℕ). IsReadyLine g order rows s t (place order p + 1) node tree) (sym (same_ready g order chooser here old new before after added node))
             (old_lines.ready node h w);

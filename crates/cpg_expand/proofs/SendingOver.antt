@@ -22,7 +22,7 @@ use Rattle.cpg_run.specs.Progress.{IsReady, IsSentBy, free_after}
 use Rattle.cpg_run.proofs.Agreeing.{free_same}
 use Rattle.cpg_run.proofs.RunUnique.{AgreeBefore, agree_sooner}
 use Rattle.cpg_run.proofs.Sends.{Contains-take}
-use Rattle.cpg_expand.specs.Agreeing.{Tells}
+use Rattle.cpg_expand.specs.Agreeing.{HasValueFrom}
 use Rattle.cpg_expand.specs.Forest.{ForestState, times_of, ends_of}
 use Rattle.cpg_expand.specs.Grown.{SendLines, IsDone}
 
@@ -101,9 +101,10 @@ module _ (g : Graph) (order : List ℕ) (topological : IsTopological g order) (p
     -- the lines of one run are those of another that agrees before the item
     pub send_lines_over : (rows : List (List Column)) (f : ForestState) → SendLines g order rows s t p k f → SendLines g order rows s u p k f
     send_lines_over rows f lines = record {
-      times = λ x h done. subst (λ (o : Option ℕ). Tells s (carried g order rows s x) o (times_of g f x)) (a.items x h (done_sooner x h done)) (lines.times x h done);
-      ends = λ q h less. subst (λ (o : Option ℕ). Tells s (carried_at_end g order rows s q) o (ends_of g f q)) (a.ends q h (end_before q less)) (lines.ends q h less);
-      ready = λ node h w. let r = lines.ready node h w in record { time = r.time; is = ready_over node r.time r.is; tells = r.tells };
-      here = λ q. let h = lines.here q in record { time = h.time; is = free_over h.time h.is; tells = h.tells };
-      free = λ node h other q. let r = lines.free node h other q in record { time = r.time; is = free_same g order topological s t u (place order p) before_place node r.time r.is; tells = r.tells };
+      times = λ x h done. subst (λ (o : Option ℕ). HasValueFrom s (carried g order rows s x) o (times_of g f x)) (a.items x h (done_sooner x h done)) (lines.times x h done);
+      ends = λ q h less. subst (λ (o : Option ℕ). HasValueFrom s (carried_at_end g order rows s q) o (ends_of g f q)) (a.ends q h (end_before q less)) (lines.ends q h less);
+      ready = λ node h w. let r = lines.ready node h w in record { time = r.time; is = ready_over node r.time r.is; has_value = r.has_value };
+      here = λ q. let h = lines.here q in record { time = h.time; is = free_over h.time h.is; has_value = h.has_value };
+      free = λ node h other q. let r = lines.free node h other q in record
+          { time = r.time; is = free_same g order topological s t u (place order p) before_place node r.time r.is; has_value = r.has_value };
     }

@@ -20,7 +20,7 @@ use Rattle.cpg_run.specs.Carried.{queued}
 use Rattle.cpg_run.proofs.Sends.{here_sent, in_next, Contains-take}
 use Rattle.cpg_cube.specs.Column.{Column}
 use Rattle.cpg_tree.specs.Tree.{TreeState}
-use Rattle.cpg_expand.specs.Agreeing.{Tells}
+use Rattle.cpg_expand.specs.Agreeing.{HasValueFrom}
 use Rattle.cpg_expand.specs.Sent.{sent_before, sent_so_far}
 use Rattle.cpg_expand.proofs.AgreeingTrees.{agrees_weaker}
 
@@ -76,21 +76,22 @@ module _ (g : Graph) (order : List ℕ) (topological : IsTopological g order) (s
       (or_cases _ _ b.1)
 
   module _ (rows : List (List Column)) where
-    abbrev told : List ℕ → List Literal
-    told = flat_map (queued g order rows s)
+    abbrev support_all : List ℕ → List Literal
+    support_all = flat_map (queued g order rows s)
 
     -- a tree that tells what is carried from all that the node has sent tells no more than what the next item carries on
-    pub tells_before : (y : ℕ) (tree : TreeState ℕ) → Tells s (flat_map (queued g order rows s) (sent_so_far g order p k)) y tree →
-        Tells s (flat_map (queued g order rows s) (queued_before g order here)) y tree
-    tells_before y tree = agrees_weaker s tree (told (sent_so_far g order p k)) (told (queued_before g order here)) (λ z. z ≡ y) (λ z. z ≡ y)
+    pub has_value_before : (y : ℕ) (tree : TreeState ℕ) → HasValueFrom s (flat_map (queued g order rows s) (sent_so_far g order p k)) y tree →
+        HasValueFrom s (flat_map (queued g order rows s) (queued_before g order here)) y tree
+    has_value_before y tree = agrees_weaker s tree (support_all (sent_so_far g order p k)) (support_all (queued_before g order here)) (λ z. z ≡ y) (λ z. z ≡ y)
         (λ m j. let r = Contains-flat_map_parts (queued g order rows s) (sent_so_far g order p k) m j in
         Contains-flat_map (queued g order rows s) (queued_before g order here) r.0 m (so_far_queued r.0 r.1) r.2)
         (λ z e. e)
 
     -- a tree that tells what the next item carries on, and that item, tells no more than all that the node has sent then
-    pub tells_after : (y : ℕ) (tree : TreeState ℕ) → Tells s (flat_map (queued g order rows s) (queued_before g order here) ++ queued g order rows s here) y tree →
-        Tells s (flat_map (queued g order rows s) (sent_so_far g order p (k + 1))) y tree
-    tells_after y tree = agrees_weaker s tree (told (queued_before g order here) ++ queued g order rows s here) (told (sent_so_far g order p (k + 1))) (λ z. z ≡ y) (λ z. z ≡ y) within (λ z e. e)
+    pub has_value_after : (y : ℕ) (tree : TreeState ℕ) → HasValueFrom s (flat_map (queued g order rows s) (queued_before g order here) ++ queued g order rows s here) y tree →
+        HasValueFrom s (flat_map (queued g order rows s) (sent_so_far g order p (k + 1))) y tree
+    has_value_after y tree = agrees_weaker s tree (support_all (queued_before g order here) ++ queued g order rows s here) (support_all (sent_so_far g order p (k + 1))) (λ z. z ≡ y) (λ z. z ≡ y)
+        within (λ z e. e)
       where
         grown : (z : ℕ) → Contains (sent_so_far g order p k) z → Contains (sent_so_far g order p (k + 1)) z
         grown z j = elim (Contains-append_cases (sent_before g order (place order p) (node_of g p)) (take k (queue_of g p)) z j) [
@@ -98,8 +99,8 @@ module _ (g : Graph) (order : List ℕ) (topological : IsTopological g order) (s
           | inr i ↦ Contains-append_right (sent_before g order (place order p) (node_of g p)) (take (k + 1) (queue_of g p)) z (in_next (queue_of g p) k z inside (inl i))
         ]
 
-        within : (m : Literal) → Contains (told (queued_before g order here) ++ queued g order rows s here) m → Contains (told (sent_so_far g order p (k + 1))) m
-        within m j = elim (Contains-append_cases (told (queued_before g order here)) (queued g order rows s here) m j) [
+        within : (m : Literal) → Contains (support_all (queued_before g order here) ++ queued g order rows s here) m → Contains (support_all (sent_so_far g order p (k + 1))) m
+        within m j = elim (Contains-append_cases (support_all (queued_before g order here)) (queued g order rows s here) m j) [
           | inl i ↦ let r = Contains-flat_map_parts (queued g order rows s) (queued_before g order here) m i in
               Contains-flat_map (queued g order rows s) (sent_so_far g order p (k + 1)) r.0 m (grown r.0 (queued_so_far r.0 r.1)) r.2
           | inr i ↦ Contains-flat_map (queued g order rows s) (sent_so_far g order p (k + 1)) here m

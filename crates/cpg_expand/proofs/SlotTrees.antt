@@ -3,8 +3,8 @@ use Rattle.std.proofs.Common.{ℕ, ◌^◌, ◌≡◌, max, Bool, true, false, n
 use Rattle.cpg_base.specs.Scenario.{Scenario}
 use Rattle.cpg_bus.specs.Share.{ShareState, next_of}
 use Rattle.cpg_cube.specs.declared.literal.Literal.{Literal}
-use Rattle.cpg_tree.specs.Space.{HasFew}
-use Rattle.cpg_tree.specs.Tree.{Path, TreeState, IsOn, HasOnePathEach, IsAsWide, IsAsWideAsBoth, IsMap, IsJoin}
+use Rattle.cpg_tree.specs.Space.{HasAtMostFaults}
+use Rattle.cpg_tree.specs.Tree.{Path, TreeState, IsOnPath, HasOnePathEach, IsAsWide, IsAsWideAsBoth, IsMap, IsJoin}
 use Rattle.cpg_tree.proofs.OnePath.{the_path}
 use Rattle.cpg_expand.specs.Values.{slot_at, slot_if, slot_from}
 
@@ -26,15 +26,16 @@ wide_through k x y a b z of_a of_b of_z = record {
 module _ (share : ShareState) (end : TreeState (Option ℕ)) (free asked both : TreeState ℕ) (each_asked : HasOnePathEach asked.faults asked.paths) (each_both : HasOnePathEach both.faults both.paths)
     (r : TreeState (Option ℕ))
     (first : IsMap (λ x z. z ≡ slot_at share x) end asked) (second : IsJoin (λ x y z. z ≡ max x y) asked free both) (third : IsJoin (λ x y z. z ≡ slot_if y x) end both r) where
-  module _ (s : Scenario) (few : HasFew end.faults s) (x : Path (Option ℕ)) (on_x : IsOn end.paths s x) (y : Path ℕ) (on_y : IsOn free.paths s y) (z : Path (Option ℕ)) (on_z : IsOn r.paths s z) where
-    few_asked : HasFew asked.faults s
-    few_asked = subst (λ (n : ℕ). HasFew n s) (sym first.faults) few
+  module _ (s : Scenario) (few : HasAtMostFaults end.faults s) (x : Path (Option ℕ)) (on_x : IsOnPath end.paths s x) (y : Path ℕ) (on_y : IsOnPath free.paths s y) (z : Path (Option ℕ))
+      (on_z : IsOnPath r.paths s z) where
+    few_asked : HasAtMostFaults asked.faults s
+    few_asked = subst (λ (n : ℕ). HasAtMostFaults n s) (sym first.faults) few
 
-    asked_path : (a : Path ℕ) × IsOn asked.paths s a
+    asked_path : (a : Path ℕ) × IsOnPath asked.paths s a
     asked_path = the_path asked.faults asked.paths each_asked s few_asked
 
-    both_path : (b : Path ℕ) × IsOn both.paths s b
-    both_path = the_path both.faults both.paths each_both s (subst (λ (n : ℕ). HasFew n s) (sym second.faults) few_asked)
+    both_path : (b : Path ℕ) × IsOnPath both.paths s b
+    both_path = the_path both.faults both.paths each_both s (subst (λ (n : ℕ). HasAtMostFaults n s) (sym second.faults) few_asked)
 
     slot_value : z.1 ≡ slot_from share y.1 x.1
     slot_value =

@@ -31,16 +31,16 @@ use Rattle.cpg_run.proofs.CarriedBefore.{producer_of_message, hears_earlier}
 use Rattle.cpg_run.specs.Known.{AreSmall}
 use Rattle.cpg_run.specs.Progress.{IsReady}
 use Rattle.cpg_run.proofs.Senders.{many_nodes}
-use Rattle.cpg_tree.specs.Space.{HasFew}
+use Rattle.cpg_tree.specs.Space.{HasAtMostFaults}
 use Rattle.cpg_tree.specs.Tree.{TreeState}
-use Rattle.cpg_expand.specs.Agreeing.{Tells}
+use Rattle.cpg_expand.specs.Agreeing.{HasValueFrom}
 use Rattle.cpg_expand.specs.Forest.{ForestState, heard_tree, input_tree, heard_delay, input_delay, times_of, ends_of}
-use Rattle.cpg_expand.specs.Guarded.{AreThere, IsStartTree, awaited, start_says, start_at, value_known, values_known, told_of, latest_of}
-use Rattle.cpg_expand.specs.Told.{HasTold}
+use Rattle.cpg_expand.specs.Guarded.{AreThere, IsStartTree, awaited, start_says, start_at, value_known, values_known, support_of, latest_of}
+use Rattle.cpg_expand.specs.TreeValues.{HasTreeValues}
 use Rattle.cpg_expand.specs.Values.{time_later}
 use Rattle.cpg_expand.specs.Waiting.{IsWaitTree, ready_of}
 use Rattle.cpg_expand.proofs.AgreeingTrees.{agrees_weaker}
-use Rattle.cpg_expand.proofs.CarriedOn.{heard_tell, input_tell, tests_carried, input_carried, start_carried}
+use Rattle.cpg_expand.proofs.CarriedOn.{heard_support, input_support, tests_carried, input_carried, start_carried}
 use Rattle.cpg_expand.proofs.StartTimes.{input_time, later_exact, heard_time, latest_heard, awaits_live, start_exact}
 
 idle_awaits : (inputs : List ℕ) (a : Activation) → is_active a ≡ false → (e : ℕ) → Contains (awaited inputs a) e → ⊥
@@ -71,8 +71,8 @@ frame_sent g s p l nodes c low acts e = subst (λ x. item_active g s.values x �
 
 module _ (g : Graph) (limits : IsWithinLimits g) (order : List ℕ) (topological : IsTopological g order) (joins : HasSingleJoins g) (urgency : List ℕ) (is_urgency : IsUrgencyOrder g urgency)
     (urgent : IsTopological g urgency)
-    (rows : List (List Column)) (s : Scenario) (long : length s.values ≡ condition_count g) (few : HasFew g.faults s) (t : Times) (small : AreSmall t) (f : ForestState)
-    (p : ℕ) (l : p < process_count g) (nodes : (q : ℕ) → q < process_count g → node_of g q < length g.nodes) (told : HasTold g order rows s t (place order p) f) (guard : Guard)
+    (rows : List (List Column)) (s : Scenario) (long : length s.values ≡ condition_count g) (few : HasAtMostFaults g.faults s) (t : Times) (small : AreSmall t) (f : ForestState)
+    (p : ℕ) (l : p < process_count g) (nodes : (q : ℕ) → q < process_count g → node_of g q < length g.nodes) (valued : HasTreeValues g order rows s t (place order p) f) (guard : Guard)
     (is_guard : IsGuardOf g urgency p guard) where
   -- the conditions on the way are those that decide the process
   pub on_way : (c : ℕ) → Contains (way guard s.values) c → Contains (deciding g s.values p) c
@@ -82,9 +82,9 @@ module _ (g : Graph) (limits : IsWithinLimits g) (order : List ℕ) (topological
       Contains-filter (decides g s.values p) _ c r.1 (Contains-numbers (condition_count g) c (from_along g urgency c r.0).0)
 
   -- what tells when the node hears one of them
-  pub heard_told : (c : ℕ) → Contains (way guard s.values) c → Tells s (heard_tell g order topological rows s (node_of g p) c) (heard_time g limits t small (node_of g p) c)
+  pub heard_valued : (c : ℕ) → Contains (way guard s.values) c → HasValueFrom s (heard_support g order topological rows s (node_of g p) c) (heard_time g limits t small (node_of g p) c)
       (heard_tree g f (node_of g p) c)
-  heard_told c j = by (node_of g (process_of g c) == node_of g p) refl
+  heard_valued c j = by (node_of g (process_of g c) == node_of g p) refl
     where
       decides_it : Contains (deciding g s.values p) c
       decides_it = on_way c j
@@ -101,15 +101,15 @@ module _ (g : Graph) (limits : IsWithinLimits g) (order : List ℕ) (topological
       sent_at : (node_of g (process_of g c) == node_of g p) ≡ false → item_active g s.values (item_at g (broadcast_item g c)) ≡ true
       sent_at e = frame_sent g s p l nodes c low acts e
 
-      by : (b : Bool) → (node_of g (process_of g c) == node_of g p) ≡ b → Tells s (if b then carried_at_end g order rows s (process_of g c) else told_by rows s (broadcast_item g c))
+      by : (b : Bool) → (node_of g (process_of g c) == node_of g p) ≡ b → HasValueFrom s (if b then carried_at_end g order rows s (process_of g c) else told_by rows s (broadcast_item g c))
           (if b then get_or t.ends (process_of g c) None else get_or t.times (broadcast_item g c) None)
           (if b then ends_of g f (process_of g c) else times_of g f (broadcast_item g c))
-      by true e = told.ends (process_of g c) (process_of_below g c low) (decides_earlier g order topological s.values p c low decided_true) acts
-      by false e = let r = hears_earlier g order topological s p c decides_it in told.sends (broadcast_item g c) r.0 (omega arith) r.1 (sent_at e)
+      by true e = valued.ends (process_of g c) (process_of_below g c low) (decides_earlier g order topological s.values p c low decided_true) acts
+      by false e = let r = hears_earlier g order topological s p c decides_it in valued.sends (broadcast_item g c) r.0 (omega arith) r.1 (sent_at e)
 
   -- what tells when a live input is there
-  input_told : (e : ℕ) → Contains (inputs g p) e → live g s.values e ≡ true → Tells s (input_tell g order topological rows s e) (input_time g limits t small e) (input_tree g f e)
-  input_told e j on = by (is_message g e) refl
+  input_valued : (e : ℕ) → Contains (inputs g p) e → live g s.values e ≡ true → HasValueFrom s (input_support g order topological rows s e) (input_time g limits t small e) (input_tree g f e)
+  input_valued e j on = by (is_message g e) refl
     where
       parts : (e < edge_count g) × (target g e ≡ p)
       parts = inputs_parts g p e j
@@ -117,15 +117,15 @@ module _ (g : Graph) (limits : IsWithinLimits g) (order : List ℕ) (topological
       earlier : place order (source g e) < place order p
       earlier = input_goes_up g order topological p e j
 
-      by : (b : Bool) → is_message g e ≡ b → Tells s (if b then told_by rows s (message_item g e) else carried_at_end g order rows s (source g e))
+      by : (b : Bool) → is_message g e ≡ b → HasValueFrom s (if b then told_by rows s (message_item g e) else carried_at_end g order rows s (source g e))
           (if b then get_or t.times (message_item g e) None else get_or t.ends (source g e) None)
           (if b then times_of g f (message_item g e) else ends_of g f (source g e))
-      by true m = told.sends (message_item g e) (let n = parts.0 in omega arith) (omega arith) (let n = ap (place order) (producer_of_message g e parts.0) in omega (arith, n, earlier))
+      by true m = valued.sends (message_item g e) (let n = parts.0 in omega arith) (omega arith) (let n = ap (place order) (producer_of_message g e parts.0) in omega (arith, n, earlier))
           (subst (λ x. item_active g s.values x ≡ true) (sym (item_at-message g e parts.0)) (and_from (is_message g e) (live g s.values e) m on))
-      by false m = told.ends (source g e) (source_in_order g order topological e parts.0) earlier (and_parts _ _ on).0
+      by false m = valued.ends (source g e) (source_in_order g order topological e parts.0) earlier (and_parts _ _ on).0
 
   module _ (wait : TreeState ℕ) (waits : IsWaitTree g f (node_of g p) guard wait) (r : ℕ) (is_ready : IsReady g order s t (place order p) (node_of g p) r)
-      (ready : Tells s (flat_map (passed g rows s) (before_on_node g order p)) r (ready_of g f (node_of g p))) where
+      (ready : HasValueFrom s (flat_map (passed g rows s) (before_on_node g order p)) r (ready_of g f (node_of g p))) where
     abbrev waited : ℕ
     waited = max r (greatest (map (heard_there g t (node_of g p)) (way guard s.values)))
 
@@ -133,19 +133,20 @@ module _ (g : Graph) (limits : IsWithinLimits g) (order : List ℕ) (topological
     wait_says = flat_map (passed g rows s) (before_on_node g order p) ++ decided g s p ++ heard g rows s p
 
     -- the line of the time for which a process waits on its node
-    pub wait_line : Tells s wait_says waited wait
-    wait_line = agrees_weaker s wait (flat_map (passed g rows s) (before_on_node g order p) ++ told_of s (heard_tell g order topological rows s (node_of g p)) (way guard s.values)) wait_says
+    pub wait_line : HasValueFrom s wait_says waited wait
+    wait_line = agrees_weaker s wait (flat_map (passed g rows s) (before_on_node g order p) ++ support_of s (heard_support g order topological rows s (node_of g p)) (way guard s.values)) wait_says
         (λ z. z ≡ max r (latest_of (heard_delay g (node_of g p)) (heard_time g limits t small (node_of g p)) (way guard s.values))) (λ z. z ≡ waited) within
         (λ z e. e ∙ ap (max r) (latest_heard g limits t small (node_of g p) (way guard s.values)))
-        (waits s few (flat_map (passed g rows s) (before_on_node g order p)) r ready (heard_tell g order topological rows s (node_of g p)) (heard_time g limits t small (node_of g p)) heard_told)
+        (waits s few (flat_map (passed g rows s) (before_on_node g order p)) r ready (heard_support g order topological rows s (node_of g p)) (heard_time g limits t small (node_of g p)) heard_valued)
       where
-        within : (x : Literal) → Contains (flat_map (passed g rows s) (before_on_node g order p) ++ told_of s (heard_tell g order topological rows s (node_of g p)) (way guard s.values)) x →
+        within : (x : Literal) → Contains (flat_map (passed g rows s) (before_on_node g order p) ++ support_of s (heard_support g order topological rows s (node_of g p)) (way guard s.values)) x →
             Contains wait_says x
-        within x j = elim (Contains-append_cases (flat_map (passed g rows s) (before_on_node g order p)) (told_of s (heard_tell g order topological rows s (node_of g p)) (way guard s.values)) x j) [
-          | inl i ↦ Contains-append_left (flat_map (passed g rows s) (before_on_node g order p) ++ decided g s p) (heard g rows s p) x
-              (Contains-append_left (flat_map (passed g rows s) (before_on_node g order p)) (decided g s p) x i)
-          | inr i ↦ tests_carried g order topological rows s urgency is_urgency urgent p (way guard s.values) on_way x i
-        ]
+        within x j = elim (Contains-append_cases (flat_map (passed g rows s) (before_on_node g order p))
+            (support_of s (heard_support g order topological rows s (node_of g p)) (way guard s.values)) x j) [
+              | inl i ↦ Contains-append_left (flat_map (passed g rows s) (before_on_node g order p) ++ decided g s p) (heard g rows s p) x
+                  (Contains-append_left (flat_map (passed g rows s) (before_on_node g order p)) (decided g s p) x i)
+              | inr i ↦ tests_carried g order topological rows s urgency is_urgency urgent p (way guard s.values) on_way x i
+            ]
 
     pub leads : outcome_at guard s.values ≡ activation g s.values p
     leads = is_guard.is s.values long
@@ -184,32 +185,32 @@ module _ (g : Graph) (limits : IsWithinLimits g) (order : List ℕ) (topological
 
     -- the line of a start that isn't frozen
     pub start_line : (start : TreeState (Option ℕ)) → IsStartTree g f wait (process_at g p).release (inputs g p) guard start → (process_at g p).frozen ≡ false →
-        Tells s (carried_at_start g order rows s p) (if active g s.values p then Some (max (max waited (process_at g p).release) (greatest (input_bounds g s t p))) else None) start
+        HasValueFrom s (carried_at_start g order rows s p) (if active g s.values p then Some (max (max waited (process_at g p).release) (greatest (input_bounds g s t p))) else None) start
     start_line start starts thawed = agrees_weaker s start says (carried_at_start g order rows s p) (λ z. z ≡ at)
         (λ z. z ≡ (if active g s.values p then Some (max (max waited (process_at g p).release) (greatest (input_bounds g s t p))) else None)) within
         (λ z e. e ∙ ap (λ (a : Activation). start_at waited (process_at g p).release (input_delay g) (input_time g limits t small) (inputs g p) a) leads ∙
         start_exact g limits order topological joins s long t small p l waited)
-        (starts s few wait_says waited wait_line (input_tell g order topological rows s) (input_time g limits t small) there (λ e j. let k = live_input e j in input_told e k.0 k.1))
+        (starts s few wait_says waited wait_line (input_support g order topological rows s) (input_time g limits t small) there (λ e j. let k = live_input e j in input_valued e k.0 k.1))
       where
         says : List Literal
-        says = values_known s (way guard s.values) ++ start_says wait_says (input_tell g order topological rows s) (inputs g p) (outcome_at guard s.values)
+        says = values_known s (way guard s.values) ++ start_says wait_says (input_support g order topological rows s) (inputs g p) (outcome_at guard s.values)
 
         at : Option ℕ
         at = start_at waited (process_at g p).release (input_delay g) (input_time g limits t small) (inputs g p) (outcome_at guard s.values)
 
-        of_start : (b : Bool) (x : Literal) → Contains (if b then wait_says ++ flat_map (input_tell g order topological rows s) (awaited (inputs g p) (outcome_at guard s.values)) else []) x →
+        of_start : (b : Bool) (x : Literal) → Contains (if b then wait_says ++ flat_map (input_support g order topological rows s) (awaited (inputs g p) (outcome_at guard s.values)) else []) x →
             Contains (carried_at_start g order rows s p) x
         of_start false x j = absurd (Contains-nil x j)
-        of_start true x j = elim (Contains-append_cases wait_says (flat_map (input_tell g order topological rows s) (awaited (inputs g p) (outcome_at guard s.values))) x j) [
+        of_start true x j = elim (Contains-append_cases wait_says (flat_map (input_support g order topological rows s) (awaited (inputs g p) (outcome_at guard s.values))) x j) [
           | inl i ↦ start_carried g order topological rows s p thawed x (inl i)
-          | inr i ↦ let r = Contains-flat_map_parts (input_tell g order topological rows s) (awaited (inputs g p) (outcome_at guard s.values)) x i in
+          | inr i ↦ let r = Contains-flat_map_parts (input_support g order topological rows s) (awaited (inputs g p) (outcome_at guard s.values)) x i in
               let k = live_input r.0 r.1 in
               start_carried g order topological rows s p thawed x
               (inr (input_carried g order topological rows s p r.0 k.0 (ends_there r.0 k.0) (source_in_order g order topological r.0 (inputs_parts g p r.0 k.0).0) (and_parts _ _ k.1).0 x r.2))
         ]
 
         within : (x : Literal) → Contains says x → Contains (carried_at_start g order rows s p) x
-        within x j = elim (Contains-append_cases (values_known s (way guard s.values)) (start_says wait_says (input_tell g order topological rows s) (inputs g p) (outcome_at guard s.values)) x j) [
+        within x j = elim (Contains-append_cases (values_known s (way guard s.values)) (start_says wait_says (input_support g order topological rows s) (inputs g p) (outcome_at guard s.values)) x j) [
           | inl i ↦ let r = Contains-map_parts (value_known s) (way guard s.values) x i in
               start_carried g order topological rows s p thawed x (inl (Contains-append_left (flat_map (passed g rows s) (before_on_node g order p) ++ decided g s p) (heard g rows s p) x
               (Contains-append_right (flat_map (passed g rows s) (before_on_node g order p)) (decided g s p) x

@@ -19,9 +19,9 @@ use Rattle.cpg_run.specs.Run.{Times, IsRun, end_in, input_bounds, input_there, h
 use Rattle.cpg_base.proofs.Durations.{duration_short}
 use Rattle.cpg_cube.specs.Column.{Column}
 use Rattle.cpg_run.specs.Carried.{carried_at_start, carried_at_end}
-use Rattle.cpg_tree.specs.Space.{HasFew}
+use Rattle.cpg_tree.specs.Space.{HasAtMostFaults}
 use Rattle.cpg_tree.specs.Tree.{TreeState}
-use Rattle.cpg_expand.specs.Agreeing.{Tells}
+use Rattle.cpg_expand.specs.Agreeing.{HasValueFrom}
 use Rattle.cpg_expand.specs.Values.{ended}
 use Rattle.cpg_expand.specs.Ending.{durations_of, IsEndTree}
 use Rattle.cpg_run.specs.Known.{AreSmall}
@@ -132,7 +132,7 @@ module _ (g : Graph) (limits : IsWithinLimits g) (order : List ℕ) (frozen : Li
       ∙ sym (ap (λ es. get_or es p None) run.ends ∙ get_or-map-below (end_by g s t) (process_count g) p None l)
 
   -- the line of an end
-  pub end_line : (rows : List (List Column)) (start end : TreeState (Option ℕ)) → HasFew g.faults s → IsEndTree g p start end →
-      Tells s (carried_at_start g order rows s p) (get_or t.times p None) start → Tells s (carried_at_end g order rows s p) (get_or t.ends p None) end
-  end_line rows start end few ends starts = subst (λ (o : Option ℕ). Tells s (carried_at_end g order rows s p) o end) end_value
+  pub end_line : (rows : List (List Column)) (start end : TreeState (Option ℕ)) → HasAtMostFaults g.faults s → IsEndTree g p start end →
+      HasValueFrom s (carried_at_start g order rows s p) (get_or t.times p None) start → HasValueFrom s (carried_at_end g order rows s p) (get_or t.ends p None) end
+  end_line rows start end few ends starts = subst (λ (o : Option ℕ). HasValueFrom s (carried_at_end g order rows s p) o end) end_value
       (ends s few (carried_at_start g order rows s p) (get_or t.times p None) starts)

@@ -10,42 +10,42 @@ use Rattle.cpg_base.specs.Scenario.{Scenario}
 use Rattle.cpg_base.proofs.Lists.{Contains-nil}
 use Rattle.cpg_order.specs.Guard.{Guard, Leaf, Test, outcome_at, way}
 use Rattle.cpg_cube.specs.declared.literal.Literal.{Literal}
-use Rattle.cpg_tree.specs.Space.{HasFew}
+use Rattle.cpg_tree.specs.Space.{HasAtMostFaults}
 use Rattle.cpg_tree.specs.Read.{later_by}
 use Rattle.cpg_tree.specs.Tree.{TreeState, IsConstant, IsJoinWhere, IsPick}
-use Rattle.cpg_expand.specs.Agreeing.{Agrees, Tells, IsTree}
+use Rattle.cpg_expand.specs.Agreeing.{Agrees, HasValueFrom, IsTree}
 use Rattle.cpg_expand.specs.Descent.{AreLeaves}
 use Rattle.cpg_expand.specs.Forest.{ForestState, ends_of, input_delay, input_tree, later_tree, times_of}
 use Rattle.cpg_expand.specs.Guarded.{AreThere, IsActiveTree, IsStartAfter, IsStartTree, IsStartWhere, WaitsForAll, awaited, start_at, start_says, values_known}
 use Rattle.cpg_expand.specs.Later.{IsLaterTree, IsLatest, IsReleasedWhere}
 use Rattle.cpg_expand.specs.Values.{time_later}
 use Rattle.cpg_expand.proofs.AgreeingTrees.{agrees_constant, agrees_elsewhere, agrees_pick, agrees_weaker, agrees_where}
-use Rattle.cpg_expand.proofs.TreesTold.{as_read, each_of, few_of, from_ends, last_input, one_input, own_input, told_as_first}
+use Rattle.cpg_expand.proofs.GuardTrees.{as_read, each_of, few_of, from_ends, last_input, one_input, own_input, support_as_first}
 
 -- ---- the later of two where a chooser is true
 
 module _ {T U V : Type 0} (g : Graph) (number : T → ℕ) (other_number : U → ℕ) (makes : ℕ → V) (none : V) (chooser : TreeState Bool) (a : TreeState T) (b : TreeState U) (t : TreeState V)
     (of_chooser : IsTree g chooser) (of_a : IsTree g a) (of_b : IsTree g b) (made : IsJoinWhere (λ x y z. z ≡ makes (max (number x) (other_number y))) none chooser a b t)
-    (s : Scenario) (few : HasFew g.faults s) (told : List Literal) where
-  made_where : (first second : List Literal) (x y : ℕ) → Tells s told true chooser → Agrees s first (λ v. number v ≡ x) a → Agrees s second (λ w. other_number w ≡ y) b →
-      Tells s (told ++ (first ++ second)) (makes (max x y)) t
-  made_where first second x y on tells other =
-      agrees_where s (λ v w z. z ≡ makes (max (number v) (other_number w))) none chooser a b t told first second (λ v. number v ≡ x) (λ w. other_number w ≡ y) (λ z. z ≡ makes (max x y))
+    (s : Scenario) (few : HasAtMostFaults g.faults s) (given : List Literal) where
+  made_where : (first second : List Literal) (x y : ℕ) → HasValueFrom s given true chooser → Agrees s first (λ v. number v ≡ x) a → Agrees s second (λ w. other_number w ≡ y) b →
+      HasValueFrom s (given ++ (first ++ second)) (makes (max x y)) t
+  made_where first second x y on has_value other =
+      agrees_where s (λ v w z. z ≡ makes (max (number v) (other_number w))) none chooser a b t given first second (λ v. number v ≡ x) (λ w. other_number w ≡ y) (λ z. z ≡ makes (max x y))
       (few_of g.faults chooser.faults s of_chooser.faults few) (of_a.faults ∙ sym of_chooser.faults) (of_b.faults ∙ sym of_chooser.faults)
       (each_of g chooser.faults chooser of_chooser.faults of_chooser) (each_of g chooser.faults a of_chooser.faults of_a) (each_of g chooser.faults b of_chooser.faults of_b)
-      made (λ v w z d e i. i ∙ ap₂ (λ m n. makes (max m n)) d e) on tells other
+      made (λ v w z d e i. i ∙ ap₂ (λ m n. makes (max m n)) d e) on has_value other
 
   -- what the second tells stands first
-  made_where_turned : (first second : List Literal) (x y : ℕ) → Tells s told true chooser → Agrees s first (λ v. number v ≡ x) a → Agrees s second (λ w. other_number w ≡ y) b →
-      Tells s (told ++ (second ++ first)) (makes (max y x)) t
-  made_where_turned first second x y on tells other =
-      agrees_weaker s t (told ++ (first ++ second)) (told ++ (second ++ first)) (λ z. z ≡ makes (max x y)) (λ z. z ≡ makes (max y x))
-      (told_as_first told (first ++ second) (second ++ first)
+  made_where_turned : (first second : List Literal) (x y : ℕ) → HasValueFrom s given true chooser → Agrees s first (λ v. number v ≡ x) a → Agrees s second (λ w. other_number w ≡ y) b →
+      HasValueFrom s (given ++ (second ++ first)) (makes (max y x)) t
+  made_where_turned first second x y on has_value other =
+      agrees_weaker s t (given ++ (first ++ second)) (given ++ (second ++ first)) (λ z. z ≡ makes (max x y)) (λ z. z ≡ makes (max y x))
+      (support_as_first given (first ++ second) (second ++ first)
       (λ l j. elim (Contains-append_cases first second l j) [ inl i ↦ Contains-append_right second first l i | inr i ↦ Contains-append_left second first l i ]))
-      (λ z e. e ∙ ap makes (let same : max x y ≡ max y x = omega arith in same)) (made_where first second x y on tells other)
+      (λ z e. e ∙ ap makes (let same : max x y ≡ max y x = omega arith in same)) (made_where first second x y on has_value other)
 
-  made_elsewhere : Tells s told false chooser → Tells s told none t
-  made_elsewhere off = agrees_elsewhere s (λ v w z. z ≡ makes (max (number v) (other_number w))) none chooser a b t told
+  made_elsewhere : HasValueFrom s given false chooser → HasValueFrom s given none t
+  made_elsewhere off = agrees_elsewhere s (λ v w z. z ≡ makes (max (number v) (other_number w))) none chooser a b t given
       (few_of g.faults chooser.faults s of_chooser.faults few) (each_of g chooser.faults chooser of_chooser.faults of_chooser) made off
 
 -- what is told of a tree that is read of a forest
@@ -58,10 +58,10 @@ module _ (g : Graph) (release delay d : ℕ) (same_delay : delay ≡ d) (times r
   pub read_where : (wait : TreeState ℕ) (t : TreeState (Option ℕ)) → IsTree g wait → IsJoinWhere (λ x y z. z ≡ Some (max (max x (time_later delay y)) release)) None chooser wait times t →
       IsReleasedWhere g.faults chooser wait (later_by d read) release t
   read_where wait t of_wait made = record {
-    on = λ s few told first second x y on tells there.
-        made_where g (λ n. n) (time_later delay) start_of None chooser wait times t of_chooser of_wait of_times made s few told first second x y on tells
+    on = λ s few given first second x y on has_value there.
+        made_where g (λ n. n) (time_later delay) start_of None chooser wait times t of_chooser of_wait of_times made s few given first second x y on has_value
         (as_read g start_of delay d same_delay times read is of_times s second y there);
-    off = λ s few told off. made_elsewhere g (λ n. n) (time_later delay) start_of None chooser wait times t of_chooser of_wait of_times made s few told off;
+    off = λ s few given off. made_elsewhere g (λ n. n) (time_later delay) start_of None chooser wait times t of_chooser of_wait of_times made s few given off;
   }
 
   -- what is told of a tree that is read of a forest and of ends
@@ -69,11 +69,11 @@ module _ (g : Graph) (release delay d : ℕ) (same_delay : delay ≡ d) (times r
       IsJoinWhere (λ x y z. z ≡ Some (max (max (time_later delay x) (time_later 0 y)) release)) None chooser times end t →
       IsReleasedWhere g.faults chooser (later_tree read_end) (later_by d read) release t
   ends_where end read_end t is_end of_end made = record {
-    on = λ s few told first second x y on tells there.
-        made_where_turned g (time_later delay) (time_later 0) start_of None chooser times end t of_chooser of_times of_end made s few told second first y x on
+    on = λ s few given first second x y on has_value there.
+        made_where_turned g (time_later delay) (time_later 0) start_of None chooser times end t of_chooser of_times of_end made s few given second first y x on
         (as_read g start_of delay d same_delay times read is of_times s second y there)
-        (from_ends s end first x (subst (λ (u : TreeState (Option ℕ)). Tells s first x (later_tree u)) (sym is_end) tells));
-    off = λ s few told off. made_elsewhere g (time_later delay) (time_later 0) start_of None chooser times end t of_chooser of_times of_end made s few told off;
+        (from_ends s end first x (subst (λ (u : TreeState (Option ℕ)). HasValueFrom s first x (later_tree u)) (sym is_end) has_value));
+    off = λ s few given off. made_elsewhere g (time_later delay) (time_later 0) start_of None chooser times end t of_chooser of_times of_end made s few given off;
   }
 
 -- a frame that brings an input
@@ -92,35 +92,37 @@ module _ (g : Graph) (f : ForestState) (chooser : TreeState Bool) (wait : TreeSt
       IsPick chooser start never t →
       IsStartWhere g f chooser wait release [] t
   picked_where start never of_chooser of_start of_never starts none made = record {
-    on = λ s few told of_c base x tells tell time there heard. picked s few true told (base ++ []) (Some (max (max x release) 0)) of_c (starts s few base x tells tell time there heard);
-    off = λ s few told of_c. agrees_weaker s t (told ++ []) told (λ y. y ≡ None) (λ y. y ≡ None)
-        (λ l j. elim (Contains-append_cases told [] l j) [ inl i ↦ i | inr i ↦ absurd (Contains-nil l i) ]) (λ y e. e)
-        (picked s few false told [] None of_c (agrees_constant s None g.faults never (λ y. y ≡ None) refl none));
+    on = λ s few given of_c base x has_value support time there heard. picked s few true given (base ++ []) (Some (max (max x release) 0)) of_c
+        (starts s few base x has_value support time there heard);
+    off = λ s few given of_c. agrees_weaker s t (given ++ []) given (λ y. y ≡ None) (λ y. y ≡ None)
+        (λ l j. elim (Contains-append_cases given [] l j) [ inl i ↦ i | inr i ↦ absurd (Contains-nil l i) ]) (λ y e. e)
+        (picked s few false given [] None of_c (agrees_constant s None g.faults never (λ y. y ≡ None) refl none));
   }
     where
-      picked : (s : Scenario) → HasFew g.faults s → (b : Bool) (told second : List Literal) (y : Option ℕ) → Tells s told b chooser → Tells s second y (if b then start else never) →
-          Tells s (told ++ second) y t
-      picked s few b told second y of_c of_picked =
-          agrees_pick s chooser start never t b told second (λ z. z ≡ y) (few_of g.faults chooser.faults s of_chooser.faults few) (of_start.faults ∙ sym of_chooser.faults)
+      picked : (s : Scenario) → HasAtMostFaults g.faults s → (b : Bool) (given second : List Literal) (y : Option ℕ) → HasValueFrom s given b chooser
+          → HasValueFrom s second y (if b then start else never) →
+          HasValueFrom s (given ++ second) y t
+      picked s few b given second y of_c of_picked =
+          agrees_pick s chooser start never t b given second (λ z. z ≡ y) (few_of g.faults chooser.faults s of_chooser.faults few) (of_start.faults ∙ sym of_chooser.faults)
           (of_never.faults ∙ sym of_chooser.faults)
           (each_of g chooser.faults chooser of_chooser.faults of_chooser) (each_of g chooser.faults start of_chooser.faults of_start)
           (each_of g chooser.faults never of_chooser.faults of_never) made of_c of_picked
 
   -- one that the node sends itself
   pub own_where : (e : ℕ) (es : List ℕ) → is_message g e ≡ false → IsStartWhere g f chooser wait release es t → IsStartWhere g f chooser wait release (e ∷ es) t
-  own_where e es own starts = record { on = λ s few told of_c. own_input g f s told wait t release e es own (starts.on s few told of_c); off = starts.off }
+  own_where e es own starts = record { on = λ s few given of_c. own_input g f s given wait t release e es own (starts.on s few given of_c); off = starts.off }
 
   -- one that another node sends
   pub one_where : (there both : TreeState ℕ) (e : ℕ) (es : List ℕ) → IsLaterTree g.faults (input_delay g e) (input_tree g f e) there → IsLatest g.faults wait there both →
       IsStartWhere g f chooser both release es t → IsStartWhere g f chooser wait release (e ∷ es) t
   one_where there both e es later latest starts =
-      record { on = λ s few told of_c. one_input g f s told few wait there both t release e es later latest (starts.on s few told of_c); off = starts.off }
+      record { on = λ s few given of_c. one_input g f s given few wait there both t release e es later latest (starts.on s few given of_c); off = starts.off }
 
   -- the last that another node sends
   pub last_where : (e : ℕ) (es : List ℕ) → All (λ d. is_message g d ≡ false) es → IsReleasedWhere g.faults chooser wait (later_by (input_delay g e) (input_tree g f e)) release t →
       IsStartWhere g f chooser wait release (e ∷ es) t
   last_where e es own starts = record {
-    on = λ s few told of_c. last_input g f s told wait t release e es own (λ base second x y tells there. starts.on s few told base second x y of_c tells there);
+    on = λ s few given of_c. last_input g f s given wait t release e es own (λ base second x y has_value there. starts.on s few given base second x y of_c has_value there);
     off = starts.off;
   }
 
@@ -138,15 +140,15 @@ outcome_waits (Test c off on) o all = by (get_or o c false) (outcome_waits off o
 pub active_starts : (g : Graph) (f : ForestState) (chooser : TreeState Bool) (wait : TreeState ℕ) (release : ℕ) (inputs : List ℕ) (guard : Guard) (t : TreeState (Option ℕ)) →
     AreLeaves WaitsForAll guard → IsActiveTree g.faults guard chooser →
     IsStartWhere g f chooser wait release inputs t → IsStartTree g f wait release inputs guard t
-active_starts g f chooser wait release inputs guard t all actives starts s few base x tells tell time there told =
-    by (outcome_at guard s.values) (outcome_waits guard s.values all) (actives s few) there told
+active_starts g f chooser wait release inputs guard t all actives starts s few base x has_value support time there given =
+    by (outcome_at guard s.values) (outcome_waits guard s.values all) (actives s few) there given
   where
     values : List Literal
     values = values_known s (way guard s.values)
 
-    by : (a : Activation) → WaitsForAll a → Tells s values (is_active a) chooser → AreThere g time x (awaited inputs a) →
-        ((e : ℕ) → Contains (awaited inputs a) e → Tells s (tell e) (time e) (input_tree g f e)) →
-        Tells s (values ++ start_says base tell inputs a) (start_at x release (input_delay g) time inputs a) t
-    by Plain w active ready heard = starts.on s few values active base x tells tell time ready heard
+    by : (a : Activation) → WaitsForAll a → HasValueFrom s values (is_active a) chooser → AreThere g time x (awaited inputs a) →
+        ((e : ℕ) → Contains (awaited inputs a) e → HasValueFrom s (support e) (time e) (input_tree g f e)) →
+        HasValueFrom s (values ++ start_says base support inputs a) (start_at x release (input_delay g) time inputs a) t
+    by Plain w active ready heard = starts.on s few values active base x has_value support time ready heard
     by Inactive w active ready heard = agrees_weaker s t values (values ++ []) (λ y. y ≡ None) (λ y. y ≡ None) (λ l j. Contains-append_left values [] l j) (λ y e. e) (starts.off s few values active)
     by (By e) w active ready heard = absurd w

@@ -15,7 +15,7 @@ use Rattle.cpg_expand.specs.Grown.{IsGrown, IsGrownBy, IsSending}
 use Rattle.cpg_expand.specs.Sent.{AreItemsAdded}
 use Rattle.cpg_expand.proofs.Begun.{begun_sends}
 use Rattle.cpg_expand.proofs.GrownNext.{sent_grown}
-use Rattle.cpg_expand.proofs.SendingNext.{chosen_told, all_sent}
+use Rattle.cpg_expand.proofs.SendingNext.{chosen_valued, all_sent}
 
 -- a process that begins and then sends all that it sends is gone over
 pub stepped : (g : Graph) (urgency : List ℕ) (guards : Guards) → IsAdmitted g urgency guards → (order : List ℕ) (p : ℕ) → p < process_count g →
@@ -25,7 +25,7 @@ stepped g urgency guards a order p l old mid new before between after chooser be
     let is_guard = a.guards.trees p l in
     let sending : IsSending g order p 0 between mid = begun_sends g urgency guards a order topological p l old mid before between chooser grown trees begun in
     sent_grown g order topological p l after new
-    (all_sent g a.limits order topological p l (a.limits.processes p _ l).node chooser (chosen_told g urgency a.urgency a.topological p (tree_of guards p) is_guard chooser begun.actives) mid new
+    (all_sent g a.limits order topological p l (a.limits.processes p _ l).node chooser (chosen_valued g urgency a.urgency a.topological p (tree_of guards p) is_guard chooser begun.actives) mid new
     between after sending added)
 
 module _ (g : Graph) (order : List ℕ) (topological : IsTopological g order) where

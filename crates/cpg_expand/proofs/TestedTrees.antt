@@ -6,7 +6,7 @@ use Rattle.cpg_base.specs.declared.activation.Activation.{Activation}
 use Rattle.cpg_base.proofs.Lists.{list_any_parts, list_any_true, Contains-nil}
 use Rattle.cpg_order.specs.Guard.{Guard, Leaf, Test, way}
 use Rattle.cpg_tree.specs.Tree.{TreeState, IsConstant}
-use Rattle.cpg_expand.specs.Agreeing.{Tells}
+use Rattle.cpg_expand.specs.Agreeing.{HasValueFrom}
 use Rattle.cpg_expand.specs.Guarded.{IsTestedOn, PicksByValue, is_tested, values_known}
 use Rattle.cpg_expand.proofs.AgreeingTrees.{agrees_constant, agrees_weaker}
 
@@ -29,13 +29,13 @@ pub tested_further : (k c : ℕ) (off on : Guard) (wanted : ℕ) (f y t : TreeSt
 tested_further k c off on wanted f y t other of_off of_on picks s few = go (get_or s.values c false) refl
   where
     go : (d : Bool) → get_or s.values c false ≡ d →
-        Tells s (values_known s (c ∷ (if d then way on s.values else way off s.values))) (list_any (λ e. e == wanted) (c ∷ (if d then way on s.values else way off s.values))) t
-    go true e = subst (λ (b : Bool). Tells s (values_known s (c ∷ way on s.values)) (b || list_any (λ e. e == wanted) (way on s.values)) t) (sym (ne_eqb c wanted other))
+        HasValueFrom s (values_known s (c ∷ (if d then way on s.values else way off s.values))) (list_any (λ e. e == wanted) (c ∷ (if d then way on s.values else way off s.values))) t
+    go true e = subst (λ (b : Bool). HasValueFrom s (values_known s (c ∷ way on s.values)) (b || list_any (λ e. e == wanted) (way on s.values)) t) (sym (ne_eqb c wanted other))
         (picks s few (values_known s (way on s.values)) (is_tested on s.values wanted)
-        (subst (λ (d : Bool). Tells s (values_known s (way on s.values)) (is_tested on s.values wanted) (if d then y else f)) (sym e) (of_on s few)))
-    go false e = subst (λ (b : Bool). Tells s (values_known s (c ∷ way off s.values)) (b || list_any (λ e. e == wanted) (way off s.values)) t) (sym (ne_eqb c wanted other))
+        (subst (λ (d : Bool). HasValueFrom s (values_known s (way on s.values)) (is_tested on s.values wanted) (if d then y else f)) (sym e) (of_on s few)))
+    go false e = subst (λ (b : Bool). HasValueFrom s (values_known s (c ∷ way off s.values)) (b || list_any (λ e. e == wanted) (way off s.values)) t) (sym (ne_eqb c wanted other))
         (picks s few (values_known s (way off s.values)) (is_tested off s.values wanted)
-        (subst (λ (d : Bool). Tells s (values_known s (way off s.values)) (is_tested off s.values wanted) (if d then y else f)) (sym e) (of_off s few)))
+        (subst (λ (d : Bool). HasValueFrom s (values_known s (way off s.values)) (is_tested off s.values wanted) (if d then y else f)) (sym e) (of_off s few)))
 
 -- ---- what is tested is on the way
 

@@ -3,17 +3,17 @@ use Rattle.std.specs.Prelude.{◌≡◌, List}
 use Rattle.cpg_base.specs.Scenario.{Scenario}
 use Rattle.cpg_cube.specs.declared.literal.Literal.{Literal}
 use Rattle.cpg_base.specs.Graph.{Graph}
-use Rattle.cpg_tree.specs.Tree.{Path, TreeState, IsOn, HasOnePathEach, DoPathsPass}
+use Rattle.cpg_tree.specs.Tree.{Path, TreeState, IsOnPath, HasOnePathEach, DoPathsPass}
 use Rattle.cpg_tree.specs.Variables.{is_variable}
 use Rattle.cpg_run.specs.Carrying.{ContainsKept}
 
 pub record Agrees {T : Type 0} (s : Scenario) (literals : List Literal) (fact : T → Type 0) (t : TreeState T) : Type 0 where
-  pub value : (x : Path T) → IsOn t.paths s x → fact x.1
-  pub says : (x : Path T) → IsOn t.paths s x → ContainsKept t.faults x.0 literals
+  pub value : (x : Path T) → IsOnPath t.paths s x → fact x.1
+  pub says : (x : Path T) → IsOnPath t.paths s x → ContainsKept t.faults x.0 literals
 
 -- the tree's value in a scenario is this one, and its path says no more than literals
-abbrev pub Tells : {T : Type 0} → Scenario → List Literal → T → TreeState T → Type 0
-Tells s literals x t = Agrees s literals (λ y. y ≡ x) t
+abbrev pub HasValueFrom : {T : Type 0} → Scenario → List Literal → T → TreeState T → Type 0
+HasValueFrom s literals x t = Agrees s literals (λ y. y ≡ x) t
 
 -- a tree of at most a graph's faults, whose paths speak of its variables
 pub record IsTree {T : Type 0} (g : Graph) (t : TreeState T) : Type 0 where

@@ -15,7 +15,7 @@ AreLeaves fact (Test c off on) = AreLeaves fact off × AreLeaves fact on
 
 -- each tree is made, and tells of its guard
 abbrev pub AreKnown : {T : Type 0} → (TreeState T → Type 0) → (Guard → TreeState T → Type 0) → List (KnownGuard T) → Type 0
-AreKnown {T} made told known = All (λ (k : KnownGuard T). made k.tree × told k.guard.now k.tree) known
+AreKnown {T} made fits known = All (λ (k : KnownGuard T). made k.tree × fits k.guard.now k.tree) known
 
 -- a guard is at a place
 abbrev pub IsAt : {T : Type 0} → List (KnownGuard T) → ℕ → Guard → Type 0
@@ -37,8 +37,8 @@ IsTreeOf known (Alone t) r = r ≡ t
 
 -- a tree of a guard is found
 abbrev pub IsFound : {T : Type 0} → (TreeState T → Type 0) → (Guard → TreeState T → Type 0) → List (KnownGuard T) → Guard → Source T → Type 0
-IsFound made told known g (At i) = IsAt known i g
-IsFound made told known g (Alone t) = made t × told g t
+IsFound made fits known g (At i) = IsAt known i g
+IsFound made fits known g (Alone t) = made t × fits g t
 
 -- a guard and its tree are added, or the tree is given back
 abbrev pub IsAdded : {T : Type 0} → List (KnownGuard T) → List (KnownGuard T) → Guard → TreeState T → Source T → Type 0

@@ -7,8 +7,8 @@ use Rattle.cpg_base.specs.Scenario.{Scenario}
 use Rattle.cpg_order.specs.Guard.{Guard, Leaf, Test}
 use Rattle.cpg_expand.specs.Guarded.{is_tested}
 use Rattle.cpg_rules.specs.Guards.{Guards, tree_of}
-use Rattle.cpg_tree.specs.Space.{HasFew}
-use Rattle.cpg_tree.specs.Tree.{Path, TreeState, IsOn}
+use Rattle.cpg_tree.specs.Space.{HasAtMostFaults}
+use Rattle.cpg_tree.specs.Tree.{Path, TreeState, IsOnPath}
 
 -- a process of a node that stands at a place or later and before another place
 pub record IsBetween (g : Graph) (order : List ℕ) (node from to q : ℕ) : Type 0 where
@@ -42,9 +42,9 @@ pub record IsAskedOf (g : Graph) (order : List ℕ) (guards : Guards) (node from
 
 -- a tree is true exactly where one does
 abbrev pub IsAskedTree : Graph → List ℕ → Guards → ℕ → ℕ → ℕ → ℕ → ℕ → TreeState Bool → Type 0
-IsAskedTree g order guards node from to c k t = (s : Scenario) → HasFew g.faults s → (x : Path Bool) → IsOn t.paths s x →
+IsAskedTree g order guards node from to c k t = (s : Scenario) → HasAtMostFaults g.faults s → (x : Path Bool) → IsOnPath t.paths s x →
     (x.1 ≡ true → IsAskedOf g order guards node from to c k s.values) × (IsAskedOf g order guards node from to c k s.values → x.1 ≡ true)
 
 -- a tree is true exactly where two others are
 abbrev pub IsBothTree : ℕ → TreeState Bool → TreeState Bool → TreeState Bool → Type 0
-IsBothTree k a b t = (s : Scenario) → HasFew k s → (x y z : Path Bool) → IsOn a.paths s x → IsOn b.paths s y → IsOn t.paths s z → z.1 ≡ (x.1 && y.1)
+IsBothTree k a b t = (s : Scenario) → HasAtMostFaults k s → (x y z : Path Bool) → IsOnPath a.paths s x → IsOnPath b.paths s y → IsOnPath t.paths s z → z.1 ≡ (x.1 && y.1)

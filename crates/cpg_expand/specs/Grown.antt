@@ -14,7 +14,7 @@ use Rattle.cpg_run.specs.Progress.{IsReady, IsFree}
 use Rattle.cpg_run.specs.Carried.{row_at, carried, carried_at_end, passed, queued}
 use Rattle.cpg_run.proofs.Rising.{AreLow}
 use Rattle.cpg_tree.specs.Tree.{Path, TreeState, IsConstant}
-use Rattle.cpg_expand.specs.Agreeing.{Tells}
+use Rattle.cpg_expand.specs.Agreeing.{HasValueFrom}
 use Rattle.cpg_expand.specs.Forest.{ForestState, HasTrees, times_of, ends_of}
 use Rattle.cpg_expand.specs.Sent.{sent_before, IsFreeOnce}
 use Rattle.cpg_expand.specs.Waited.{IsQueuedFor, IsWaitedFor}
@@ -32,19 +32,19 @@ pub record RowsHold (g : Graph) (order : List ℕ) (i : ℕ) (f : ForestState) (
 pub record IsReadyLine (g : Graph) (order : List ℕ) (rows : List (List Column)) (s : Scenario) (t : Times) (i node : ℕ) (tree : TreeState ℕ) : Type 0 where
   pub time : ℕ
   pub is : IsReady g order s t i node time
-  pub tells : Tells s (flat_map (passed g rows s) (on_node g order i node)) time tree
+  pub has_value : HasValueFrom s (flat_map (passed g rows s) (on_node g order i node)) time tree
 
 -- a tree tells when its slots are free, and no more than what is sent leaves to those behind it
 pub record IsFreeLine (g : Graph) (order : List ℕ) (rows : List (List Column)) (s : Scenario) (t : Times) (i node : ℕ) (tree : TreeState ℕ) : Type 0 where
   pub time : ℕ
   pub is : IsFree g order s t i node time
-  pub tells : Tells s (flat_map (queued g order rows s) (sent_before g order i node)) time tree
+  pub has_value : HasValueFrom s (flat_map (queued g order rows s) (sent_before g order i node)) time tree
 
 -- in one scenario with its run the trees tell the times and ends before the place i, and when nodes are ready there and slots are free,
 -- if that is waited for
 pub record Lines (g : Graph) (order : List ℕ) (rows : List (List Column)) (s : Scenario) (t : Times) (i : ℕ) (f : ForestState) : Type 0 where
-  pub times : (x : ℕ) → x < item_count g → place order (producer g x) < i → Tells s (carried g order rows s x) (get_or t.times x None) (times_of g f x)
-  pub ends : (q : ℕ) → q < process_count g → place order q < i → Tells s (carried_at_end g order rows s q) (get_or t.ends q None) (ends_of g f q)
+  pub times : (x : ℕ) → x < item_count g → place order (producer g x) < i → HasValueFrom s (carried g order rows s x) (get_or t.times x None) (times_of g f x)
+  pub ends : (q : ℕ) → q < process_count g → place order q < i → HasValueFrom s (carried_at_end g order rows s q) (get_or t.ends q None) (ends_of g f q)
   pub ready : (node : ℕ) → node < length g.nodes → IsWaitedFor g order i node → IsReadyLine g order rows s t i node (ready_of g f node)
   pub free : (node : ℕ) → node < length g.nodes → IsQueuedFor g order i node → IsFreeLine g order rows s t i node (free_of g f node)
 
@@ -58,9 +58,9 @@ IsDone g order p k x = IsEarlier g order (place order p) x ⊎ ((x ≡ p) ⊎ Co
 
 -- the trees tell of all processes before one, of its start and its end, and of the first k items that it sends
 pub record SendLines (g : Graph) (order : List ℕ) (rows : List (List Column)) (s : Scenario) (t : Times) (p k : ℕ) (f : ForestState) : Type 0 where
-  pub times : (x : ℕ) → x < item_count g → IsDone g order p k x → Tells s (carried g order rows s x) (get_or t.times x None) (times_of g f x)
+  pub times : (x : ℕ) → x < item_count g → IsDone g order p k x → HasValueFrom s (carried g order rows s x) (get_or t.times x None) (times_of g f x)
   pub ends : (q : ℕ) → q < process_count g → place order q < place order p + 1 →
-      Tells s (carried_at_end g order rows s q) (get_or t.ends q None) (ends_of g f q)
+      HasValueFrom s (carried_at_end g order rows s q) (get_or t.ends q None) (ends_of g f q)
   pub ready : (node : ℕ) → node < length g.nodes → IsWaitedFor g order (place order p + 1) node →
       IsReadyLine g order rows s t (place order p + 1) node (ready_of g f node)
   pub here : IsQueuedFor g order (place order p) (node_of g p) → IsFreeOnce g order rows s t p k f

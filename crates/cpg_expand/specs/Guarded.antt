@@ -10,9 +10,9 @@ use Rattle.cpg_order.specs.Guard.{Guard, Leaf, Test, outcome_at, way}
 use Rattle.cpg_base.specs.Scenario.{Scenario}
 use Rattle.cpg_cube.specs.declared.literal.Literal.{Literal}
 use Rattle.cpg_run.specs.Carried.{number_known}
-use Rattle.cpg_tree.specs.Space.{HasFew}
+use Rattle.cpg_tree.specs.Space.{HasAtMostFaults}
 use Rattle.cpg_tree.specs.Tree.{TreeState}
-use Rattle.cpg_expand.specs.Agreeing.{Tells}
+use Rattle.cpg_expand.specs.Agreeing.{HasValueFrom}
 use Rattle.cpg_expand.specs.Forest.{ForestState, heard_tree, heard_delay, input_tree, input_delay}
 use Rattle.cpg_expand.specs.Values.{time_later}
 
@@ -26,12 +26,12 @@ values_known s cs = map (value_known s) cs
 
 -- the tree that the value of a condition picks
 abbrev pub PicksByValue : {T : Type 0} → ℕ → ℕ → TreeState T → TreeState T → TreeState T → Type 0
-PicksByValue {T} k c high low t = (s : Scenario) → HasFew k s → (literals : List Literal) (x : T) →
-    Tells s literals x (if get_or s.values c false then high else low) → Tells s (value_known s c ∷ literals) x t
+PicksByValue {T} k c high low t = (s : Scenario) → HasAtMostFaults k s → (literals : List Literal) (x : T) →
+    HasValueFrom s literals x (if get_or s.values c false then high else low) → HasValueFrom s (value_known s c ∷ literals) x t
 
 -- where a guard comes to an activation
 abbrev pub IsActiveTree : ℕ → Guard → TreeState Bool → Type 0
-IsActiveTree k guard t = (s : Scenario) → HasFew k s → Tells s (values_known s (way guard s.values)) (is_active (outcome_at guard s.values)) t
+IsActiveTree k guard t = (s : Scenario) → HasAtMostFaults k s → HasValueFrom s (values_known s (way guard s.values)) (is_active (outcome_at guard s.values)) t
 
 -- whether a guard tests a condition on an outcome's way
 abbrev pub is_tested : Guard → List Bool → ℕ → Bool
@@ -39,11 +39,11 @@ is_tested guard o c = list_any (λ d. d == c) (way guard o)
 
 -- where it does
 abbrev pub IsTestedOn : ℕ → Guard → ℕ → TreeState Bool → Type 0
-IsTestedOn k guard c t = (s : Scenario) → HasFew k s → Tells s (values_known s (way guard s.values)) (is_tested guard s.values c) t
+IsTestedOn k guard c t = (s : Scenario) → HasAtMostFaults k s → HasValueFrom s (values_known s (way guard s.values)) (is_tested guard s.values c) t
 
 -- what is told of these conditions when their values are heard
-abbrev pub told_of : Scenario → (ℕ → List Literal) → List ℕ → List Literal
-told_of s tell cs = flat_map (λ c. tell c ++ value_known s c ∷ []) cs
+abbrev pub support_of : Scenario → (ℕ → List Literal) → List ℕ → List Literal
+support_of s support cs = flat_map (λ c. support c ++ value_known s c ∷ []) cs
 
 -- when these are there, each a delay after its time
 abbrev pub latest_of : (ℕ → ℕ) → (ℕ → Option ℕ) → List ℕ → ℕ
@@ -51,9 +51,9 @@ latest_of delay time xs = greatest (map (λ x. time_later (delay x) (time x)) xs
 
 -- when a node has heard all that a guard tests, by what tells when it hears each condition on the way
 abbrev pub IsHeardTree : Graph → ForestState → ℕ → Guard → TreeState ℕ → Type 0
-IsHeardTree g f node guard t = (s : Scenario) → HasFew g.faults s → (tell : ℕ → List Literal) (time : ℕ → Option ℕ) →
-    ((c : ℕ) → Contains (way guard s.values) c → Tells s (tell c) (time c) (heard_tree g f node c)) →
-    Tells s (told_of s tell (way guard s.values)) (latest_of (heard_delay g node) time (way guard s.values)) t
+IsHeardTree g f node guard t = (s : Scenario) → HasAtMostFaults g.faults s → (support : ℕ → List Literal) (time : ℕ → Option ℕ) →
+    ((c : ℕ) → Contains (way guard s.values) c → HasValueFrom s (support c) (time c) (heard_tree g f node c)) →
+    HasValueFrom s (support_of s support (way guard s.values)) (latest_of (heard_delay g node) time (way guard s.values)) t
 
 -- inputs that are no messages, those within the node, are there once it is ready
 abbrev pub AreThere : Graph → (ℕ → Option ℕ) → ℕ → List ℕ → Type 0
@@ -61,18 +61,18 @@ AreThere g time ready edges = (e : ℕ) → Contains edges e → is_message g e 
 
 -- the starts of a scenario after a release and after these inputs are there, too, if something is told first
 abbrev pub StartsAfter : Graph → ForestState → Scenario → List Literal → TreeState ℕ → ℕ → List ℕ → TreeState (Option ℕ) → Type 0
-StartsAfter g f s first wait release edges t = (base : List Literal) (x : ℕ) → Tells s base x wait → (tell : ℕ → List Literal) (time : ℕ → Option ℕ) →
-    AreThere g time x edges → ((e : ℕ) → Contains edges e → Tells s (tell e) (time e) (input_tree g f e)) →
-    Tells s (first ++ (base ++ flat_map tell edges)) (Some (max (max x release) (latest_of (input_delay g) time edges))) t
+StartsAfter g f s first wait release edges t = (base : List Literal) (x : ℕ) → HasValueFrom s base x wait → (support : ℕ → List Literal) (time : ℕ → Option ℕ) →
+    AreThere g time x edges → ((e : ℕ) → Contains edges e → HasValueFrom s (support e) (time e) (input_tree g f e)) →
+    HasValueFrom s (first ++ (base ++ flat_map support edges)) (Some (max (max x release) (latest_of (input_delay g) time edges))) t
 
 abbrev pub IsStartAfter : Graph → ForestState → TreeState ℕ → ℕ → List ℕ → TreeState (Option ℕ) → Type 0
-IsStartAfter g f wait release edges t = (s : Scenario) → HasFew g.faults s → StartsAfter g f s [] wait release edges t
+IsStartAfter g f wait release edges t = (s : Scenario) → HasAtMostFaults g.faults s → StartsAfter g f s [] wait release edges t
 
 -- the starts after a release and after these inputs are there, if a chooser is true, and no starts if it is false
 pub record IsStartWhere (g : Graph) (f : ForestState) (chooser : TreeState Bool) (wait : TreeState ℕ) (release : ℕ) (edges : List ℕ)
     (t : TreeState (Option ℕ)) : Type 0 where
-  pub on : (s : Scenario) → HasFew g.faults s → (told : List Literal) → Tells s told true chooser → StartsAfter g f s told wait release edges t
-  pub off : (s : Scenario) → HasFew g.faults s → (told : List Literal) → Tells s told false chooser → Tells s told None t
+  pub on : (s : Scenario) → HasAtMostFaults g.faults s → (given : List Literal) → HasValueFrom s given true chooser → StartsAfter g f s given wait release edges t
+  pub off : (s : Scenario) → HasAtMostFaults g.faults s → (given : List Literal) → HasValueFrom s given false chooser → HasValueFrom s given None t
 
 -- the inputs that a process with an activation waits for
 abbrev pub awaited : List ℕ → Activation → List ℕ
@@ -82,23 +82,23 @@ awaited inputs (By e) = e ∷ []
 
 -- what its start says, and the start
 abbrev pub start_says : List Literal → (ℕ → List Literal) → List ℕ → Activation → List Literal
-start_says base tell inputs a = if is_active a then base ++ flat_map tell (awaited inputs a) else []
+start_says base support inputs a = if is_active a then base ++ flat_map support (awaited inputs a) else []
 
 abbrev pub start_at : ℕ → ℕ → (ℕ → ℕ) → (ℕ → Option ℕ) → List ℕ → Activation → Option ℕ
 start_at wait release delay time inputs a = if is_active a then Some (max (max wait release) (latest_of delay time (awaited inputs a))) else None
 
 abbrev pub IsStartBy : Graph → ForestState → TreeState ℕ → ℕ → List ℕ → Activation → TreeState (Option ℕ) → Type 0
-IsStartBy g f wait release inputs a t = (s : Scenario) → HasFew g.faults s → (base : List Literal) (x : ℕ) → Tells s base x wait →
-    (tell : ℕ → List Literal) (time : ℕ → Option ℕ) → AreThere g time x (awaited inputs a) →
-    ((e : ℕ) → Contains (awaited inputs a) e → Tells s (tell e) (time e) (input_tree g f e)) →
-    Tells s (start_says base tell inputs a) (start_at x release (input_delay g) time inputs a) t
+IsStartBy g f wait release inputs a t = (s : Scenario) → HasAtMostFaults g.faults s → (base : List Literal) (x : ℕ) → HasValueFrom s base x wait →
+    (support : ℕ → List Literal) (time : ℕ → Option ℕ) → AreThere g time x (awaited inputs a) →
+    ((e : ℕ) → Contains (awaited inputs a) e → HasValueFrom s (support e) (time e) (input_tree g f e)) →
+    HasValueFrom s (start_says base support inputs a) (start_at x release (input_delay g) time inputs a) t
 
 -- the starts of a process with a guard
 abbrev pub IsStartTree : Graph → ForestState → TreeState ℕ → ℕ → List ℕ → Guard → TreeState (Option ℕ) → Type 0
-IsStartTree g f wait release inputs guard t = (s : Scenario) → HasFew g.faults s → (base : List Literal) (x : ℕ) → Tells s base x wait →
-    (tell : ℕ → List Literal) (time : ℕ → Option ℕ) → AreThere g time x (awaited inputs (outcome_at guard s.values)) →
-    ((e : ℕ) → Contains (awaited inputs (outcome_at guard s.values)) e → Tells s (tell e) (time e) (input_tree g f e)) →
-    Tells s (values_known s (way guard s.values) ++ start_says base tell inputs (outcome_at guard s.values))
+IsStartTree g f wait release inputs guard t = (s : Scenario) → HasAtMostFaults g.faults s → (base : List Literal) (x : ℕ) → HasValueFrom s base x wait →
+    (support : ℕ → List Literal) (time : ℕ → Option ℕ) → AreThere g time x (awaited inputs (outcome_at guard s.values)) →
+    ((e : ℕ) → Contains (awaited inputs (outcome_at guard s.values)) e → HasValueFrom s (support e) (time e) (input_tree g f e)) →
+    HasValueFrom s (values_known s (way guard s.values) ++ start_says base support inputs (outcome_at guard s.values))
     (start_at x release (input_delay g) time inputs (outcome_at guard s.values)) t
 
 -- an activation that waits for all inputs, if it is one

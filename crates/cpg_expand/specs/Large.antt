@@ -32,9 +32,9 @@ ShowsLarge wide why fault = ShowsBuildFault (λ x. (wide ≡ Some x) × why) fau
 
 -- a tree has too many leaves down a guard: for an activation that it leads to, or of a part of it
 abbrev pub IsLargeDown : {T : Type 0} → (Activation → Type 0) → (Guard → TreeState T → Type 0) → Guard → Type 0
-IsLargeDown large told (Leaf a) = large a
-IsLargeDown {T} large told (Test c off on) =
-    IsLargeDown large told off ⊎ (IsLargeDown large told on ⊎ ((t : TreeState T) × told (Test c off on) t × IsLarge t))
+IsLargeDown large fits (Leaf a) = large a
+IsLargeDown {T} large fits (Test c off on) =
+    IsLargeDown large fits off ⊎ (IsLargeDown large fits on ⊎ ((t : TreeState T) × fits (Test c off on) t × IsLarge t))
 
 -- a tree has too many leaves that tells when a node has heard what a part of a guard tests
 abbrev pub IsLargeHeard : Graph → ForestState → ℕ → Guard → Type 0

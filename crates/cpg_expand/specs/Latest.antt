@@ -5,7 +5,7 @@ use Rattle.cpg_base.specs.Bus.{round}
 use Rattle.cpg_base.specs.Scenario.{Scenario, IsScenario}
 use Rattle.cpg_bus.specs.Share.{ShareState}
 use Rattle.cpg_rules.specs.Guards.{Guards}
-use Rattle.cpg_tree_columns.specs.Greatest.{HasValue}
+use Rattle.cpg_tree_columns.specs.Greatest.{HasValueAt}
 use Rattle.cpg_tree_columns.specs.Meeting.{HasWhere}
 use Rattle.cpg_tree.specs.Tree.{TreeState, HasOnePathEach, IsConstant}
 use Rattle.cpg_expand.specs.Earlier.{IsBetween, IsAskedOf}
@@ -42,9 +42,9 @@ pub record HasEndedOf (g : Graph) (order : List ℕ) (f : ForestState) (active :
 pub record HasHeard (g : Graph) (order : List ℕ) (guards : Guards) (f : ForestState) (active : TreeState Bool) (node from to c n : ℕ)
     (s : Scenario) : Type 0 where
   pub asked : IsAskedOf g order guards node from to c (process_count g) s.values
-  pub acts : HasValue active.paths true s
+  pub acts : HasValueAt active.paths true s
   pub time : ℕ
-  pub has : HasValue (heard_tree g f node c).paths (Some time) s
+  pub has : HasValueAt (heard_tree g f node c).paths (Some time) s
   pub is : n ≡ time_later (heard_delay g node c) (Some time)
 
 -- one of the first k conditions

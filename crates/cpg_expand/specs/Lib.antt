@@ -12,7 +12,7 @@ pub mod Freezing
 pub mod Latest
 pub mod Sending
 pub mod MadeRows
-pub mod Told
+pub mod TreeValues
 pub mod Grown
 pub mod Sent
 pub mod Begun

@@ -6,8 +6,8 @@ use Rattle.cpg_base.specs.Scenario.{zero_scenario, IsLeast, is_before, Scenario,
 use Rattle.cpg_order.specs.Urgency.{IsTopological}
 use Rattle.cpg_run.specs.Finish.{IsWorst, IsExcess}
 use Rattle.cpg_run.specs.Run.{Times, IsRun}
-use Rattle.cpg_tree_columns.specs.Greatest.{HasValue, IsGreatestOf}
-use Rattle.cpg_tree.specs.Tree.{Path, TreeState, IsOn, IsMap}
+use Rattle.cpg_tree_columns.specs.Greatest.{HasValueAt, IsGreatestOf}
+use Rattle.cpg_tree.specs.Tree.{Path, TreeState, IsOnPath, IsMap}
 use Rattle.cpg_expand.specs.Agreeing.{IsTree}
 use Rattle.cpg_expand.specs.Forest.{no_tree}
 use Rattle.cpg_expand.specs.Values.{time_past}
@@ -20,16 +20,16 @@ tree_at g trees q = get_or trees q (no_tree g.faults)
 
 -- the process ends at the time
 abbrev pub EndsAt : Graph → List (TreeState (Option ℕ)) → ℕ → ℕ → Scenario → Type 0
-EndsAt g trees q time s = HasValue (tree_at g trees q).paths (Some time) s
+EndsAt g trees q time s = HasValueAt (tree_at g trees q).paths (Some time) s
 
 -- the process ends so far past its due
 abbrev pub EndsPast : Graph → List (TreeState (Option ℕ)) → ℕ → ℕ → Scenario → Type 0
 EndsPast g trees q excess s = (end : ℕ) × EndsAt g trees q end s × (time_past (due g q) (Some end) ≡ Some excess)
 
 -- each tree tells when its process ends in every run
-abbrev pub TellEnds : Graph → List ℕ → List (Option ℕ) → List (TreeState (Option ℕ)) → Type 0
-TellEnds g order frozen trees = (s : Scenario) (t : Times) → IsScenario g s → IsRun g order frozen s t → (q : ℕ) → q < process_count g →
-    (x : Path (Option ℕ)) → IsOn (tree_at g trees q).paths s x → x.1 ≡ get_or t.ends q None
+abbrev pub GiveEnds : Graph → List ℕ → List (Option ℕ) → List (TreeState (Option ℕ)) → Type 0
+GiveEnds g order frozen trees = (s : Scenario) (t : Times) → IsScenario g s → IsRun g order frozen s t → (q : ℕ) → q < process_count g →
+    (x : Path (Option ℕ)) → IsOnPath (tree_at g trees q).paths s x → x.1 ≡ get_or t.ends q None
 
 -- ---- peaks
 
@@ -99,10 +99,10 @@ pub record IsNextExcess (g : Graph) (urgency : List ℕ) (end : TreeState (Optio
 
 -- the greatest finish, under any order and frozen times whose runs end as the trees tell
 abbrev pub IsWorstOfTrees : Graph → List ℕ → List (TreeState (Option ℕ)) → Peak → Type 0
-IsWorstOfTrees g urgency trees peak = (order : List ℕ) (frozen : List (Option ℕ)) → IsTopological g order → TellEnds g order frozen trees →
+IsWorstOfTrees g urgency trees peak = (order : List ℕ) (frozen : List (Option ℕ)) → IsTopological g order → GiveEnds g order frozen trees →
     IsWorst g urgency order frozen peak.time peak.scenario peak.process
 
 -- the greatest excess, likewise
 abbrev pub IsExcessOfTrees : Graph → List ℕ → List (TreeState (Option ℕ)) → Peak → Type 0
-IsExcessOfTrees g urgency trees peak = (order : List ℕ) (frozen : List (Option ℕ)) → IsTopological g order → TellEnds g order frozen trees →
+IsExcessOfTrees g urgency trees peak = (order : List ℕ) (frozen : List (Option ℕ)) → IsTopological g order → GiveEnds g order frozen trees →
     IsExcess g urgency order frozen peak.time peak.scenario peak.process

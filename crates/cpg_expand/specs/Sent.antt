@@ -13,7 +13,7 @@ use Rattle.cpg_run.specs.Carried.{queued}
 use Rattle.cpg_run.specs.Most.{IsMost}
 use Rattle.cpg_run.specs.Progress.{IsSentBy, free_after}
 use Rattle.cpg_tree.specs.Tree.{TreeState}
-use Rattle.cpg_expand.specs.Agreeing.{IsTree, Tells}
+use Rattle.cpg_expand.specs.Agreeing.{IsTree, HasValueFrom}
 use Rattle.cpg_expand.specs.Forest.{ForestState, ends_of}
 use Rattle.cpg_expand.specs.Freezing.{IsFrozenBy}
 use Rattle.cpg_expand.specs.Latest.{IsLatestSend}
@@ -33,7 +33,7 @@ sent_so_far g order p k = sent_before g order (place order p) (node_of g p) ++ t
 pub record IsFreeOnce (g : Graph) (order : List ℕ) (rows : List (List Column)) (s : Scenario) (t : Times) (p k : ℕ) (f : ForestState) : Type 0 where
   pub time : ℕ
   pub is : IsMost (IsSentBy g order s p k) (free_after g t) time
-  pub tells : Tells s (flat_map (queued g order rows s) (sent_so_far g order p k)) time (free_of g f (node_of g p))
+  pub has_value : HasValueFrom s (flat_map (queued g order rows s) (sent_so_far g order p k)) time (free_of g f (node_of g p))
 
 -- the times of a frozen item that is sent: the latest of all
 pub record IsFrozenSend (g : Graph) (order : List ℕ) (goes : TreeState Bool) (x : ℕ) (f : ForestState) (before after : List (Option ℕ))

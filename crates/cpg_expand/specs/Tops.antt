@@ -4,7 +4,7 @@ use Rattle.cpg_base.specs.Graph.{Graph, process_count}
 use Rattle.cpg_base.specs.Duration.{due}
 use Rattle.cpg_base.specs.Numbers.{greatest, numbers_below}
 use Rattle.cpg_base.specs.Scenario.{Scenario, IsScenario}
-use Rattle.cpg_tree_columns.specs.Greatest.{IsMost}
+use Rattle.cpg_tree_columns.specs.Greatest.{IsGreatestNumber}
 use Rattle.cpg_tree.specs.Tree.{TreeState}
 use Rattle.cpg_expand.specs.Values.{time_past}
 
@@ -13,7 +13,7 @@ use Rattle.cpg_expand.specs.Values.{time_past}
 -- the greatest number of a tree, if it has one
 abbrev pub IsTopOf : TreeState (Option ℕ) → Option ℕ → Type 0
 IsTopOf t None = All (λ p. p.1 ≡ None) t.paths
-IsTopOf t (Some most) = IsMost t most
+IsTopOf t (Some most) = IsGreatestNumber t most
 
 -- the greatest number of each of the first n trees
 pub record AreTops (trees : List (TreeState (Option ℕ))) (n : ℕ) (tops : List (Option ℕ)) : Type 0 where

@@ -4,12 +4,12 @@ use Rattle.cpg_base.specs.Graph.{Graph}
 use Rattle.cpg_order.specs.Guard.{Guard, way}
 use Rattle.cpg_base.specs.Scenario.{Scenario}
 use Rattle.cpg_cube.specs.declared.literal.Literal.{Literal}
-use Rattle.cpg_tree.specs.Space.{HasFew}
+use Rattle.cpg_tree.specs.Space.{HasAtMostFaults}
 use Rattle.cpg_tree.specs.Tree.{TreeState}
-use Rattle.cpg_expand.specs.Agreeing.{Tells}
+use Rattle.cpg_expand.specs.Agreeing.{HasValueFrom}
 use Rattle.cpg_expand.specs.Forest.{ForestState, no_tree, ready_at, ready_by, heard_tree, heard_delay}
 use Rattle.cpg_expand.specs.declared.forest.Ready.{Ready}
-use Rattle.cpg_expand.specs.Guarded.{told_of, latest_of}
+use Rattle.cpg_expand.specs.Guarded.{support_of, latest_of}
 
 abbrev pub ready_of : Graph → ForestState → ℕ → TreeState ℕ
 ready_of g f node = ready_by g f (ready_at g f node)
@@ -24,7 +24,7 @@ wait_of g f node (Some wait) = wait
 
 -- until the node is ready and has heard all that a guard tests
 abbrev pub IsWaitTree : Graph → ForestState → ℕ → Guard → TreeState ℕ → Type 0
-IsWaitTree g f node guard t = (s : Scenario) → HasFew g.faults s → (base : List Literal) (x : ℕ) → Tells s base x (ready_of g f node) →
-    (tell : ℕ → List Literal) (time : ℕ → Option ℕ) →
-    ((c : ℕ) → Contains (way guard s.values) c → Tells s (tell c) (time c) (heard_tree g f node c)) →
-    Tells s (base ++ told_of s tell (way guard s.values)) (max x (latest_of (heard_delay g node) time (way guard s.values))) t
+IsWaitTree g f node guard t = (s : Scenario) → HasAtMostFaults g.faults s → (base : List Literal) (x : ℕ) → HasValueFrom s base x (ready_of g f node) →
+    (support : ℕ → List Literal) (time : ℕ → Option ℕ) →
+    ((c : ℕ) → Contains (way guard s.values) c → HasValueFrom s (support c) (time c) (heard_tree g f node c)) →
+    HasValueFrom s (base ++ support_of s support (way guard s.values)) (max x (latest_of (heard_delay g node) time (way guard s.values))) t

@@ -28,7 +28,7 @@ pub(crate) trait Descent<T> {
 
     ghost made: { Self → TreeState T → Type 0 };
 
-    ghost told: { Self → Guard → TreeState T → Type 0 };
+    ghost fits: { Self → Guard → TreeState T → Type 0 };
 
     ghost wide: { Self → Option ℕ };
 
@@ -43,7 +43,7 @@ pub(crate) trait Descent<T> {
         requires begun { begun self.now }
         requires may { may self.now activation }
         ensures made { IfOk result (made self.now) }
-        ensures told { IfOk result (told self.now (Leaf activation)) }
+        ensures fits { IfOk result (fits self.now (Leaf activation)) }
         ensures fault { IfErr result (ShowsLarge (wide self.now) (large self.now activation)) };
 
     /// The tree of a test of a condition.
@@ -53,7 +53,7 @@ pub(crate) trait Descent<T> {
         requires no { made self.now no.now }
         requires yes { made self.now yes.now }
         ensures made { IfOk result (made self.now) }
-        ensures told { IfOk result (λ t. (off on : Guard) → told self.now off no.now → told self.now on yes.now → told self.now (Test condition off on) t) };
+        ensures fits { IfOk result (λ t. (off on : Guard) → fits self.now off no.now → fits self.now on yes.now → fits self.now (Test condition off on) t) };
 }
 
 /// A guard with its tree.
@@ -158,11 +158,11 @@ fn found<'a, T: Copy + Eq, D: Descent<T>>(
     requires begun { D.begun descent.now }
     requires tests { TestsBelow (D.conditions descent.now) guard.now }
     requires leaves { AreLeaves (D.may descent.now) guard.now }
-    requires known { AreKnown (D.made descent.now) (D.told descent.now) known.old.items }
-    ensures known { IfOk result (λ _. AreKnown (D.made descent.now) (D.told descent.now) known.new.items) }
+    requires known { AreKnown (D.made descent.now) (D.fits descent.now) known.old.items }
+    ensures known { IfOk result (λ _. AreKnown (D.made descent.now) (D.fits descent.now) known.new.items) }
     ensures kept { IfOk result (λ _. AreKept known.old.items known.new.items) }
-    ensures found { IfOk result (IsFound (D.made descent.now) (D.told descent.now) known.new.items guard.now) }
-    ensures fault { IfErr result (ShowsLarge (D.wide descent.now) (IsLargeDown (D.large descent.now) (D.told descent.now) guard.now)) }
+    ensures found { IfOk result (IsFound (D.made descent.now) (D.fits descent.now) known.new.items guard.now) }
+    ensures fault { IfErr result (ShowsLarge (D.wide descent.now) (IsLargeDown (D.large descent.now) (D.fits descent.now) guard.now)) }
 {
     if let Some(place) = guard_index(known.as_slice(), guard) {
         return Ok(Source::At(place));
@@ -195,8 +195,8 @@ pub(crate) fn tree_down<T: Copy + Eq, D: Descent<T>>(
     requires tests { TestsBelow (D.conditions descent.now) guard.now }
     requires leaves { AreLeaves (D.may descent.now) guard.now }
     ensures made { IfOk result (D.made descent.now) }
-    ensures told { IfOk result (D.told descent.now guard.now) }
-    ensures fault { IfErr result (ShowsLarge (D.wide descent.now) (IsLargeDown (D.large descent.now) (D.told descent.now) guard.now)) }
+    ensures fits { IfOk result (D.fits descent.now guard.now) }
+    ensures fault { IfErr result (ShowsLarge (D.wide descent.now) (IsLargeDown (D.large descent.now) (D.fits descent.now) guard.now)) }
 {
     let mut known = Vec::new(alloc);
     match found(descent, guard, &mut known)? {

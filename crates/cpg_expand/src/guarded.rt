@@ -56,7 +56,7 @@ impl Descent<bool> for Activity<'_> {
 
     ghost made = { λ a t. IsTree a.problem.now t };
 
-    ghost told = { λ a guard t. IsActiveTree a.problem.now.faults guard t };
+    ghost fits = { λ a guard t. IsActiveTree a.problem.now.faults guard t };
 
     ghost wide = { λ a. None };
 
@@ -149,7 +149,7 @@ impl Descent<u64> for GuardHearing<'_> {
 
     ghost made = { λ h t. IsTree h.problem.now t };
 
-    ghost told = { λ h guard t. IsHeardTree h.problem.now h.forest.now h.node guard t };
+    ghost fits = { λ h guard t. IsHeardTree h.problem.now h.forest.now h.node guard t };
 
     ghost wide = { λ h. h.forest.now.wide };
 
@@ -391,7 +391,7 @@ impl Descent<Option<u64>> for Starting<'_> {
 
     ghost made = { λ s t. IsTree s.problem.now t };
 
-    ghost told = { λ s guard t. IsStartTree s.problem.now s.forest.now (ready_by s.problem.now s.forest.now s.wait.now) s.release s.inputs.now guard t };
+    ghost fits = { λ s guard t. IsStartTree s.problem.now s.forest.now (ready_by s.problem.now s.forest.now s.wait.now) s.release s.inputs.now guard t };
 
     ghost wide = { λ s. s.forest.now.wide };
 

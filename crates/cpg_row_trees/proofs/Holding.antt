@@ -11,5 +11,5 @@ pub matches_more : (s : Scenario) (ls : List Literal) (i : ℕ) (d : Literal) �
 matches_more s ls i d there before h = list_all_more (holds s) ls i d there ∙ and_from (matches (take i ls) s) (holds s (get_or ls i d)) before h
 
 -- what doesn't hold if a literal of those that match must
-pub unsaid : (s : Scenario) (ls : List Literal) (l : Literal) → (matches ls s ≡ true → holds s l ≡ true) → holds s l ≡ false → matches ls s ≡ false
-unsaid s ls l said off = false_from_ne_true (matches ls s) (λ all. both_ways (holds s l) off (said all))
+pub not_implied : (s : Scenario) (ls : List Literal) (l : Literal) → (matches ls s ≡ true → holds s l ≡ true) → holds s l ≡ false → matches ls s ≡ false
+not_implied s ls l implied off = false_from_ne_true (matches ls s) (λ all. both_ways (holds s l) off (implied all))

@@ -1,6 +1,6 @@
 pub mod Passes
 pub mod Holding
-pub mod SpotLaws
+pub mod PlaceHintLaws
 pub mod Gathered
 pub mod SliceLaws
 pub mod TreeLaws

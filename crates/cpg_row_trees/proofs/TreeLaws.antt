@@ -12,8 +12,8 @@ use Rattle.cpg_cube.specs.Column.{Column, column_at}
 use Rattle.cpg_table.specs.Table.{NodeTable, columns_of}
 use Rattle.cpg_tree.proofs.OnePath.{scenario_few}
 use Rattle.cpg_row_trees.specs.PlacesState.{PlacesState}
-use Rattle.cpg_tree.specs.Space.{HasFew}
-use Rattle.cpg_row_trees.specs.Places.{IsMatched, cube_at, place_at, tells_cube}
+use Rattle.cpg_tree.specs.Space.{HasAtMostFaults}
+use Rattle.cpg_row_trees.specs.Places.{IsMatched, cube_at, place_at, IsPlaceOfMatch}
 use Rattle.cpg_row_trees.specs.Trees.{AreRowTrees, IsRowTree}
 
 -- the cubes of columns
@@ -26,9 +26,9 @@ module _ (lent : List (Bor (List Literal))) (columns : List Column) (same : map 
   as_long = sym (length-map lent (λ (b : Bor (List Literal)). b.now)) ∙ ap length same ∙ length-map columns (λ (c : Column). c.cube)
 
   pub row_tree_of : (g : Graph) (k : ℕ) (o : Option PlacesState) → k ≡ g.faults
-      → IfSome o (λ t. (s : Scenario) → HasFew k s → tells_cube (map (λ (b : Bor (List Literal)). b.now) lent) (place_at t s) s) → IfSome o (IsRowTree g columns)
+      → IfSome o (λ t. (s : Scenario) → HasAtMostFaults k s → IsPlaceOfMatch (map (λ (b : Bor (List Literal)). b.now) lent) (place_at t s) s) → IfSome o (IsRowTree g columns)
   row_tree_of g k None e h = tt
-  row_tree_of g k (Some t) e h = record { told = λ s law. subst (λ cubes. tells_cube cubes (place_at t s) s) same (h s (subst (λ k. HasFew k s) (sym e) (scenario_few g s law))) }
+  row_tree_of g k (Some t) e h = record { found = λ s law. subst (λ cubes. IsPlaceOfMatch cubes (place_at t s) s) same (h s (subst (λ k. HasAtMostFaults k s) (sym e) (scenario_few g s law))) }
 
 module _ (columns : List Column) (s : Scenario) (i : ℕ) where
   cube_here : i < length columns → cube_at (cubes_in columns) i ≡ (column_at columns i).cube
@@ -44,30 +44,30 @@ module _ (columns : List Column) (s : Scenario) (i : ℕ) where
   matches_at h = sym (ap (λ c. matches c s) (cube_here (there_at h))) ∙ h.matched
 
 module _ {g : Graph} {columns : List Column} {tree : PlacesState} (is : IsRowTree g columns tree) (s : Scenario) (law : IsScenario g s) where
-  told_as : (o : Option ℕ) → place_at tree s ≡ o → tells_cube (cubes_in columns) o s
-  told_as o e = subst (λ p. tells_cube (cubes_in columns) p s) e (is.told s law)
+  found_as : (o : Option ℕ) → place_at tree s ≡ o → IsPlaceOfMatch (cubes_in columns) o s
+  found_as o e = subst (λ p. IsPlaceOfMatch (cubes_in columns) p s) e (is.found s law)
 
   -- if there is no place, no column matches
   pub none_matches : place_at tree s ≡ None → (d : Column) → Contains columns d → matches d.cube s ≡ true → ⊥
-  none_matches e d c m = told_as None e c.0 (matched_at columns s c.0 c.1 (ap (λ (d : Column). matches d.cube s) (get_or_default columns c.0 (record { time = 0; cube = [] }) d c.1 ∙ c.2) ∙ m))
+  none_matches e d c m = found_as None e c.0 (matched_at columns s c.0 c.1 (ap (λ (d : Column). matches d.cube s) (get_or_default columns c.0 (record { time = 0; cube = [] }) d c.1 ∙ c.2) ∙ m))
 
   -- the place is one of the row's, and its column matches
   pub place_there : (i : ℕ) → place_at tree s ≡ Some i → i < length columns
-  place_there i e = there_at columns s i (told_as (Some i) e).0
+  place_there i e = there_at columns s i (found_as (Some i) e).0
 
   pub place_matches : (i : ℕ) → place_at tree s ≡ Some i → matches (column_at columns i).cube s ≡ true
-  place_matches i e = matches_at columns s i (told_as (Some i) e).0
+  place_matches i e = matches_at columns s i (found_as (Some i) e).0
 
   -- a column that matches stands at the place
   pub place_only : (i j : ℕ) → place_at tree s ≡ Some i → j < length columns → matches (column_at columns j).cube s ≡ true → j ≡ i
-  place_only i j e l m = (told_as (Some i) e).1 j (matched_at columns s j l m)
+  place_only i j e l m = (found_as (Some i) e).1 j (matched_at columns s j l m)
 
   -- no two columns match
   pub one_place : (i j : ℕ) → i < length columns → j < length columns → matches (column_at columns i).cube s ≡ true → matches (column_at columns j).cube s ≡ true → i ≡ j
   one_place i j k l m n = go (place_at tree s) refl
     where
       go : (o : Option ℕ) → place_at tree s ≡ o → i ≡ j
-      go None e = absurd (told_as None e i (matched_at columns s i k m))
+      go None e = absurd (found_as None e i (matched_at columns s i k m))
       go (Some p) e = place_only p i e k m ∙ sym (place_only p j e l n)
 
   pub same_column : (c d : Column) → Contains columns c → Contains columns d → matches c.cube s ≡ true → matches d.cube s ≡ true → c ≡ d

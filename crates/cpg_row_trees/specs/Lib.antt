@@ -1,5 +1,5 @@
 pub mod PlacesState
 pub mod Places
-pub mod Spots
+pub mod PlaceHints
 pub mod Slices
 pub mod Trees

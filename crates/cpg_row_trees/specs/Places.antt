@@ -6,7 +6,7 @@ use Rattle.cpg_cube.specs.declared.literal.Literal.{Literal}
 use Rattle.cpg_tree.specs.TreeNode.{TreeNode}
 use Rattle.cpg_row_trees.specs.PlacesState.{PlacesState}
 use Rattle.cpg_tree.specs.declared.space.Space.{Space}
-use Rattle.cpg_tree.specs.Space.{Lies}
+use Rattle.cpg_tree.specs.Space.{IsInSpace}
 use Rattle.cpg_tree.specs.Decision.{value_at}
 use Rattle.cpg_tree.specs.ReadBack.{read_back}
 
@@ -29,13 +29,13 @@ pub record IsMatched (cubes : List (List Literal)) (s : Scenario) (i : ℕ) : Ty
   pub matched : matches (cube_at cubes i) s ≡ true
 
 -- the place of the one cube that the scenario matches, and none if it matches no cube
-abbrev pub tells_cube : List (List Literal) → Option ℕ → Scenario → Type 0
-tells_cube cubes None s = (j : ℕ) → IsMatched cubes s j → ⊥
-tells_cube cubes (Some i) s = IsMatched cubes s i × ((j : ℕ) → IsMatched cubes s j → j ≡ i)
+abbrev pub IsPlaceOfMatch : List (List Literal) → Option ℕ → Scenario → Type 0
+IsPlaceOfMatch cubes None s = (j : ℕ) → IsMatched cubes s j → ⊥
+IsPlaceOfMatch cubes (Some i) s = IsMatched cubes s i × ((j : ℕ) → IsMatched cubes s j → j ≡ i)
 
 -- a fact holds of the value that each scenario of a space comes to
-abbrev pub IsToldAll : {T : Type 0} → (T → Scenario → Type 0) → Space → TreeNode T → Type 0
-IsToldAll fact room a = (s : Scenario) → Lies room s → fact (value_at a s) s
+abbrev pub HoldsInSpace : {T : Type 0} → (T → Scenario → Type 0) → Space → TreeNode T → Type 0
+HoldsInSpace fact space a = (s : Scenario) → IsInSpace space s → fact (value_at a s) s
 
 -- there is a place, and it is one of these
 abbrev pub IsAmong : List ℕ → Option ℕ → Type 0

@@ -5,70 +5,70 @@ use Rattle.cpg_base.specs.Variable.{top}
 use Rattle.cpg_base.specs.Scenario.{Scenario, number_of}
 use Rattle.cpg_cube.specs.Cube.{holds, matches}
 use Rattle.cpg_cube.specs.declared.literal.Literal.{Literal}
-use Rattle.cpg_row_trees.specs.declared.slices.Lead.{Lead}
+use Rattle.cpg_row_trees.specs.declared.slices.SliceTop.{SliceTop}
 use Rattle.cpg_row_trees.specs.declared.slices.ForkSides.{ForkSides}
-use Rattle.cpg_row_trees.specs.declared.slices.Lead.TheVariants.{Leaf, Fork, Unknown}
+use Rattle.cpg_row_trees.specs.declared.slices.SliceTop.TheVariants.{Leaf, Fork, Unknown}
 use Rattle.cpg_row_trees.specs.declared.places.TreeGrowth.{TreeGrowth}
 use Rattle.cpg_tree.specs.declared.space.Space.{Space}
-use Rattle.cpg_tree.specs.Space.{Lies, HasFew}
+use Rattle.cpg_tree.specs.Space.{IsInSpace, HasAtMostFaults}
 use Rattle.cpg_tree.specs.Decision.{value_at}
-use Rattle.cpg_tree.specs.Added.{Adds}
+use Rattle.cpg_tree.specs.Added.{AddsTree}
 use Rattle.cpg_row_trees.specs.Places.{IsMatched}
-use Rattle.cpg_row_trees.specs.Spots.{AreOpen}
+use Rattle.cpg_row_trees.specs.PlaceHints.{IsOpenCut}
 
 -- each number is in range
-pub record IsInRange (room : Space) (s : Scenario) : Type 0 where
-  pub low : (v : ℕ) → v < 256 → get_or room.low v 0 ≤ number_of s v
-  pub high : (v : ℕ) → v < 256 → number_of s v ≤ get_or room.high v 0
+pub record IsInRanges (space : Space) (s : Scenario) : Type 0 where
+  pub low : (v : ℕ) → v < 256 → get_or space.low v 0 ≤ number_of s v
+  pub high : (v : ℕ) → v < 256 → number_of s v ≤ get_or space.high v 0
 
 -- whether fewer numbers of a variable are in range than scenarios of at most k faults have
 abbrev pub is_narrow : ℕ → Space → ℕ → Bool
-is_narrow k room v = nat_lt 0 (get_or room.low v 0) || nat_lt (get_or room.high v 0) (top k v)
+is_narrow k space v = nat_lt 0 (get_or space.low v 0) || nat_lt (get_or space.high v 0) (top k v)
 
 -- 1 if they are
 abbrev pub narrowed : ℕ → Space → ℕ → ℕ
-narrowed k room v = if nat_lt v 256 && is_narrow k room v then 1 else 0
+narrowed k space v = if nat_lt v 256 && is_narrow k space v then 1 else 0
 
 -- a space that forks lead to: the ranges alone tell of at most k faults who lies in it, and no more of them than so many are narrow
-pub record IsReached (k : ℕ) (room : Space) (narrow : ℕ) : Type 0 where
-  pub by_ranges : (s : Scenario) → HasFew k s → IsInRange room s → Lies room s
-  pub few : sum_by (narrowed k room) (numbers_below 256) ≤ narrow
+pub record IsForkSpace (k : ℕ) (space : Space) (narrow : ℕ) : Type 0 where
+  pub by_ranges : (s : Scenario) → HasAtMostFaults k s → IsInRanges space s → IsInSpace space s
+  pub few : sum_by (narrowed k space) (numbers_below 256) ≤ narrow
 
 -- a literal's numbers are in range
-pub record IsInside (room : Space) (l : Literal) : Type 0 where
-  pub low : get_or room.low l.variable 0 ≤ l.low
-  pub high : l.high ≤ get_or room.high l.variable 0
+pub record IsInside (space : Space) (l : Literal) : Type 0 where
+  pub low : get_or space.low l.variable 0 ≤ l.low
+  pub high : l.high ≤ get_or space.high l.variable 0
 
 -- each of some literals holds in the whole space and is inside it, and so many are on narrow variables at least
-pub record AreBounds (k : ℕ) (room : Space) (literals : List Literal) (found : ℕ) : Type 0 where
-  pub hold : (s : Scenario) → Lies room s → matches literals s ≡ true
-  pub inside : (l : Literal) → Contains literals l → IsInside room l
-  pub narrow : found ≤ sum_by (λ (l : Literal). narrowed k room l.variable) literals
+pub record AreSpaceBounds (k : ℕ) (space : Space) (literals : List Literal) (found : ℕ) : Type 0 where
+  pub hold : (s : Scenario) → IsInSpace space s → matches literals s ≡ true
+  pub inside : (l : Literal) → Contains literals l → IsInside space l
+  pub narrow : found ≤ sum_by (λ (l : Literal). narrowed k space l.variable) literals
 
 -- the scenarios of the space are those of at most k faults that match
-pub record IsOwn (k : ℕ) (room : Space) (literals : List Literal) : Type 0 where
-  pub hold : (s : Scenario) → HasFew k s → Lies room s → matches literals s ≡ true
-  pub come : (s : Scenario) → HasFew k s → matches literals s ≡ true → Lies room s
+pub record IsOwn (k : ℕ) (space : Space) (literals : List Literal) : Type 0 where
+  pub hold : (s : Scenario) → HasAtMostFaults k s → IsInSpace space s → matches literals s ≡ true
+  pub come : (s : Scenario) → HasAtMostFaults k s → matches literals s ≡ true → IsInSpace space s
 
 -- places by scenarios: a place has a cube that the scenario matches, and who matches a cube of the slice lies in the space and comes to its place
-pub record Leads (cubes : List (List Literal)) (k : ℕ) (room : Space) (from to : ℕ) (place : Scenario → Option ℕ) : Type 0 where
-  pub is : (s : Scenario) (i : ℕ) → HasFew k s → Lies room s → place s ≡ Some i → IsMatched cubes s i
-  pub lies : (s : Scenario) (j : ℕ) → HasFew k s → from ≤ j → j < to → IsMatched cubes s j → Lies room s
-  pub comes : (s : Scenario) (j : ℕ) → HasFew k s → from ≤ j → j < to → IsMatched cubes s j → place s ≡ Some j
+pub record FindsMatches (cubes : List (List Literal)) (k : ℕ) (space : Space) (from to : ℕ) (place : Scenario → Option ℕ) : Type 0 where
+  pub is : (s : Scenario) (i : ℕ) → HasAtMostFaults k s → IsInSpace space s → place s ≡ Some i → IsMatched cubes s i
+  pub lies : (s : Scenario) (j : ℕ) → HasAtMostFaults k s → from ≤ j → j < to → IsMatched cubes s j → IsInSpace space s
+  pub comes : (s : Scenario) (j : ℕ) → HasAtMostFaults k s → from ≤ j → j < to → IsMatched cubes s j → place s ≡ Some j
 
 -- a leaf leads to its place, and a fork is open on both sides
-abbrev pub IsLead : List (List Literal) → ℕ → Space → ℕ → ℕ → Lead → Type 0
-IsLead cubes k room from to (Leaf x) = Leads cubes k room from to (λ s. x)
-IsLead cubes k room from to (Fork p) = AreOpen room p.cut.variable p.cut.most
-IsLead cubes k room from to Unknown = Unit {0}
+abbrev pub IsSliceTop : List (List Literal) → ℕ → Space → ℕ → ℕ → SliceTop → Type 0
+IsSliceTop cubes k space from to (Leaf x) = FindsMatches cubes k space from to (λ s. x)
+IsSliceTop cubes k space from to (Fork p) = IsOpenCut space p.cut.variable p.cut.most
+IsSliceTop cubes k space from to Unknown = Unit {0}
 
 -- a tree that leads to the places of a slice is added, with no more items left than there were
-pub record IsLed (cubes : List (List Literal)) (k : ℕ) (room : Space) (from to : ℕ) (old new : TreeGrowth) : Type 0 where
-  pub leads : Adds (λ n. Leads cubes k room from to (value_at n)) old.items.items new.items.items
+pub record AddsSliceTree (cubes : List (List Literal)) (k : ℕ) (space : Space) (from to : ℕ) (old new : TreeGrowth) : Type 0 where
+  pub finds : AddsTree (λ n. FindsMatches cubes k space from to (value_at n)) old.items.items new.items.items
   pub fewer : new.left ≤ old.left
 
 -- what a fork says of its sides
-pub record AreSides (k v cut : ℕ) (sides : ForkSides) : Type 0 where
+pub record AreForkSides (k v cut : ℕ) (sides : ForkSides) : Type 0 where
   pub below : sides.below ≡ record { variable = v; low = 0; high = cut }
   pub above : sides.above ≡ record { variable = v; low = cut + 1; high = top k v }
 

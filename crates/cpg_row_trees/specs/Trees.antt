@@ -5,11 +5,11 @@ use Rattle.cpg_base.specs.Scenario.{Scenario, IsScenario}
 use Rattle.cpg_cube.specs.Column.{Column}
 use Rattle.cpg_table.specs.Table.{NodeTable, columns_of}
 use Rattle.cpg_row_trees.specs.PlacesState.{PlacesState}
-use Rattle.cpg_row_trees.specs.Places.{place_at, tells_cube}
+use Rattle.cpg_row_trees.specs.Places.{place_at, IsPlaceOfMatch}
 
 -- in each scenario of the graph the tree has the place of the one column that matches, and none if no column does
 pub record IsRowTree (g : Graph) (columns : List Column) (tree : PlacesState) : Type 0 where
-  pub told : (s : Scenario) → IsScenario g s → tells_cube (map (λ c. c.cube) columns) (place_at tree s) s
+  pub found : (s : Scenario) → IsScenario g s → IsPlaceOfMatch (map (λ c. c.cube) columns) (place_at tree s) s
 
 -- one for each of the first items; if there is a tree, it is that of the item's row
 pub record AreFirstTrees (g : Graph) (tables : List NodeTable) (items : ℕ) (trees : List (Option PlacesState)) : Type 0 where

@@ -2,7 +2,7 @@
 ghost use Rattle.std.specs.Prelude.{◌≡◌, ℕ, Option, Contains, IfOk};
 ghost use Rattle.std.specs.Bool.{OnTrue};
 ghost use Rattle.cpg_base.specs.Scenario.{Scenario};
-ghost use Rattle.cpg_tree.specs.Space.{Lies};
+ghost use Rattle.cpg_tree.specs.Space.{IsInSpace};
 ghost use Rattle.cpg_tree.specs.Decision.{value_at};
 ghost use Rattle.cpg_tree.specs.Flat.{IsFlat, flat};
 ghost use Rattle.cpg_tree.specs.TreeNode.{TreeNode};
@@ -34,8 +34,8 @@ fn gather_each<J: Test>(
 ) -> Result<bool, OutOfMemory>
     requires { IsFlat items.now }
     ensures kept { IfOk result (λ _. (i : ℕ) → Contains found.old.items i → Contains found.new.items i) }
-    ensures found { IfOk result (λ all. OnTrue all ((n : TreeNode (Option ℕ)) → items.now ≡ flat n → (s : Scenario) → Lies space.old s →
-        J.tells test.now (value_at n s) s × IsAmong found.new.items (value_at n s))) }
+    ensures found { IfOk result (λ all. OnTrue all ((n : TreeNode (Option ℕ)) → items.now ≡ flat n → (s : Scenario) → IsInSpace space.old s →
+        J.guarantees test.now (value_at n s) s × IsAmong found.new.items (value_at n s))) }
     ensures same { IfOk result (λ all. OnTrue all (space.new ≡ space.old)) }
 {
     match top_of(items) {
@@ -87,8 +87,8 @@ fn gather_in_all<J: Test>(
 ) -> Result<bool, OutOfMemory>
     requires { IsFlat items.now }
     ensures kept { IfOk result (λ _. (i : ℕ) → Contains found.old.items i → Contains found.new.items i) }
-    ensures found { IfOk result (λ all. OnTrue all ((n : TreeNode (Option ℕ)) → items.now ≡ flat n → (s : Scenario) → Lies space.now s →
-        J.tells test.now (value_at n s) s × IsAmong found.new.items (value_at n s))) }
+    ensures found { IfOk result (λ all. OnTrue all ((n : TreeNode (Option ℕ)) → items.now ≡ flat n → (s : Scenario) → IsInSpace space.now s →
+        J.guarantees test.now (value_at n s) s × IsAmong found.new.items (value_at n s))) }
 {
     let mut own = *space;
     let all = gather_each(items, &mut own, test, found)?;
@@ -103,7 +103,7 @@ fn gather_one<J: Test>(
     found: &mut Vec<u32>,
 ) -> Result<bool, OutOfMemory>
     ensures kept { IfOk result (λ _. (i : ℕ) → Contains found.old.items i → Contains found.new.items i) }
-    ensures found { IfOk result (λ all. OnTrue all ((s : Scenario) → Lies space.now s → J.tells test.now place s × IsAmong found.new.items place)) }
+    ensures found { IfOk result (λ all. OnTrue all ((s : Scenario) → IsInSpace space.now s → J.guarantees test.now place s × IsAmong found.new.items place)) }
 {
     if !test.passes(place, space) {
         return Ok(false);
@@ -122,8 +122,8 @@ pub(crate) fn gather<J: Test>(
 ) -> Result<bool, OutOfMemory>
     requires { IsFlat items.now }
     ensures kept { IfOk result (λ _. (i : ℕ) → Contains found.old.items i → Contains found.new.items i) }
-    ensures found { IfOk result (λ all. OnTrue all ((n : TreeNode (Option ℕ)) → items.now ≡ flat n → (s : Scenario) → Lies space.now s →
-        J.tells test.now (value_at n s) s × IsAmong found.new.items (value_at n s))) }
+    ensures found { IfOk result (λ all. OnTrue all ((n : TreeNode (Option ℕ)) → items.now ≡ flat n → (s : Scenario) → IsInSpace space.now s →
+        J.guarantees test.now (value_at n s) s × IsAmong found.new.items (value_at n s))) }
 {
     // mostly it comes to one place, and then the space isn't copied
     let part = part_in(items, space);

@@ -4,14 +4,14 @@ ghost use Rattle.std.specs.Bool.{OnFalse, OnTrue};
 ghost use Rattle.cpg_base.specs.Scenario.{Scenario, number_of};
 ghost use Rattle.cpg_base.specs.declared.limits.TheConstants.{MOST_LOAD};
 ghost use Rattle.cpg_cube.specs.Cube.{IsRising, matches};
-ghost use Rattle.cpg_tree.specs.Space.{Lies, HasFew};
+ghost use Rattle.cpg_tree.specs.Space.{IsInSpace, HasAtMostFaults};
 ghost use Rattle.cpg_tree.specs.Flat.{IsFlat, flat};
 ghost use Rattle.cpg_tree.specs.TreeNode.{Leaf};
-ghost use Rattle.cpg_row_trees.specs.Places.{IsAmong, IsMatched, place_at, tells_cube};
-ghost use Rattle.cpg_row_trees.specs.Spots.{IsSaid, IsSaidBy, IsTop, IsKept, IsSorted, KeepsWhere, AreOpen, places_of};
+ghost use Rattle.cpg_row_trees.specs.Places.{IsAmong, IsMatched, place_at, IsPlaceOfMatch};
+ghost use Rattle.cpg_row_trees.specs.PlaceHints.{IsVariableRange, IsImpliedBy, IsPlacesTop, KeepsPlace, AddsPlaceTree, KeepsWhere, IsOpenCut, places_of};
 
 use crate::gathering::gather;
-use crate::slices::led_out;
+use crate::slices::slice_tree;
 use crate::walk::{PairTest, Test, do_pass, do_pass_with};
 use cpg_base::{FIRST_VALUE, OutOfMemory};
 use cpg_cube::{Cube, Literal};
@@ -32,7 +32,7 @@ const AT_ONCE: usize = 32;
 
 /// A place, with what is known of its cube in the space where it stands: hints, that no clause speaks of.
 #[derive(Clone, Copy)]
-struct Spot {
+struct PlaceHint {
     place: u32,
     /// At least this many of the first literals hold in the whole space.
     held: u16,
@@ -61,7 +61,7 @@ struct CutSpan {
 
 /// What literals say of a variable: no number below `low`, and none above `high` but where that is the last of all.
 #[derive(Clone, Copy)]
-struct Said {
+struct VariableRange {
     low: u8,
     high: u8,
     /// Whether the first literal says it that isn't known to hold in the whole space.
@@ -80,8 +80,8 @@ enum PlacesTop {
 /// The places that go to each side of a fork.
 #[derive(Drop)]
 struct PlaceSides {
-    low: Vec<Spot>,
-    high: Vec<Spot>,
+    low: Vec<PlaceHint>,
+    high: Vec<PlaceHint>,
 }
 
 /// A list to which the items of trees are added, and how many more there may be.
@@ -125,7 +125,7 @@ impl TreeGrowth {
 
 /// The literal on a variable, if there is one from a place on.
 pub(crate) fn literal_from(literals: &[Literal], from: usize, variable: u8) -> Option<Literal>
-    ensures { IfSome result (IsSaidBy literals.now) }
+    ensures { IfSome result (IsImpliedBy literals.now) }
 {
     for at in from..literals.len() {
         if literals[at].variable == variable {
@@ -140,7 +140,7 @@ pub(crate) fn literal_from(literals: &[Literal], from: usize, variable: u8) -> O
 
 /// The literal on a variable, if there is one before a place.
 pub(crate) fn literal_up_to(literals: &[Literal], end: usize, variable: u8) -> Option<Literal>
-    ensures { IfSome result (IsSaidBy literals.now) }
+    ensures { IfSome result (IsImpliedBy literals.now) }
 {
     let count = end.min(literals.len());
     for later in 0..count {
@@ -157,7 +157,7 @@ pub(crate) fn literal_up_to(literals: &[Literal], end: usize, variable: u8) -> O
 
 /// The literal on a variable, if there is one from a place on or if it is on a value: these are the last.
 fn literal_on(literals: &[Literal], from: usize, variable: u8) -> Option<Literal>
-    ensures { IfSome result (IsSaidBy literals.now) }
+    ensures { IfSome result (IsImpliedBy literals.now) }
 {
     if variable < FIRST_VALUE {
         literal_from(literals, from, variable)
@@ -173,7 +173,7 @@ pub(crate) fn open_value(space: &Space, literals: &[Literal]) -> Option<Literal>
         if literal.variable < FIRST_VALUE {
             return None;
         }
-        if !space.tells(&literal) {
+        if !space.implies(&literal) {
             return Some(literal);
         }
     }
@@ -183,7 +183,7 @@ pub(crate) fn open_value(space: &Space, literals: &[Literal]) -> Option<Literal>
 /// How many of the first literals hold in the whole space, up to the first that doesn't. The first `held` are known to.
 fn held_on(space: &Space, literals: &[Literal], held: usize) -> usize {
     for at in held..literals.len() {
-        if !space.tells(&literals[at]) {
+        if !space.implies(&literals[at]) {
             return at;
         }
     }
@@ -203,7 +203,7 @@ fn open_literal(space: &Space, literals: &[Literal], held: u16) -> Option<Litera
 
 /// The literal at a place, if it is on this variable.
 fn literal_at(literals: &[Literal], place: usize, variable: u8) -> Option<Literal>
-    ensures said { IfSome result (IsSaidBy literals.now) }
+    ensures implied { IfSome result (IsImpliedBy literals.now) }
     ensures on { IfSome result (λ l. l.variable ≡ variable) }
 {
     if place >= literals.len() {
@@ -216,10 +216,10 @@ fn literal_at(literals: &[Literal], place: usize, variable: u8) -> Option<Litera
 }
 
 /// What a literal says of its variable.
-fn said_by(literal: Literal, is_first: bool) -> Said
+fn literal_range(literal: Literal, is_first: bool) -> VariableRange
     ensures { result ≡ record { low = literal.low; high = literal.high; is_first = is_first } }
 {
-    Said {
+    VariableRange {
         low: literal.low,
         high: literal.high,
         is_first,
@@ -227,19 +227,19 @@ fn said_by(literal: Literal, is_first: bool) -> Said
 }
 
 /// What literals say of a variable, but for the first `held`, which hold in the whole space.
-fn said_on(literals: &[Literal], held: usize, variable: u8) -> Said
-    ensures { IsSaid literals.now variable result }
+fn variable_range(literals: &[Literal], held: usize, variable: u8) -> VariableRange
+    ensures { IsVariableRange literals.now variable result }
 {
     // mostly the first of them
     if let Some(first) = literal_at(literals, held, variable) {
-        return said_by(first, true);
+        return literal_range(first, true);
     }
     if let Some(literal) = literal_on(literals, held, variable) {
         if literal.variable == variable {
-            return said_by(literal, false);
+            return literal_range(literal, false);
         }
     }
-    Said {
+    VariableRange {
         low: 0,
         high: u8::MAX,
         is_first: false,
@@ -259,8 +259,8 @@ fn held_at(space: &Space, literals: &[Literal], held: u16, variable: u8) -> u16 
 
 /// How many of the first literals hold if a variable is in this range. The first `held` are known to hold in the
 /// whole space.
-fn held_with(held: u16, said: Said, least: u8, greatest: u8) -> u16 {
-    if said.is_first && said.low <= least && greatest <= said.high {
+fn held_with(held: u16, range: VariableRange, least: u8, greatest: u8) -> u16 {
+    if range.is_first && range.low <= least && greatest <= range.high {
         held.saturating_add(1)
     } else {
         held
@@ -268,17 +268,22 @@ fn held_with(held: u16, said: Said, least: u8, greatest: u8) -> u16 {
 }
 
 /// Adds a place as it stands up to a cut, unless what is said of the variable is above it.
-fn keep_below(low: &mut Vec<Spot>, said: Said, spot: Spot, span: CutSpan) -> Result<(), OutOfMemory>
-    ensures { OnOk result (IsKept (λ s. (number_of s span.cut.variable ≤ span.cut.most) × (said.low ≤ number_of s span.cut.variable))
-        spot.place low.old.items low.new.items) }
+fn keep_below(
+    low: &mut Vec<PlaceHint>,
+    range: VariableRange,
+    hint: PlaceHint,
+    span: CutSpan,
+) -> Result<(), OutOfMemory>
+    ensures { OnOk result (KeepsPlace (λ s. (number_of s span.cut.variable ≤ span.cut.most) × (range.low ≤ number_of s span.cut.variable))
+        hint.place low.old.items low.new.items) }
 {
-    if said.low > span.cut.most {
+    if range.low > span.cut.most {
         return Ok(());
     }
-    low.push(Spot {
-        place: spot.place,
-        held: held_with(spot.held, said, span.least, span.cut.most),
-        spare: spot.spare,
+    low.push(PlaceHint {
+        place: hint.place,
+        held: held_with(hint.held, range, span.least, span.cut.most),
+        spare: hint.spare,
     })?;
     Ok(())
 }
@@ -287,20 +292,20 @@ fn keep_below(low: &mut Vec<Spot>, said: Said, spot: Spot, span: CutSpan) -> Res
 fn do_suffice_above(
     space: &mut Space,
     literals: &[Literal],
-    spot: Spot,
+    hint: PlaceHint,
     taken: u8,
     cut: PlaceCut,
 ) -> bool
     requires rising { IsRising literals.now }
-    requires open { AreOpen space.old cut.variable cut.most }
-    ensures none { OnFalse result ((s : Scenario) → Lies space.old s → cut.most < number_of s cut.variable → matches literals.now s ≡ false) }
+    requires open { IsOpenCut space.old cut.variable cut.most }
+    ensures none { OnFalse result ((s : Scenario) → IsInSpace space.old s → cut.most < number_of s cut.variable → matches literals.now s ≡ false) }
     ensures same { space.new ≡ space.old }
 {
-    if taken <= spot.spare {
+    if taken <= hint.spare {
         return true;
     }
     let was = space.close_below(cut.variable, cut.most);
-    let do_suffice = space.affords(literals, spot.held as usize);
+    let do_suffice = space.affords(literals, hint.held as usize);
     space.reopen_below(cut.variable, was);
     do_suffice
 }
@@ -308,65 +313,65 @@ fn do_suffice_above(
 /// Adds a place as it stands above a cut, unless what is said of the variable is up to the cut, or there are too few faults
 /// left. The space is as before.
 fn keep_above(
-    high: &mut Vec<Spot>,
+    high: &mut Vec<PlaceHint>,
     space: &mut Space,
     literals: &[Literal],
-    said: Said,
-    spot: Spot,
+    range: VariableRange,
+    hint: PlaceHint,
     span: CutSpan,
 ) -> Result<(), OutOfMemory>
     requires rising { IsRising literals.now }
-    requires said { IsSaid literals.now span.cut.variable said }
-    requires open { AreOpen space.old span.cut.variable span.cut.most }
-    ensures kept { OnOk result (IsKept (λ s. (Lies space.old s × (span.cut.most < number_of s span.cut.variable)) × (matches literals.now s ≡ true))
-        spot.place high.old.items high.new.items) }
+    requires range { IsVariableRange literals.now span.cut.variable range }
+    requires open { IsOpenCut space.old span.cut.variable span.cut.most }
+    ensures kept { OnOk result (KeepsPlace (λ s. (IsInSpace space.old s × (span.cut.most < number_of s span.cut.variable)) × (matches literals.now s ≡ true))
+        hint.place high.old.items high.new.items) }
     ensures same { space.new ≡ space.old }
 {
-    if said.high < span.cut.most.saturating_add(1) {
+    if range.high < span.cut.most.saturating_add(1) {
         return Ok(());
     }
     // the fork takes those faults that the literal doesn't ask for
-    let taken = span.faults.saturating_sub(said.low.max(span.least));
-    if !do_suffice_above(space, literals, spot, taken, span.cut) {
+    let taken = span.faults.saturating_sub(range.low.max(span.least));
+    if !do_suffice_above(space, literals, hint, taken, span.cut) {
         return Ok(());
     }
-    high.push(Spot {
-        place: spot.place,
-        held: held_with(spot.held, said, span.next, span.greatest),
-        spare: spot.spare.saturating_sub(taken),
+    high.push(PlaceHint {
+        place: hint.place,
+        held: held_with(hint.held, range, span.next, span.greatest),
+        spare: hint.spare.saturating_sub(taken),
     })?;
     Ok(())
 }
 
 /// Adds a place to the sides of a fork that have scenarios which match its cube. The space is as before.
 fn keep(
-    low: &mut Vec<Spot>,
-    high: &mut Vec<Spot>,
+    low: &mut Vec<PlaceHint>,
+    high: &mut Vec<PlaceHint>,
     space: &mut Space,
     cubes: &[&Cube],
-    spot: Spot,
+    hint: PlaceHint,
     span: CutSpan,
 ) -> Result<(), OutOfMemory>
-    requires { AreOpen space.old span.cut.variable span.cut.most }
-    ensures low { OnOk result (IsKept (λ s. (number_of s span.cut.variable ≤ span.cut.most) × IsMatched (map (λ b. b.now) cubes.now) s spot.place)
-        spot.place low.old.items low.new.items) }
-    ensures high { OnOk result (IsKept (λ s. (Lies space.old s × (span.cut.most < number_of s span.cut.variable)) ×
-        IsMatched (map (λ b. b.now) cubes.now) s spot.place) spot.place high.old.items high.new.items) }
+    requires { IsOpenCut space.old span.cut.variable span.cut.most }
+    ensures low { OnOk result (KeepsPlace (λ s. (number_of s span.cut.variable ≤ span.cut.most) × IsMatched (map (λ b. b.now) cubes.now) s hint.place)
+        hint.place low.old.items low.new.items) }
+    ensures high { OnOk result (KeepsPlace (λ s. (IsInSpace space.old s × (span.cut.most < number_of s span.cut.variable)) ×
+        IsMatched (map (λ b. b.now) cubes.now) s hint.place) hint.place high.old.items high.new.items) }
     ensures same { OnOk result (space.new ≡ space.old) }
 {
-    let Some(cube) = cubes.get(spot.place as usize) else {
+    let Some(cube) = cubes.get(hint.place as usize) else {
         return Ok(());
     };
     let literals = cube.literals();
-    let held = held_at(space, literals, spot.held, span.cut.variable);
-    let said = said_on(literals, held as usize, span.cut.variable);
-    let here = Spot {
-        place: spot.place,
+    let held = held_at(space, literals, hint.held, span.cut.variable);
+    let range = variable_range(literals, held as usize, span.cut.variable);
+    let here = PlaceHint {
+        place: hint.place,
         held,
-        spare: spot.spare,
+        spare: hint.spare,
     };
-    keep_below(low, said, here, span)?;
-    keep_above(high, space, literals, said, here, span)?;
+    keep_below(low, range, here, span)?;
+    keep_above(high, space, literals, range, here, span)?;
     Ok(())
 }
 
@@ -389,28 +394,28 @@ fn parted(
     alloc: Global,
     space: &mut Space,
     cubes: &[&Cube],
-    spots: &[Spot],
+    hints: &[PlaceHint],
     span: CutSpan,
 ) -> Result<PlaceSides, OutOfMemory>
-    requires { AreOpen space.old span.cut.variable span.cut.most }
+    requires { IsOpenCut space.old span.cut.variable span.cut.most }
     ensures low { IfOk result (λ r. KeepsWhere (map (λ b. b.now) cubes.now) (λ s. number_of s span.cut.variable ≤ span.cut.most)
-        (places_of spots.now) (places_of r.low.items)) }
-    ensures high { IfOk result (λ r. KeepsWhere (map (λ b. b.now) cubes.now) (λ s. Lies space.old s × (span.cut.most < number_of s span.cut.variable))
-        (places_of spots.now) (places_of r.high.items)) }
+        (places_of hints.now) (places_of r.low.items)) }
+    ensures high { IfOk result (λ r. KeepsWhere (map (λ b. b.now) cubes.now) (λ s. IsInSpace space.old s × (span.cut.most < number_of s span.cut.variable))
+        (places_of hints.now) (places_of r.high.items)) }
     ensures same { IfOk result (λ _. space.new ≡ space.old) }
 {
-    let count = spots.len().min(AT_ONCE);
+    let count = hints.len().min(AT_ONCE);
     let mut low = Vec::with_capacity(alloc, count)?;
     let mut high = Vec::with_capacity(alloc, count)?;
-    for spot in spots {
-        keep(&mut low, &mut high, space, cubes, *spot, span)?;
+    for hint in hints {
+        keep(&mut low, &mut high, space, cubes, *hint, span)?;
     }
     Ok(PlaceSides { low, high })
 }
 
 /// A cut that has numbers of the space on both sides.
 fn open_cut(space: &Space, variable: u8, most: u8) -> Option<PlaceCut>
-    ensures { IfSome result (λ r. AreOpen space.now r.variable r.most) }
+    ensures { IfSome result (λ r. IsOpenCut space.now r.variable r.most) }
 {
     if !space.is_open_below(variable, most) {
         return None;
@@ -424,7 +429,7 @@ fn open_cut(space: &Space, variable: u8, most: u8) -> Option<PlaceCut>
 /// The cut at which a literal parts a space, if it does: just below its low, or at its high if the space leaves
 /// nothing below its low.
 pub(crate) fn cut_of(space: &Space, literal: Literal) -> Option<PlaceCut>
-    ensures { IfSome result (λ r. AreOpen space.now r.variable r.most) }
+    ensures { IfSome result (λ r. IsOpenCut space.now r.variable r.most) }
 {
     let most = if literal.low > space.least(literal.variable) {
         literal.low - 1
@@ -436,10 +441,10 @@ pub(crate) fn cut_of(space: &Space, literal: Literal) -> Option<PlaceCut>
 
 /// Whether literals hold in the whole space.
 fn do_hold(space: &Space, literals: &[Literal]) -> bool
-    ensures { OnTrue result ((s : Scenario) → Lies space.now s → matches literals.now s ≡ true) }
+    ensures { OnTrue result ((s : Scenario) → IsInSpace space.now s → matches literals.now s ≡ true) }
 {
     for literal in literals {
-        if !space.tells(literal) {
+        if !space.implies(literal) {
             return false;
         }
     }
@@ -447,43 +452,48 @@ fn do_hold(space: &Space, literals: &[Literal]) -> bool
 }
 
 /// The literals of a place's cube from the first on that doesn't hold in the whole space.
-fn open_literals<'a>(space: &Space, cubes: &[&'a Cube], spot: Spot) -> &'a [Literal] {
-    let Some(cube) = cubes.get(spot.place as usize) else {
+fn open_literals<'a>(space: &Space, cubes: &[&'a Cube], hint: PlaceHint) -> &'a [Literal] {
+    let Some(cube) = cubes.get(hint.place as usize) else {
         return &[];
     };
     let literals = cube.literals();
     let from = literals
         .len()
-        .min(held_on(space, literals, spot.held as usize));
+        .min(held_on(space, literals, hint.held as usize));
     &literals[from..]
 }
 
 /// Counts the open literals of some places.
-fn count_all(space: &Space, cubes: &[&Cube], spots: &[Spot], tally: &mut Tally) {
-    for spot in spots {
-        tally.add(open_literals(space, cubes, *spot));
+fn count_all(space: &Space, cubes: &[&Cube], hints: &[PlaceHint], tally: &mut Tally) {
+    for hint in hints {
+        tally.add(open_literals(space, cubes, *hint));
     }
 }
 
 /// Takes these counts away.
-fn clear_all(space: &Space, cubes: &[&Cube], spots: &[Spot], tally: &mut Tally) {
-    for spot in spots {
-        tally.clear(open_literals(space, cubes, *spot));
+fn clear_all(space: &Space, cubes: &[&Cube], hints: &[PlaceHint], tally: &mut Tally) {
+    for hint in hints {
+        tally.clear(open_literals(space, cubes, *hint));
     }
 }
 
 /// The cut that parts some places best, by a tally that has tables.
-fn best_cut(space: &Space, cubes: &[&Cube], spots: &[Spot], tally: &mut Tally) -> Option<PlaceCut>
-    ensures { IfSome result (λ r. AreOpen space.now r.variable r.most) }
+fn best_cut(
+    space: &Space,
+    cubes: &[&Cube],
+    hints: &[PlaceHint],
+    tally: &mut Tally,
+) -> Option<PlaceCut>
+    ensures { IfSome result (λ r. IsOpenCut space.now r.variable r.most) }
 {
     if !tally.is_kept() {
         return None;
     }
-    let first = *spots.first()?;
-    let count = u32::try_from(spots.len()).ok()?;
-    count_all(space, cubes, spots, tally);
+    let first = *hints.first()?;
+    let count = u32::try_from(hints.len()).ok()?;
+    count_all(space, cubes, hints, tally);
     let found = tally.best_by(open_literals(space, cubes, first), count);
-    clear_all(space, cubes, spots, tally);
+    clear_all(space, cubes, hints, tally);
     let parting = found?;
     open_cut(space, parting.variable, parting.most)
 }
@@ -492,14 +502,14 @@ fn best_cut(space: &Space, cubes: &[&Cube], spots: &[Spot], tally: &mut Tally) -
 fn fork_at(
     space: &Space,
     cubes: &[&Cube],
-    spots: &[Spot],
+    hints: &[PlaceHint],
     literal: Literal,
     tally: &mut Tally,
 ) -> Option<PlaceCut>
-    ensures { IfSome result (λ r. AreOpen space.now r.variable r.most) }
+    ensures { IfSome result (λ r. IsOpenCut space.now r.variable r.most) }
 {
-    if spots.len() > 1 {
-        let best = best_cut(space, cubes, spots, tally);
+    if hints.len() > 1 {
+        let best = best_cut(space, cubes, hints, tally);
         if best.is_some() {
             return best;
         }
@@ -508,10 +518,10 @@ fn fork_at(
 }
 
 /// The top of the tree of some places for the scenarios of a space.
-fn top_of(space: &Space, cubes: &[&Cube], spots: &[Spot], tally: &mut Tally) -> PlacesTop
-    ensures { IsTop (map (λ b. b.now) cubes.now) space.now (places_of spots.now) result }
+fn places_top(space: &Space, cubes: &[&Cube], hints: &[PlaceHint], tally: &mut Tally) -> PlacesTop
+    ensures { IsPlacesTop (map (λ b. b.now) cubes.now) space.now (places_of hints.now) result }
 {
-    let Some((first, rest)) = spots.split_first() else {
+    let Some((first, rest)) = hints.split_first() else {
         return PlacesTop::Leaf(None);
     };
     let Some(cube) = cubes.get(first.place as usize) else {
@@ -519,7 +529,7 @@ fn top_of(space: &Space, cubes: &[&Cube], spots: &[Spot], tally: &mut Tally) -> 
     };
     let literals = cube.literals();
     if let Some(literal) = open_literal(space, literals, first.held) {
-        return match fork_at(space, cubes, spots, literal, tally) {
+        return match fork_at(space, cubes, hints, literal, tally) {
             Some(cut) => PlacesTop::Fork(cut),
             None => PlacesTop::Unknown,
         };
@@ -543,35 +553,35 @@ fn left_after(left: u32, count: usize, sides: &PlaceSides) -> u32
 }
 
 /// Adds the tree of places that a fork parts. The space is as before if there is a tree.
-#[cycle(sorted)]
-fn forked(
+#[cycle(build_place_tree)]
+fn build_forked_places(
     alloc: Global,
     space: &mut Space,
     cubes: &[&Cube],
-    spots: Vec<Spot>,
+    hints: Vec<PlaceHint>,
     cut: PlaceCut,
     growth: &mut TreeGrowth,
     tally: &mut Tally,
 ) -> Result<bool, OutOfMemory>
-    requires { AreOpen space.old cut.variable cut.most }
-    ensures sorted { IfOk result (λ is. OnTrue is (IsSorted (map (λ b. b.now) cubes.now) space.old (places_of spots.items) growth.old growth.new)) }
+    requires { IsOpenCut space.old cut.variable cut.most }
+    ensures added { IfOk result (λ is. OnTrue is (AddsPlaceTree (map (λ b. b.now) cubes.now) space.old (places_of hints.items) growth.old growth.new)) }
     ensures same { IfOk result (λ is. OnTrue is (space.new ≡ space.old)) }
 {
-    let count = spots.len();
+    let count = hints.len();
     let span = span_of(space, cut);
-    let sides = parted(alloc, space, cubes, spots.as_slice(), span)?;
-    drop(spots);
+    let sides = parted(alloc, space, cubes, hints.as_slice(), span)?;
+    drop(hints);
     growth.left = left_after(growth.left, count, &sides);
     let start = growth.items.len();
     let most = space.close_above(cut.variable, cut.most);
-    let has_below = sorted_out(alloc, space, cubes, sides.low, growth, tally)?;
+    let has_below = build_place_tree(alloc, space, cubes, sides.low, growth, tally)?;
     if !has_below {
         return Ok(false);
     }
     space.reopen_above(cut.variable, most);
     let middle = growth.items.len();
     let was = space.close_below(cut.variable, cut.most);
-    let has_above = sorted_out(alloc, space, cubes, sides.high, growth, tally)?;
+    let has_above = build_place_tree(alloc, space, cubes, sides.high, growth, tally)?;
     if !has_above {
         return Ok(false);
     }
@@ -582,28 +592,28 @@ fn forked(
 
 /// Adds the tree of these places for the scenarios of a space, unless there would be too many items; false if there is none:
 /// then two cubes may match together, or there would be more items. The space is as before if there is a tree.
-#[cycle(sorted)]
-fn sorted_out(
+#[cycle(build_place_tree)]
+fn build_place_tree(
     alloc: Global,
     space: &mut Space,
     cubes: &[&Cube],
-    spots: Vec<Spot>,
+    hints: Vec<PlaceHint>,
     growth: &mut TreeGrowth,
     tally: &mut Tally,
 ) -> Result<bool, OutOfMemory>
-    ensures sorted { IfOk result (λ is. OnTrue is (IsSorted (map (λ b. b.now) cubes.now) space.old (places_of spots.items) growth.old growth.new)) }
+    ensures added { IfOk result (λ is. OnTrue is (AddsPlaceTree (map (λ b. b.now) cubes.now) space.old (places_of hints.items) growth.old growth.new)) }
     ensures same { IfOk result (λ is. OnTrue is (space.new ≡ space.old)) }
 {
     if !growth.may_grow() {
         return Ok(false);
     }
-    match top_of(space, cubes, spots.as_slice(), tally) {
+    match places_top(space, cubes, hints.as_slice(), tally) {
         PlacesTop::Unknown => Ok(false),
         PlacesTop::Leaf(place) => {
             growth.add_leaf(place)?;
             Ok(true)
         }
-        PlacesTop::Fork(cut) => forked(alloc, space, cubes, spots, cut, growth, tally),
+        PlacesTop::Fork(cut) => build_forked_places(alloc, space, cubes, hints, cut, growth, tally),
     }
 }
 
@@ -621,13 +631,13 @@ fn faults_asked(literals: &[Literal]) -> u8 {
 
 /// Adds a place, unless there are too few faults for its cube in the space of all scenarios of at most `k`.
 fn admit(
-    spots: &mut Vec<Spot>,
+    hints: &mut Vec<PlaceHint>,
     k: u8,
     space: &Space,
     cubes: &[&Cube],
     place: u32,
 ) -> Result<(), OutOfMemory>
-    ensures { OnOk result (IsKept (λ s. Lies space.now s × IsMatched (map (λ b. b.now) cubes.now) s place) place spots.old.items spots.new.items) }
+    ensures { OnOk result (KeepsPlace (λ s. IsInSpace space.now s × IsMatched (map (λ b. b.now) cubes.now) s place) place hints.old.items hints.new.items) }
 {
     let Some(cube) = cubes.get(place as usize) else {
         return Ok(());
@@ -639,7 +649,7 @@ fn admit(
             return Ok(());
         }
     }
-    spots.push(Spot {
+    hints.push(PlaceHint {
         place,
         held: 0,
         spare: k.saturating_sub(asked),
@@ -648,20 +658,25 @@ fn admit(
 }
 
 /// The places whose cubes some scenario of the space of all scenarios of at most `k` faults may match.
-fn spots_of(alloc: Global, k: u8, space: &Space, cubes: &[&Cube]) -> Result<Vec<Spot>, OutOfMemory>
+fn hints_of(
+    alloc: Global,
+    k: u8,
+    space: &Space,
+    cubes: &[&Cube],
+) -> Result<Vec<PlaceHint>, OutOfMemory>
     requires { length cubes.now ≤ MOST_LOAD }
-    ensures { IfOk result (λ r. (s : Scenario) (i : ℕ) → Lies space.now s → IsMatched (map (λ b. b.now) cubes.now) s i → Contains (places_of r.items) i) }
+    ensures { IfOk result (λ r. (s : Scenario) (i : ℕ) → IsInSpace space.now s → IsMatched (map (λ b. b.now) cubes.now) s i → Contains (places_of r.items) i) }
 {
-    let mut spots = Vec::with_capacity(alloc, cubes.len())?;
+    let mut hints = Vec::with_capacity(alloc, cubes.len())?;
     for place in 0..cubes.len() as u32 {
-        admit(&mut spots, k, space, cubes, place)?;
+        admit(&mut hints, k, space, cubes, place)?;
     }
-    Ok(spots)
+    Ok(hints)
 }
 
 /// The tree of places of cubes in any order, in the scenarios of at most `k` faults and with at most so many items, by forks
 /// that a tally chooses.
-fn all_sorted_by(
+fn place_tree_by(
     alloc: Global,
     k: u8,
     cubes: &[&Cube],
@@ -669,35 +684,35 @@ fn all_sorted_by(
     tally: &mut Tally,
 ) -> Result<Option<Places>, OutOfMemory>
     requires { length cubes.now ≤ MOST_LOAD }
-    ensures { IfOk result (λ r. IfSome r (λ t. (s : Scenario) → HasFew k s → tells_cube (map (λ b. b.now) cubes.now) (place_at t s) s)) }
+    ensures { IfOk result (λ r. IfSome r (λ t. (s : Scenario) → HasAtMostFaults k s → IsPlaceOfMatch (map (λ b. b.now) cubes.now) (place_at t s) s)) }
 {
     let mut space = Space::whole(k);
-    let spots = spots_of(alloc, k, &space, cubes)?;
+    let hints = hints_of(alloc, k, &space, cubes)?;
     let mut growth = TreeGrowth::new(alloc, cubes.len(), items)?;
-    let has_tree = sorted_out(alloc, &mut space, cubes, spots, &mut growth, tally)?;
+    let has_tree = build_place_tree(alloc, &mut space, cubes, hints, &mut growth, tally)?;
     if !has_tree {
         return Ok(None);
     }
     Ok(Some(Places::grown(growth)))
 }
 
-/// As `all_sorted_by`, by forks at the first literal that is open, or, if that leads to no tree, by those that part
+/// As `place_tree_by`, by forks at the first literal that is open, or, if that leads to no tree, by those that part
 /// the cubes best. The first is mostly a way, and takes less time.
-fn all_sorted_out(
+fn place_tree(
     alloc: Global,
     k: u8,
     cubes: &[&Cube],
     items: u32,
 ) -> Result<Option<Places>, OutOfMemory>
     requires { length cubes.now ≤ MOST_LOAD }
-    ensures { IfOk result (λ r. IfSome r (λ t. (s : Scenario) → HasFew k s → tells_cube (map (λ b. b.now) cubes.now) (place_at t s) s)) }
+    ensures { IfOk result (λ r. IfSome r (λ t. (s : Scenario) → HasAtMostFaults k s → IsPlaceOfMatch (map (λ b. b.now) cubes.now) (place_at t s) s)) }
 {
     let mut tally = Tally::new(alloc);
-    if let Some(places) = all_sorted_by(alloc, k, cubes, items, &mut tally)? {
+    if let Some(places) = place_tree_by(alloc, k, cubes, items, &mut tally)? {
         return Ok(Some(places));
     }
     tally.keep(alloc)?;
-    let places = all_sorted_by(alloc, k, cubes, items, &mut tally)?;
+    let places = place_tree_by(alloc, k, cubes, items, &mut tally)?;
     Ok(places)
 }
 
@@ -733,28 +748,28 @@ impl Places {
     /// tree would be too large.
     pub fn of(alloc: Global, k: u8, cubes: &[&Cube]) -> Result<Option<Places>, OutOfMemory>
         requires { length cubes.now ≤ MOST_LOAD }
-        ensures { IfOk result (λ r. IfSome r (λ t. (s : Scenario) → HasFew k s → tells_cube (map (λ b. b.now) cubes.now) (place_at t s) s)) }
+        ensures { IfOk result (λ r. IfSome r (λ t. (s : Scenario) → HasAtMostFaults k s → IsPlaceOfMatch (map (λ b. b.now) cubes.now) (place_at t s) s)) }
     {
         let items = cubes.len() as u32 * EACH + FEW;
         // rows mostly stand as a tree lists them, and then this is faster
-        if let Some(places) = led_out(alloc, k, cubes, items)? {
+        if let Some(places) = slice_tree(alloc, k, cubes, items)? {
             return Ok(Some(places));
         }
         let items = cubes.len() as u32 * EACH_SHARED + FEW_SHARED;
-        let places = all_sorted_out(alloc, k, cubes, items)?;
+        let places = place_tree(alloc, k, cubes, items)?;
         Ok(places)
     }
 
     /// Whether a test passes at each place that scenarios of a space come to.
     pub fn do_pass<J: Test>(&self, space: &Space, test: &J) -> bool
-        ensures { OnTrue result ((s : Scenario) → Lies space.now s → J.tells test.now (place_at self.now s) s) }
+        ensures { OnTrue result ((s : Scenario) → IsInSpace space.now s → J.guarantees test.now (place_at self.now s) s) }
     {
         do_pass(self.items.as_slice(), space, test)
     }
 
     /// Whether a test passes at each two places that scenarios of a space come to here and in another tree.
     pub fn do_pass_with<J: PairTest>(&self, other: &Places, space: &Space, test: &J) -> bool
-        ensures { OnTrue result ((s : Scenario) → Lies space.now s → J.tells test.now (place_at self.now s) (place_at other.now s) s) }
+        ensures { OnTrue result ((s : Scenario) → IsInSpace space.now s → J.guarantees test.now (place_at self.now s) (place_at other.now s) s) }
     {
         do_pass_with(self.items.as_slice(), other.items.as_slice(), space, test)
     }
@@ -767,7 +782,7 @@ impl Places {
         test: &J,
         found: &mut Vec<u32>,
     ) -> Result<bool, OutOfMemory>
-        ensures { IfOk result (λ all. OnTrue all ((s : Scenario) → Lies space.now s → J.tells test.now (place_at self.now s) s ×
+        ensures { IfOk result (λ all. OnTrue all ((s : Scenario) → IsInSpace space.now s → J.guarantees test.now (place_at self.now s) s ×
             IsAmong found.new.items (place_at self.now s))) }
     {
         let all = gather(self.items.as_slice(), space, test, found)?;

@@ -5,10 +5,10 @@ ghost use Rattle.std.specs.Bool.{OnTrue};
 ghost use Rattle.cpg_base.specs.Scenario.{Scenario};
 ghost use Rattle.cpg_base.specs.declared.limits.TheConstants.{MOST_LOAD};
 ghost use Rattle.cpg_cube.specs.Cube.{IsRising, holds};
-ghost use Rattle.cpg_tree.specs.Space.{Lies, HasFew, is_open_above};
-ghost use Rattle.cpg_row_trees.specs.Places.{place_at, tells_cube};
-ghost use Rattle.cpg_row_trees.specs.Spots.{AreOpen};
-ghost use Rattle.cpg_row_trees.specs.Slices.{IsReached, IsLead, IsLed, IsInside, IsLastOn, IsEntered, IsOwn, AreBounds, AreSides, is_narrow, left_by, met_by, narrowed};
+ghost use Rattle.cpg_tree.specs.Space.{IsInSpace, HasAtMostFaults, is_open_above};
+ghost use Rattle.cpg_row_trees.specs.Places.{place_at, IsPlaceOfMatch};
+ghost use Rattle.cpg_row_trees.specs.PlaceHints.{IsOpenCut};
+ghost use Rattle.cpg_row_trees.specs.Slices.{IsForkSpace, IsSliceTop, AddsSliceTree, IsInside, IsLastOn, IsEntered, IsOwn, AreSpaceBounds, AreForkSides, is_narrow, left_by, met_by, narrowed};
 
 use crate::places::{
     PlaceCut, Places, TreeGrowth, cut_of, literal_from, literal_up_to, open_value,
@@ -54,7 +54,7 @@ struct ForkSides {
 
 /// What stands at the top of the tree of a slice.
 #[derive(Clone, Copy)]
-enum Lead {
+enum SliceTop {
     Leaf(Option<u32>),
     Fork(SlicePart),
     /// The cubes don't stand as a tree lists them.
@@ -83,7 +83,7 @@ fn is_inside(space: &Space, literal: &Literal) -> bool
 
 /// Whether all numbers in range are a literal's.
 fn is_filled(space: &Space, literal: &Literal) -> bool
-    ensures { OnTrue result ((s : Scenario) → Lies space.now s → holds s literal.now ≡ true) }
+    ensures { OnTrue result ((s : Scenario) → IsInSpace space.now s → holds s literal.now ≡ true) }
 {
     if space.low[literal.variable as usize] < literal.low {
         return false;
@@ -93,7 +93,7 @@ fn is_filled(space: &Space, literal: &Literal) -> bool
 
 /// Whether a literal holds in the whole space and doesn't go beyond it.
 fn is_bound(space: &Space, literal: &Literal) -> bool
-    ensures hold { OnTrue result ((s : Scenario) → Lies space.now s → holds s literal.now ≡ true) }
+    ensures hold { OnTrue result ((s : Scenario) → IsInSpace space.now s → holds s literal.now ≡ true) }
     ensures inside { OnTrue result (IsInside space.now literal.now) }
 {
     if !is_inside(space, literal) {
@@ -103,7 +103,7 @@ fn is_bound(space: &Space, literal: &Literal) -> bool
     if is_filled(space, literal) {
         return true;
     }
-    space.tells(literal)
+    space.implies(literal)
 }
 
 /// 1 for a variable that is narrow.
@@ -122,7 +122,7 @@ fn narrow_with(k: u8, space: &Space, variable: u8, narrow: u32) -> Option<u32>
 
 /// How many of the literals are on narrow variables, if each of them holds in the whole space and none goes beyond it.
 fn bounds_of(k: u8, space: &Space, literals: &[Literal]) -> Option<u32>
-    ensures { IfSome result (AreBounds k space.now literals.now) }
+    ensures { IfSome result (AreSpaceBounds k space.now literals.now) }
 {
     let mut found: u32 = 0;
     for literal in literals {
@@ -137,7 +137,7 @@ fn bounds_of(k: u8, space: &Space, literals: &[Literal]) -> Option<u32>
 /// Whether the scenarios of a space are those of at most `k` faults that literals match.
 fn is_their_own(k: u8, space: &Space, narrow: u32, literals: &[Literal]) -> bool
     requires rising { IsRising literals.now }
-    requires reached { IsReached k space.now narrow }
+    requires reached { IsForkSpace k space.now narrow }
     ensures { OnTrue result (IsOwn k space.now literals.now) }
 {
     match bounds_of(k, space, literals) {
@@ -149,7 +149,7 @@ fn is_their_own(k: u8, space: &Space, narrow: u32, literals: &[Literal]) -> bool
 /// What a fork says of its sides; and how long the lists of a space are, which is known where they are read.
 fn sides_of(k: u8, space: &Space, cut: PlaceCut) -> ForkSides
     requires { is_open_above space.now cut.variable cut.most ≡ true }
-    ensures sides { AreSides k cut.variable cut.most result }
+    ensures sides { AreForkSides k cut.variable cut.most result }
     ensures lows { length space.now.low ≡ 256 }
     ensures highs { length space.now.high ≡ 256 }
 {
@@ -279,10 +279,10 @@ fn are_same(literals: &[Literal], others: &[Literal]) -> bool
 
 /// The first literal from a place on that doesn't hold in the whole space, as a part of it.
 fn part_from(space: &Space, literals: &[Literal], from: usize) -> Option<SlicePart>
-    ensures { IfSome result (λ r. AreOpen space.now r.cut.variable r.cut.most) }
+    ensures { IfSome result (λ r. IsOpenCut space.now r.cut.variable r.cut.most) }
 {
     for at in from..literals.len() {
-        if !space.tells(&literals[at]) {
+        if !space.implies(&literals[at]) {
             let cut = cut_of(space, literals[at])?;
             return Some(SlicePart { cut, held: at });
         }
@@ -326,7 +326,7 @@ fn part_by_ends(
     last: &[Literal],
     held: usize,
 ) -> Option<SlicePart>
-    ensures { IfSome result (λ r. AreOpen space.now r.cut.variable r.cut.most) }
+    ensures { IfSome result (λ r. IsOpenCut space.now r.cut.variable r.cut.most) }
 {
     let mut at = held;
     if at >= first.len() || !asks_more(last, at, first[at]) {
@@ -343,7 +343,7 @@ fn part_apart(
     literals: &[Literal],
     slice: Slice,
 ) -> Option<SlicePart>
-    ensures { IfSome result (λ r. AreOpen space.now r.cut.variable r.cut.most) }
+    ensures { IfSome result (λ r. IsOpenCut space.now r.cut.variable r.cut.most) }
 {
     match slice.way {
         GuessedWay::ByNumber => None,
@@ -356,7 +356,7 @@ fn part_apart(
 
 /// Where a slice parts a space: by a value of its first cube if one doesn't hold in the whole space, or else by a count.
 fn part_of(space: &Space, cubes: &[&Cube], literals: &[Literal], slice: Slice) -> Option<SlicePart>
-    ensures { IfSome result (λ r. AreOpen space.now r.cut.variable r.cut.most) }
+    ensures { IfSome result (λ r. IsOpenCut space.now r.cut.variable r.cut.most) }
 {
     if let Some(value) = open_value(space, literals) {
         let cut = cut_of(space, value)?;
@@ -376,30 +376,30 @@ fn part_of(space: &Space, cubes: &[&Cube], literals: &[Literal], slice: Slice) -
 }
 
 /// The top of the tree of a slice for the scenarios of a space, which are those that the literals of a path match.
-fn lead_of(k: u8, space: &Space, path: &[Literal], cubes: &[&Cube], slice: Slice) -> Lead
-    requires reached { IsReached k space.now slice.narrow }
+fn slice_top(k: u8, space: &Space, path: &[Literal], cubes: &[&Cube], slice: Slice) -> SliceTop
+    requires reached { IsForkSpace k space.now slice.narrow }
     requires own { IsOwn k space.now path.now }
-    ensures { IsLead (map (λ b. b.now) cubes.now) k space.now slice.from slice.to result }
+    ensures { IsSliceTop (map (λ b. b.now) cubes.now) k space.now slice.from slice.to result }
 {
     if slice.to <= slice.from {
-        return Lead::Leaf(None);
+        return SliceTop::Leaf(None);
     }
     let Some(cube) = cubes.get(slice.from as usize) else {
-        return Lead::Unknown;
+        return SliceTop::Unknown;
     };
     let literals = cube.literals();
     if slice.to - slice.from == 1 {
         // mostly so if the cubes stand by the numbers of the variables
         if are_same(path, literals) {
-            return Lead::Leaf(Some(slice.from));
+            return SliceTop::Leaf(Some(slice.from));
         }
         if is_their_own(k, space, slice.narrow, literals) {
-            return Lead::Leaf(Some(slice.from));
+            return SliceTop::Leaf(Some(slice.from));
         }
     }
     match part_of(space, cubes, literals, slice) {
-        Some(part) => Lead::Fork(part),
-        None => Lead::Unknown,
+        Some(part) => SliceTop::Fork(part),
+        None => SliceTop::Unknown,
     }
 }
 
@@ -446,8 +446,8 @@ fn border_of(cubes: &[&Cube], slice: Slice, part: SlicePart) -> u32 {
 }
 
 /// Adds the tree of a slice that a fork parts. The space and the path are as before if there is a tree.
-#[cycle(led)]
-fn led_apart(
+#[cycle(build_slice_tree)]
+fn build_forked_slice(
     k: u8,
     space: &mut Space,
     path: &mut Vec<Literal>,
@@ -456,10 +456,10 @@ fn led_apart(
     part: SlicePart,
     growth: &mut TreeGrowth,
 ) -> Result<bool, OutOfMemory>
-    requires open { AreOpen space.old part.cut.variable part.cut.most }
-    requires reached { IsReached k space.old slice.narrow }
+    requires open { IsOpenCut space.old part.cut.variable part.cut.most }
+    requires reached { IsForkSpace k space.old slice.narrow }
     requires own { IsOwn k space.old path.old.items }
-    ensures led { IfOk result (λ is. OnTrue is (IsLed (map (λ b. b.now) cubes.now) k space.old slice.from slice.to growth.old growth.new)) }
+    ensures added { IfOk result (λ is. OnTrue is (AddsSliceTree (map (λ b. b.now) cubes.now) k space.old slice.from slice.to growth.old growth.new)) }
     ensures same { IfOk result (λ is. OnTrue is (space.new ≡ space.old)) }
     ensures path { IfOk result (λ is. OnTrue is (path.new.items ≡ path.old.items)) }
 {
@@ -486,7 +486,7 @@ fn led_apart(
     let start = growth.items.len();
     let most = space.close_above(cut.variable, cut.most);
     let under = enter(path, sides.below)?;
-    let has_below = led(k, space, path, cubes, low, growth)?;
+    let has_below = build_slice_tree(k, space, path, cubes, low, growth)?;
     if !has_below {
         return Ok(false);
     }
@@ -495,7 +495,7 @@ fn led_apart(
     let middle = growth.items.len();
     let was = space.close_below(cut.variable, cut.most);
     let over = enter(path, sides.above)?;
-    let has_above = led(k, space, path, cubes, high, growth)?;
+    let has_above = build_slice_tree(k, space, path, cubes, high, growth)?;
     if !has_above {
         return Ok(false);
     }
@@ -508,8 +508,8 @@ fn led_apart(
 /// Adds the tree of a slice for the scenarios of a space, which are those that the literals of a path match, unless there would be
 /// too many items; false if there is none: then the cubes don't stand as a tree lists them, or there would be more items. The
 /// space and the path are as before if there is a tree.
-#[cycle(led)]
-fn led(
+#[cycle(build_slice_tree)]
+fn build_slice_tree(
     k: u8,
     space: &mut Space,
     path: &mut Vec<Literal>,
@@ -517,28 +517,28 @@ fn led(
     slice: Slice,
     growth: &mut TreeGrowth,
 ) -> Result<bool, OutOfMemory>
-    requires reached { IsReached k space.old slice.narrow }
+    requires reached { IsForkSpace k space.old slice.narrow }
     requires own { IsOwn k space.old path.old.items }
-    ensures led { IfOk result (λ is. OnTrue is (IsLed (map (λ b. b.now) cubes.now) k space.old slice.from slice.to growth.old growth.new)) }
+    ensures added { IfOk result (λ is. OnTrue is (AddsSliceTree (map (λ b. b.now) cubes.now) k space.old slice.from slice.to growth.old growth.new)) }
     ensures same { IfOk result (λ is. OnTrue is (space.new ≡ space.old)) }
     ensures path { IfOk result (λ is. OnTrue is (path.new.items ≡ path.old.items)) }
 {
     if !growth.may_grow() {
         return Ok(false);
     }
-    match lead_of(k, space, path.as_slice(), cubes, slice) {
-        Lead::Unknown => Ok(false),
-        Lead::Leaf(place) => {
+    match slice_top(k, space, path.as_slice(), cubes, slice) {
+        SliceTop::Unknown => Ok(false),
+        SliceTop::Leaf(place) => {
             growth.add_leaf(place)?;
             Ok(true)
         }
-        Lead::Fork(part) => led_apart(k, space, path, cubes, slice, part, growth),
+        SliceTop::Fork(part) => build_forked_slice(k, space, path, cubes, slice, part, growth),
     }
 }
 
 /// The tree of the places of cubes that stand as a tree lists them, in the scenarios of at most `k` faults and with at most
 /// so many items, if the slices are found in one way.
-fn led_by(
+fn slice_tree_by(
     alloc: Global,
     k: u8,
     cubes: &[&Cube],
@@ -546,7 +546,7 @@ fn led_by(
     way: GuessedWay,
 ) -> Result<Option<Places>, OutOfMemory>
     requires { length cubes.now ≤ MOST_LOAD }
-    ensures { IfOk result (λ r. IfSome r (λ t. (s : Scenario) → HasFew k s → tells_cube (map (λ b. b.now) cubes.now) (place_at t s) s)) }
+    ensures { IfOk result (λ r. IfSome r (λ t. (s : Scenario) → HasAtMostFaults k s → IsPlaceOfMatch (map (λ b. b.now) cubes.now) (place_at t s) s)) }
 {
     let mut space = Space::whole(k);
     let slice = Slice {
@@ -558,7 +558,7 @@ fn led_by(
     };
     let mut path = Vec::new(alloc);
     let mut growth = TreeGrowth::new(alloc, cubes.len(), items)?;
-    let has_tree = led(k, &mut space, &mut path, cubes, slice, &mut growth)?;
+    let has_tree = build_slice_tree(k, &mut space, &mut path, cubes, slice, &mut growth)?;
     if !has_tree {
         return Ok(None);
     }
@@ -567,18 +567,18 @@ fn led_by(
 
 /// The tree of the places of cubes that stand as a tree lists them, in the scenarios of at most `k` faults and with at most
 /// so many items; `None` if they don't, or if there would be more items.
-pub(crate) fn led_out(
+pub(crate) fn slice_tree(
     alloc: Global,
     k: u8,
     cubes: &[&Cube],
     items: u32,
 ) -> Result<Option<Places>, OutOfMemory>
     requires { length cubes.now ≤ MOST_LOAD }
-    ensures { IfOk result (λ r. IfSome r (λ t. (s : Scenario) → HasFew k s → tells_cube (map (λ b. b.now) cubes.now) (place_at t s) s)) }
+    ensures { IfOk result (λ r. IfSome r (λ t. (s : Scenario) → HasAtMostFaults k s → IsPlaceOfMatch (map (λ b. b.now) cubes.now) (place_at t s) s)) }
 {
-    if let Some(places) = led_by(alloc, k, cubes, items, GuessedWay::ByNumber)? {
+    if let Some(places) = slice_tree_by(alloc, k, cubes, items, GuessedWay::ByNumber)? {
         return Ok(Some(places));
     }
-    let places = led_by(alloc, k, cubes, items, GuessedWay::ByEnds)?;
+    let places = slice_tree_by(alloc, k, cubes, items, GuessedWay::ByEnds)?;
     Ok(places)
 }

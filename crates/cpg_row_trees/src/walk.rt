@@ -2,7 +2,7 @@
 ghost use Rattle.std.specs.Prelude.{◌≡◌, ℕ, Option};
 ghost use Rattle.std.specs.Bool.{OnTrue};
 ghost use Rattle.cpg_base.specs.Scenario.{Scenario};
-ghost use Rattle.cpg_tree.specs.Space.{Lies};
+ghost use Rattle.cpg_tree.specs.Space.{IsInSpace};
 ghost use Rattle.cpg_tree.specs.Decision.{value_at};
 ghost use Rattle.cpg_tree.specs.Flat.{IsFlat, flat};
 ghost use Rattle.cpg_tree.specs.TreeNode.{TreeNode};
@@ -11,24 +11,24 @@ use cpg_tree::{Space, Top, TreeItem, part_in, top_of};
 
 /// A test of the places that scenarios come to: what it tells if it passes.
 pub trait Test {
-    ghost tells: { Self → Option ℕ → Scenario → Type 0 };
+    ghost guarantees: { Self → Option ℕ → Scenario → Type 0 };
 
     /// Whether a place passes, as far as scenarios of a space come to it.
     fn passes(&self, place: Option<u32>, space: &Space) -> bool
-        ensures { OnTrue result ((s : Scenario) → Lies space.now s → tells self.now place s) };
+        ensures { OnTrue result ((s : Scenario) → IsInSpace space.now s → guarantees self.now place s) };
 }
 
 /// A test of the places that scenarios come to in two trees: what it tells if it passes.
 pub trait PairTest {
-    ghost tells: { Self → Option ℕ → Option ℕ → Scenario → Type 0 };
+    ghost guarantees: { Self → Option ℕ → Option ℕ → Scenario → Type 0 };
 
     /// Whether a place of the first tree passes with any of the second.
     fn passes_with_any(&self, first: Option<u32>) -> bool
-        ensures { OnTrue result ((second : Option ℕ) (s : Scenario) → tells self.now first second s) };
+        ensures { OnTrue result ((second : Option ℕ) (s : Scenario) → guarantees self.now first second s) };
 
     /// Whether a place of each passes, as far as scenarios of a space come to both.
     fn passes(&self, first: Option<u32>, second: Option<u32>, space: &Space) -> bool
-        ensures { OnTrue result ((s : Scenario) → Lies space.now s → tells self.now first second s) };
+        ensures { OnTrue result ((s : Scenario) → IsInSpace space.now s → guarantees self.now first second s) };
 }
 
 /// A test of the second tree's places, beside one of the first.
@@ -39,7 +39,7 @@ struct Beside<'a, J> {
 }
 
 impl<'a, J: PairTest> Test for Beside<'a, J> {
-    ghost tells = { λ beside second s. J.tells beside.test.now beside.first second s };
+    ghost guarantees = { λ beside second s. J.guarantees beside.test.now beside.first second s };
 
     fn passes(&self, place: Option<u32>, space: &Space) -> bool {
         self.test.passes(self.first, place, space)
@@ -50,7 +50,7 @@ impl<'a, J: PairTest> Test for Beside<'a, J> {
 /// before if the test passes at each.
 fn do_pass_each<J: Test>(items: &[TreeItem<Option<u32>>], space: &mut Space, test: &J) -> bool
     requires { IsFlat items.now }
-    ensures passed { OnTrue result ((n : TreeNode (Option ℕ)) → items.now ≡ flat n → (s : Scenario) → Lies space.old s → J.tells test.now (value_at n s) s) }
+    ensures passed { OnTrue result ((n : TreeNode (Option ℕ)) → items.now ≡ flat n → (s : Scenario) → IsInSpace space.old s → J.guarantees test.now (value_at n s) s) }
     ensures same { OnTrue result (space.new ≡ space.old) }
 {
     match top_of(items) {
@@ -86,7 +86,7 @@ fn do_pass_each<J: Test>(items: &[TreeItem<Option<u32>>], space: &mut Space, tes
 /// each call.
 fn do_pass_in_all<J: Test>(items: &[TreeItem<Option<u32>>], space: &Space, test: &J) -> bool
     requires { IsFlat items.now }
-    ensures { OnTrue result ((n : TreeNode (Option ℕ)) → items.now ≡ flat n → (s : Scenario) → Lies space.now s → J.tells test.now (value_at n s) s) }
+    ensures { OnTrue result ((n : TreeNode (Option ℕ)) → items.now ≡ flat n → (s : Scenario) → IsInSpace space.now s → J.guarantees test.now (value_at n s) s) }
 {
     let mut own = *space;
     do_pass_each(items, &mut own, test)
@@ -96,7 +96,7 @@ fn do_pass_in_all<J: Test>(items: &[TreeItem<Option<u32>>], space: &Space, test:
 /// each fork is closed, as mostly.
 pub(crate) fn do_pass<J: Test>(items: &[TreeItem<Option<u32>>], space: &Space, test: &J) -> bool
     requires { IsFlat items.now }
-    ensures { OnTrue result ((n : TreeNode (Option ℕ)) → items.now ≡ flat n → (s : Scenario) → Lies space.now s → J.tells test.now (value_at n s) s) }
+    ensures { OnTrue result ((n : TreeNode (Option ℕ)) → items.now ≡ flat n → (s : Scenario) → IsInSpace space.now s → J.guarantees test.now (value_at n s) s) }
 {
     match top_of(items) {
         Top::Value(place) => test.passes(place, space),
@@ -126,7 +126,7 @@ fn do_pass_at<J: PairTest>(
     test: &J,
 ) -> bool
     requires { IsFlat second.now }
-    ensures passed { OnTrue result ((n : TreeNode (Option ℕ)) → second.now ≡ flat n → (s : Scenario) → Lies space.old s → J.tells test.now first (value_at n s) s) }
+    ensures passed { OnTrue result ((n : TreeNode (Option ℕ)) → second.now ≡ flat n → (s : Scenario) → IsInSpace space.old s → J.guarantees test.now first (value_at n s) s) }
     ensures same { OnTrue result (space.new ≡ space.old) }
 {
     if test.passes_with_any(first) {
@@ -146,8 +146,8 @@ fn do_pass_both<J: PairTest>(
 ) -> bool
     requires first { IsFlat first.now }
     requires second { IsFlat second.now }
-    ensures passed { OnTrue result ((n m : TreeNode (Option ℕ)) → first.now ≡ flat n → second.now ≡ flat m → (s : Scenario) → Lies space.old s →
-        J.tells test.now (value_at n s) (value_at m s) s) }
+    ensures passed { OnTrue result ((n m : TreeNode (Option ℕ)) → first.now ≡ flat n → second.now ≡ flat m → (s : Scenario) → IsInSpace space.old s →
+        J.guarantees test.now (value_at n s) (value_at m s) s) }
     ensures same { OnTrue result (space.new ≡ space.old) }
 {
     match top_of(first) {
@@ -189,8 +189,8 @@ pub(crate) fn do_pass_with<J: PairTest>(
 ) -> bool
     requires first { IsFlat first.now }
     requires second { IsFlat second.now }
-    ensures { OnTrue result ((n m : TreeNode (Option ℕ)) → first.now ≡ flat n → second.now ≡ flat m → (s : Scenario) → Lies space.now s →
-        J.tells test.now (value_at n s) (value_at m s) s) }
+    ensures { OnTrue result ((n m : TreeNode (Option ℕ)) → first.now ≡ flat n → second.now ≡ flat m → (s : Scenario) → IsInSpace space.now s →
+        J.guarantees test.now (value_at n s) (value_at m s) s) }
 {
     let mut own = *space;
     do_pass_both(first, second, &mut own, test)

@@ -9,14 +9,14 @@ use Rattle.cpg_tree.specs.declared.bounds.Span.{Span}
 use Rattle.cpg_tree.specs.declared.item.TreeItem.{TreeItem}
 use Rattle.cpg_tree.specs.declared.item.TreeItem.TheVariants.{Cut}
 use Rattle.cpg_tree.specs.TreeNode.{TreeNode, Leaf, Fork}
-use Rattle.cpg_tree.specs.Bounds.{AreSides, IsBounded, bounds_in, span_in}
+use Rattle.cpg_tree.specs.Bounds.{AreSpansOfSides, IsBounded, bounds_in, span_in}
 use Rattle.cpg_tree.specs.Flat.{flat}
 use Rattle.cpg_tree.specs.Greater.{IsAtLeast}
 use Rattle.cpg_tree.proofs.Flats.{flat-same, last_same, rest_same}
 use Rattle.cpg_tree.proofs.Greatness.{least_under, most_over}
 
 -- a list without its last item is cut behind the first part
-pub sides_are : (bounds sides : List Span) (last : Span) (forks : ℕ) → IsLastAndRest bounds last sides → AreSides bounds forks (take (min forks (length sides)) sides) (drop (min forks
+pub sides_are : (bounds sides : List Span) (last : Span) (forks : ℕ) → IsLastAndRest bounds last sides → AreSpansOfSides bounds forks (take (min forks (length sides)) sides) (drop (min forks
     (length sides)) sides)
 sides_are bounds sides last forks cut front back fork are long =
     let same : sides ≡ front ++ back = rest_same sides (front ++ back) last fork (sym cut.0 ∙ are) in

@@ -12,7 +12,7 @@ use Rattle.cpg_cube.specs.declared.literal.Literal.{Literal}
 use Rattle.cpg_cube.specs.Cube.{IsRising, holds, matches}
 use Rattle.cpg_cube.proofs.CubeLows.{holds-low}
 use Rattle.cpg_cube.proofs.Ranges.{rising_rest, rising_first}
-use Rattle.cpg_tree.specs.Space.{Space, Lies, beyond, faults_of, more_asked}
+use Rattle.cpg_tree.specs.Space.{Space, IsInSpace, beyond, faults_of, asked_beyond}
 
 -- the numbers of a function but for one
 abbrev pub without : ℕ → (ℕ → ℕ) → ℕ → ℕ
@@ -39,27 +39,27 @@ weights_le g n f (l ∷ ls) rising each none = elim (cases_lt l.variable n) [
       omega (arith, rest, none l many, sum_by-cons g l ls)
 ]
 
-module _ (room : Space) where
-  module _ (s : Scenario) (lies : Lies room s) (ls : List Literal) (rising : IsRising ls) (all : matches ls s ≡ true) where
-    beyond_le : (l : Literal) → Contains ls l → l.variable < 128 → more_asked room l ≤ beyond room s l.variable
+module _ (space : Space) where
+  module _ (s : Scenario) (lies : IsInSpace space s) (ls : List Literal) (rising : IsRising ls) (all : matches ls s ≡ true) where
+    beyond_le : (l : Literal) → Contains ls l → l.variable < 128 → asked_beyond space l ≤ beyond space s l.variable
     beyond_le l c few =
         let low = holds-low s l (from_all (holds s) ls l all c) in
-        omega (arith, low, number_of-fault s l.variable few, cond-true (nat_lt l.variable 128) (l.low - get_or room.low l.variable 0) 0 (lt-ltb l.variable 128 few))
+        omega (arith, low, number_of-fault s l.variable few, cond-true (nat_lt l.variable 128) (l.low - get_or space.low l.variable 0) 0 (lt-ltb l.variable 128 few))
 
-    pub demands_left : (from : ℕ) → sum_by (more_asked room) (drop from ls) ≤ room.left
+    pub demands_left : (from : ℕ) → sum_by (asked_beyond space) (drop from ls) ≤ space.left
     demands_left from =
-        let all_of = weights_le (more_asked room) 128 (beyond room s) ls rising beyond_le
-        (λ l many. omega (arith, cond-false (nat_lt l.variable 128) (l.low - get_or room.low l.variable 0) 0 (le-ltb l.variable 128 many))) in
-        omega (arith, all_of, lies.left, sum_by-take-drop (more_asked room) ls from)
+        let all_of = weights_le (asked_beyond space) 128 (beyond space s) ls rising beyond_le
+        (λ l many. omega (arith, cond-false (nat_lt l.variable 128) (l.low - get_or space.low l.variable 0) 0 (le-ltb l.variable 128 many))) in
+        omega (arith, all_of, lies.left, sum_by-take-drop (asked_beyond space) ls from)
 
   -- the next literal's demand, and the rest
-  module _ (ls : List Literal) (at : ℕ) (d : Literal) (there : at < length ls) (left low more : ℕ) (low_is : low ≡ (get_or ls at d).low - get_or room.low (get_or ls at d).variable 0)
-      (more_is : more ≡ faults_of (get_or ls at d).variable low) (most : sum_by (more_asked room) (drop at ls) ≤ left) where
-    this_one : more ≡ more_asked room (get_or ls at d)
+  module _ (ls : List Literal) (at : ℕ) (d : Literal) (there : at < length ls) (left low more : ℕ) (low_is : low ≡ (get_or ls at d).low - get_or space.low (get_or ls at d).variable 0)
+      (more_is : more ≡ faults_of (get_or ls at d).variable low) (most : sum_by (asked_beyond space) (drop at ls) ≤ left) where
+    this_one : more ≡ asked_beyond space (get_or ls at d)
     this_one = more_is ∙ ap (faults_of (get_or ls at d).variable) low_is
 
     pub demand_fits : more ≤ left
-    demand_fits = omega (arith, this_one, sum_by-drop_more (more_asked room) ls at d there, most)
+    demand_fits = omega (arith, this_one, sum_by-drop_more (asked_beyond space) ls at d there, most)
 
-    pub demand_rest : sum_by (more_asked room) (drop (at + 1) ls) ≤ left - more
-    demand_rest = omega (arith, this_one, sum_by-drop_more (more_asked room) ls at d there, most)
+    pub demand_rest : sum_by (asked_beyond space) (drop (at + 1) ls) ≤ left - more
+    demand_rest = omega (arith, this_one, sum_by-drop_more (asked_beyond space) ls at d there, most)

@@ -9,11 +9,11 @@ use Rattle.cpg_tree.specs.Space.{Space, IsWhole, is_open_below, is_open_above, b
 use Rattle.cpg_tree.specs.Decision.{IsFit}
 
 -- a space as another, but for highs that are no lower, and no fewer faults left
-record IsHigher (room other : Space) : Type 0 where
-  pub low : room.low ≡ other.low
-  pub left : room.left ≤ other.left
-  pub long : length room.high ≡ length other.high
-  pub high : (v : ℕ) → get_or room.high v 0 ≤ get_or other.high v 0
+record IsHigher (space other : Space) : Type 0 where
+  pub low : space.low ≡ other.low
+  pub left : space.left ≤ other.left
+  pub long : length space.high ≡ length other.high
+  pub high : (v : ℕ) → get_or space.high v 0 ≤ get_or other.high v 0
 
 higher_set : (highs others : List ℕ) (v cut u : ℕ) → length highs ≡ length others → get_or highs u 0 ≤ get_or others u 0 → (u ≡ v) ⊎ (u ≢ v) →
     get_or (slice_set highs v cut) u 0 ≤ get_or (slice_set others v cut) u 0
@@ -34,58 +34,58 @@ allows_more v cut low a b l h = elim (or_cases (nat_le 128 v) (nat_lt cut (low +
   | inr count ↦ or_right (nat_le 128 v) _ (lt-ltb cut (low + b) (omega (arith, ltb-true cut (low + a) count, l)))
 ]
 
-module _ (room other : Space) (h : IsHigher room other) (v cut : ℕ) where
-  higher_below : IsHigher (below_cut room v cut) (below_cut other v cut)
+module _ (space other : Space) (h : IsHigher space other) (v cut : ℕ) where
+  higher_below : IsHigher (below_cut space v cut) (below_cut other v cut)
   higher_below = record {
     low = h.low;
     left = h.left;
-    long = length-set room.high v cut ∙ h.long ∙ sym (length-set other.high v cut);
-    high = λ u. higher_set room.high other.high v cut u h.long (h.high u) (cases_eq u v);
+    long = length-set space.high v cut ∙ h.long ∙ sym (length-set other.high v cut);
+    high = λ u. higher_set space.high other.high v cut u h.long (h.high u) (cases_eq u v);
   }
 
-  higher_above : IsHigher (above_cut room v cut) (above_cut other v cut)
+  higher_above : IsHigher (above_cut space v cut) (above_cut other v cut)
   higher_above = record {
     low = ap (λ (lows : List ℕ). slice_set lows v (cut + 1)) h.low;
-    left = subst (λ (lows : List ℕ). room.left - faults_of v (cut + 1 - get_or room.low v 0) ≤ other.left - faults_of v (cut + 1 - get_or lows v 0)) h.low
-        (less_left room.left other.left (faults_of v (cut + 1 - get_or room.low v 0)) h.left);
+    left = subst (λ (lows : List ℕ). space.left - faults_of v (cut + 1 - get_or space.low v 0) ≤ other.left - faults_of v (cut + 1 - get_or lows v 0)) h.low
+        (less_left space.left other.left (faults_of v (cut + 1 - get_or space.low v 0)) h.left);
     long = h.long;
     high = h.high;
   }
 
-  open_below : is_open_below room v cut ≡ true → is_open_below other v cut ≡ true
+  open_below : is_open_below space v cut ≡ true → is_open_below other v cut ≡ true
   open_below o = subst (λ (lows : List ℕ). nat_le (get_or lows v 0) cut ≡ true) h.low o
 
-  open_above : is_open_above room v cut ≡ true → is_open_above other v cut ≡ true
+  open_above : is_open_above space v cut ≡ true → is_open_above other v cut ≡ true
   open_above o =
-      let parts = and_parts (nat_lt cut (get_or room.high v 0)) (nat_le 128 v || nat_lt cut (get_or room.low v 0 + room.left)) o in
-      and_from (nat_lt cut (get_or other.high v 0)) _ (lt-ltb cut (get_or other.high v 0) (omega (arith, ltb-true cut (get_or room.high v 0) parts.0, h.high v)))
-      (subst (λ (lows : List ℕ). (nat_le 128 v || nat_lt cut (get_or lows v 0 + other.left)) ≡ true) h.low (allows_more v cut (get_or room.low v 0) room.left other.left h.left parts.1))
+      let parts = and_parts (nat_lt cut (get_or space.high v 0)) (nat_le 128 v || nat_lt cut (get_or space.low v 0 + space.left)) o in
+      and_from (nat_lt cut (get_or other.high v 0)) _ (lt-ltb cut (get_or other.high v 0) (omega (arith, ltb-true cut (get_or space.high v 0) parts.0, h.high v)))
+      (subst (λ (lows : List ℕ). (nat_le 128 v || nat_lt cut (get_or lows v 0 + other.left)) ≡ true) h.low (allows_more v cut (get_or space.low v 0) space.left other.left h.left parts.1))
 
-fits_higher : {T : Type 0} (node : TreeNode T) (room other : Space) → IsHigher room other → IsFit room node → IsFit other node
-fits_higher (Leaf x) room other h fit = fit
-fits_higher (Fork v cut below above) room other h fit = (
+fits_higher : {T : Type 0} (node : TreeNode T) (space other : Space) → IsHigher space other → IsFit space node → IsFit other node
+fits_higher (Leaf x) space other h fit = fit
+fits_higher (Fork v cut below above) space other h fit = (
   fit.0,
-  open_below room other h v cut fit.1,
-  open_above room other h v cut fit.2,
-  fits_higher below (below_cut room v cut) (below_cut other v cut) (higher_below room other h v cut) fit.3,
-  fits_higher above (above_cut room v cut) (above_cut other v cut) (higher_above room other h v cut) fit.4,
+  open_below space other h v cut fit.1,
+  open_above space other h v cut fit.2,
+  fits_higher below (below_cut space v cut) (below_cut other v cut) (higher_below space other h v cut) fit.3,
+  fits_higher above (above_cut space v cut) (above_cut other v cut) (higher_above space other h v cut) fit.4,
 )
 
 -- what fits the numbers up to a cut fits without the cut
-pub fits_uncut : {T : Type 0} (node : TreeNode T) (room : Space) (v cut : ℕ) → is_open_above room v cut ≡ true → IsFit (below_cut room v cut) node → IsFit room node
-fits_uncut node room v cut o fit = fits_higher node (below_cut room v cut) room (record { low = refl; left = omega arith; long = length-set room.high v cut; high = lower }) fit
+pub fits_uncut : {T : Type 0} (node : TreeNode T) (space : Space) (v cut : ℕ) → is_open_above space v cut ≡ true → IsFit (below_cut space v cut) node → IsFit space node
+fits_uncut node space v cut o fit = fits_higher node (below_cut space v cut) space (record { low = refl; left = omega arith; long = length-set space.high v cut; high = lower }) fit
   where
-    below_high : cut < get_or room.high v 0
-    below_high = ltb-true cut (get_or room.high v 0) (and_parts (nat_lt cut (get_or room.high v 0)) _ o).0
+    below_high : cut < get_or space.high v 0
+    below_high = ltb-true cut (get_or space.high v 0) (and_parts (nat_lt cut (get_or space.high v 0)) _ o).0
 
-    at_cut : (v < length room.high) ⊎ (length room.high ≤ v) → get_or (slice_set room.high v cut) v 0 ≤ get_or room.high v 0
-    at_cut (inl l) = omega (arith, get_or-set_same room.high v cut 0 l, below_high)
-    at_cut (inr past) = absurd (omega (arith, get_or_past room.high v 0 past, below_high))
+    at_cut : (v < length space.high) ⊎ (length space.high ≤ v) → get_or (slice_set space.high v cut) v 0 ≤ get_or space.high v 0
+    at_cut (inl l) = omega (arith, get_or-set_same space.high v cut 0 l, below_high)
+    at_cut (inr past) = absurd (omega (arith, get_or_past space.high v 0 past, below_high))
 
-    lower : (u : ℕ) → get_or (slice_set room.high v cut) u 0 ≤ get_or room.high u 0
+    lower : (u : ℕ) → get_or (slice_set space.high v cut) u 0 ≤ get_or space.high u 0
     lower u = elim (cases_eq u v) [
-      | inr n ↦ omega (arith, get_or-set_other room.high v u cut 0 n)
-      | inl e ↦ subst (λ w. get_or (slice_set room.high v cut) w 0 ≤ get_or room.high w 0) (sym e) (at_cut (cases_lt v (length room.high)))
+      | inr n ↦ omega (arith, get_or-set_other space.high v u cut 0 n)
+      | inl e ↦ subst (λ w. get_or (slice_set space.high v cut) w 0 ≤ get_or space.high w 0) (sym e) (at_cut (cases_lt v (length space.high)))
     ]
 
 -- ---- two cuts of one variable, the first left out
@@ -120,76 +120,76 @@ no_faults v n l = cond-false (nat_lt v 128) n 0 (le-ltb v 128 l)
 all_faults : (v n : ℕ) → v < 128 → faults_of v n ≡ n
 all_faults v n l = cond-true (nat_lt v 128) n 0 (lt-ltb v 128 l)
 
-module _ (room : Space) (v cut far : ℕ) (less : cut < far) (below : is_open_below room v cut ≡ true) where
-  low_under : get_or room.low v 0 ≤ cut
-  low_under = leb-true (get_or room.low v 0) cut below
+module _ (space : Space) (v cut far : ℕ) (less : cut < far) (below : is_open_below space v cut ≡ true) where
+  low_under : get_or space.low v 0 ≤ cut
+  low_under = leb-true (get_or space.low v 0) cut below
 
-  at_low : (get_or (slice_set room.low v (cut + 1)) v 0 ≡ cut + 1) ⊎ ((get_or (slice_set room.low v (cut + 1)) v 0 ≡ 0) × (get_or room.low v 0 ≡ 0))
-  at_low = at_set room.low v (cut + 1)
+  at_low : (get_or (slice_set space.low v (cut + 1)) v 0 ≡ cut + 1) ⊎ ((get_or (slice_set space.low v (cut + 1)) v 0 ≡ 0) × (get_or space.low v 0 ≡ 0))
+  at_low = at_set space.low v (cut + 1)
 
-  joined_open_below : is_open_below room v far ≡ true
-  joined_open_below = le-leb (get_or room.low v 0) far (omega (arith, low_under, less))
+  joined_open_below : is_open_below space v far ≡ true
+  joined_open_below = le-leb (get_or space.low v 0) far (omega (arith, low_under, less))
 
-  joined_open_above : is_open_above (above_cut room v cut) v far ≡ true → is_open_above room v far ≡ true
+  joined_open_above : is_open_above (above_cut space v cut) v far ≡ true → is_open_above space v far ≡ true
   joined_open_above o =
-      let parts = and_parts (nat_lt far (get_or room.high v 0)) _ o in
-      and_from (nat_lt far (get_or room.high v 0)) _ parts.0 (elim (cases_lt v 128) [
+      let parts = and_parts (nat_lt far (get_or space.high v 0)) _ o in
+      and_from (nat_lt far (get_or space.high v 0)) _ parts.0 (elim (cases_lt v 128) [
         | inr value ↦ or_left (nat_le 128 v) _ (le-leb 128 v value)
         | inl count ↦ elim (or_cases (nat_le 128 v) _ parts.1) [
           | inl value ↦ or_left (nat_le 128 v) _ value
-          | inr allows ↦ or_right (nat_le 128 v) _ (lt-ltb far (get_or room.low v 0 + room.left)
-              (twice_allows (get_or room.low v 0) cut far room.left (get_or (slice_set room.low v (cut + 1)) v 0) at_low low_under less
-              (subst (λ (n : ℕ). far < get_or (slice_set room.low v (cut + 1)) v 0 + (room.left - n)) (all_faults v (cut + 1 - get_or room.low v 0) count) (ltb-true far _ allows))))
+          | inr allows ↦ or_right (nat_le 128 v) _ (lt-ltb far (get_or space.low v 0 + space.left)
+              (twice_allows (get_or space.low v 0) cut far space.left (get_or (slice_set space.low v (cut + 1)) v 0) at_low low_under less
+              (subst (λ (n : ℕ). far < get_or (slice_set space.low v (cut + 1)) v 0 + (space.left - n)) (all_faults v (cut + 1 - get_or space.low v 0) count) (ltb-true far _ allows))))
         ]
       ])
 
-  joined_below : IsHigher (below_cut room v cut) (below_cut room v far)
-  joined_below = record { low = refl; left = omega arith; long = length-set room.high v cut ∙ sym (length-set room.high v far); high = λ u. set_lower room.high v cut far u less }
+  joined_below : IsHigher (below_cut space v cut) (below_cut space v far)
+  joined_below = record { low = refl; left = omega arith; long = length-set space.high v cut ∙ sym (length-set space.high v far); high = λ u. set_lower space.high v cut far u less }
 
-  joined_left : (room.left - faults_of v (cut + 1 - get_or room.low v 0)) - faults_of v (far + 1 - get_or (slice_set room.low v (cut + 1)) v 0) ≤ room.left - faults_of v
-      (far + 1 - get_or room.low v 0)
+  joined_left : (space.left - faults_of v (cut + 1 - get_or space.low v 0)) - faults_of v (far + 1 - get_or (slice_set space.low v (cut + 1)) v 0) ≤ space.left - faults_of v
+      (far + 1 - get_or space.low v 0)
   joined_left = elim (cases_lt v 128) [
     | inl count ↦ omega (
       arith,
-      all_faults v (cut + 1 - get_or room.low v 0) count,
-      all_faults v (far + 1 - get_or (slice_set room.low v (cut + 1)) v 0) count,
-      all_faults v (far + 1 - get_or room.low v 0) count,
-      twice_left (get_or room.low v 0) cut far room.left (get_or (slice_set room.low v (cut + 1)) v 0) at_low low_under less,
+      all_faults v (cut + 1 - get_or space.low v 0) count,
+      all_faults v (far + 1 - get_or (slice_set space.low v (cut + 1)) v 0) count,
+      all_faults v (far + 1 - get_or space.low v 0) count,
+      twice_left (get_or space.low v 0) cut far space.left (get_or (slice_set space.low v (cut + 1)) v 0) at_low low_under less,
     )
-    | inr value ↦ omega (arith, no_faults v (far + 1 - get_or room.low v 0) value)
+    | inr value ↦ omega (arith, no_faults v (far + 1 - get_or space.low v 0) value)
   ]
 
-  joined_above : IsHigher (above_cut (above_cut room v cut) v far) (above_cut room v far)
-  joined_above = record { low = set-set room.low v (cut + 1) (far + 1); left = joined_left; long = refl; high = λ u. omega arith }
+  joined_above : IsHigher (above_cut (above_cut space v cut) v far) (above_cut space v far)
+  joined_above = record { low = set-set space.low v (cut + 1) (far + 1); left = joined_left; long = refl; high = λ u. omega arith }
 
 -- a fork with a fork on the same variable above it, whose side below is left out
-pub fits_joined : {T : Type 0} (below near far_above above : TreeNode T) (room : Space) (v cut next far : ℕ) → above ≡ Fork next far near far_above → next ≡ v →
+pub fits_joined : {T : Type 0} (below near far_above above : TreeNode T) (space : Space) (v cut next far : ℕ) → above ≡ Fork next far near far_above → next ≡ v →
     cut < far →
-    is_open_below room v cut ≡ true → IsFit (below_cut room v cut) below → IsFit (above_cut room v cut) above →
-    (v < 256) × (is_open_below room v far ≡ true) × (is_open_above room v far ≡ true) × IsFit (below_cut room v far) below × IsFit (above_cut room v far) far_above
-fits_joined {T} below near far_above above room v cut next far is same less under fit_below fit_above =
-    let fit = subst (λ (u : ℕ). IsFit (above_cut room v cut) (Fork u far near far_above)) same (subst (λ (n : TreeNode T). IsFit (above_cut room v cut) n) is fit_above) in (
+    is_open_below space v cut ≡ true → IsFit (below_cut space v cut) below → IsFit (above_cut space v cut) above →
+    (v < 256) × (is_open_below space v far ≡ true) × (is_open_above space v far ≡ true) × IsFit (below_cut space v far) below × IsFit (above_cut space v far) far_above
+fits_joined {T} below near far_above above space v cut next far is same less under fit_below fit_above =
+    let fit = subst (λ (u : ℕ). IsFit (above_cut space v cut) (Fork u far near far_above)) same (subst (λ (n : TreeNode T). IsFit (above_cut space v cut) n) is fit_above) in (
       fit.0,
-      joined_open_below room v cut far less under,
-      joined_open_above room v cut far less under fit.2,
-      fits_higher below (below_cut room v cut) (below_cut room v far) (joined_below room v cut far less under) fit_below,
-      fits_higher far_above (above_cut (above_cut room v cut) v far) (above_cut room v far) (joined_above room v cut far less under) fit.4,
+      joined_open_below space v cut far less under,
+      joined_open_above space v cut far less under fit.2,
+      fits_higher below (below_cut space v cut) (below_cut space v far) (joined_below space v cut far less under) fit_below,
+      fits_higher far_above (above_cut (above_cut space v cut) v far) (above_cut space v far) (joined_above space v cut far less under) fit.4,
     )
 
 -- a tree that fits one space of all scenarios fits any
-module _ (k : ℕ) (room other : Space) (one : IsWhole k room) (two : IsWhole k other) where
-  whole_high : (v : ℕ) → get_or room.high v 0 ≤ get_or other.high v 0
+module _ (k : ℕ) (space other : Space) (one : IsWhole k space) (two : IsWhole k other) where
+  whole_high : (v : ℕ) → get_or space.high v 0 ≤ get_or other.high v 0
   whole_high v = elim (cases_lt v 256) [
     | inl there ↦ elim (cases_lt v 128) [
       | inl count ↦ omega (arith, one.counts v count, two.counts v count)
       | inr value ↦ omega (arith, one.values v value there, two.values v value there)
     ]
-    | inr past ↦ omega (arith, get_or_past room.high v 0 (omega (arith, past, one.longer)))
+    | inr past ↦ omega (arith, get_or_past space.high v 0 (omega (arith, past, one.longer)))
   ]
 
-  whole_low : (v : ℕ) → v < length room.low → get_or room.low v 0 ≡ get_or other.low v 0
+  whole_low : (v : ℕ) → v < length space.low → get_or space.low v 0 ≡ get_or other.low v 0
   whole_low v l = let there : v < 256 = omega (arith, l, one.long) in one.lows v there ∙ sym (two.lows v there)
 
-  pub fits_whole : {T : Type 0} (node : TreeNode T) → IsFit room node → IsFit other node
-  fits_whole node = fits_higher node room other
-      (record { low = same_number_lists room.low other.low (one.long ∙ sym two.long) whole_low; left = omega (arith, one.left, two.left); long = one.longer ∙ sym two.longer; high = whole_high })
+  pub fits_whole : {T : Type 0} (node : TreeNode T) → IsFit space node → IsFit other node
+  fits_whole node = fits_higher node space other
+      (record { low = same_number_lists space.low other.low (one.long ∙ sym two.long) whole_low; left = omega (arith, one.left, two.left); long = one.longer ∙ sym two.longer; high = whole_high })

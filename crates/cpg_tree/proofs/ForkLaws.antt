@@ -6,7 +6,7 @@ use Rattle.cpg_tree.specs.TreeNode.{TreeNode, Leaf, Fork}
 use Rattle.cpg_tree.specs.declared.item.TreeItem.{TreeItem}
 use Rattle.cpg_tree.specs.declared.item.TreeItem.TheVariants.{Value, Cut}
 use Rattle.cpg_tree.specs.Flat.{flat}
-use Rattle.cpg_tree.specs.Added.{Adds, IsForked, IsSplit, RepeatsBelow}
+use Rattle.cpg_tree.specs.Added.{AddsTree, IsForked, IsSplit, RepeatsBelow}
 use Rattle.cpg_tree.proofs.Forks as forks
 use Rattle.cpg_tree.proofs.Fits.{fits_uncut, fits_joined}
 use Rattle.cpg_tree.proofs.Flats.{flat-same, last_same, rest_same, take_front, drop_front, cut_is_no_value}
@@ -26,7 +26,7 @@ module _ {T : Type 0} (v cut : ℕ) (below above : TreeNode T) where
       high_here = λ k s h. omega arith;
       high_above = λ k s u h. omega arith;
     };
-    fit = λ room lower upper fit other. fits_uncut below room v cut upper fit;
+    fit = λ space lower upper fit other. fits_uncut below space v cut upper fit;
     pass = λ test is p q. p;
   }
 
@@ -42,7 +42,7 @@ module _ {T : Type 0} (v cut : ℕ) (below above : TreeNode T) where
       high_here = λ k s h. omega (arith, forks.high_here v cut below above s h k);
       high_above = λ k s u h. omega (arith, forks.high_above v cut below above s h k u);
     };
-    fit = λ room lower upper fit other. (small, lower, upper, fit, other);
+    fit = λ space lower upper fit other. (small, lower, upper, fit, other);
     pass = λ test is p q. (is, p, q);
   }
 
@@ -62,7 +62,7 @@ module _ {T : Type 0} (v cut : ℕ) (below above : TreeNode T) where
         high_here = λ k s h. omega (arith, less, forks.high_here v far below above s (farther s h) k);
         high_above = λ k s u h. omega arith;
       };
-      fit = λ room lower upper fit other. fits_joined below below above (Fork v far below above) room v cut v far refl refl less lower fit other;
+      fit = λ space lower upper fit other. fits_joined below below above (Fork v far below above) space v cut v far refl refl less lower fit other;
       pass = λ test is p q. q;
     }
 
@@ -104,14 +104,15 @@ module _ {T : Type 0} (start middle : ℕ) (old before : List (TreeItem T)) (bel
 
   module _ (v cut : ℕ) (new : List (TreeItem T)) where
     -- both sides are equal
-    pub forks_same : drop start (take middle old) ≡ drop middle old → new ≡ take middle old → Adds (IsForked v cut below above) before new
+    pub forks_same : drop start (take middle old) ≡ drop middle old → new ≡ take middle old → AddsTree (IsForked v cut below above) before new
     forks_same same cutoff =
         let one : below ≡ above = flat-same below above (sym below_is ∙ same ∙ above_is) in
         (below, cutoff ∙ front_is, subst (λ (n : TreeNode T). IsForked v cut below n below) one (forked_same v cut below above))
 
     -- the side below is met again
-    pub forks_met : RepeatsBelow (drop start (take middle old)) (drop middle old) v cut → new ≡ take start old ++ drop (start + (middle - start)) old → Adds (IsForked v cut below above) before new
-    forks_met (far, rest, less, ends) taken =
+    pub forks_repeated : RepeatsBelow (drop start (take middle old)) (drop middle old) v cut → new ≡ take start old ++ drop (start + (middle - start)) old
+        → AddsTree (IsForked v cut below above) before new
+    forks_repeated (far, rest, less, ends) taken =
         let whole : flat above ≡ flat below ++ rest ++ (Cut v far (length (flat below)) ∷ []) =
         sym above_is ∙ ends ∙ ap (λ (xs : List (TreeItem T)). xs ++ rest ++ (Cut v far (length xs) ∷ [])) below_is in
         let is = met_is above below rest v far whole in (
@@ -121,7 +122,7 @@ module _ {T : Type 0} (start middle : ℕ) (old before : List (TreeItem T)) (bel
         )
 
     -- else the fork is added
-    pub forks_plain : v < 256 → new ≡ old ++ (Cut v cut (middle - start) ∷ []) → Adds (IsForked v cut below above) before new
+    pub forks_plain : v < 256 → new ≡ old ++ (Cut v cut (middle - start) ∷ []) → AddsTree (IsForked v cut below above) before new
     forks_plain small added = (
       Fork v cut below above,
       added ∙ ap (λ (xs : List (TreeItem T)). xs ++ (Cut v cut (middle - start) ∷ [])) (split.is ∙ append_assoc before (flat below) (flat above))

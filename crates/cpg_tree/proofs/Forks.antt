@@ -6,9 +6,9 @@ use Rattle.std.proofs.lemmas.Bool.{cases_lt, cases_eq, cond-true, cond-false, le
 use Rattle.cpg_base.specs.Scenario.{Scenario, number_of}
 use Rattle.cpg_tree.specs.TreeNode.{TreeNode, Leaf, Fork}
 use Rattle.cpg_tree.specs.Decision.{value_at, low_at, high_at, DoForksPass, IsFit}
-use Rattle.cpg_tree.specs.Space.{Space, Lies}
-use Rattle.cpg_tree.specs.Results.{IsForkOf, IsJoinIn, IsJoinOf, IsPickOf, IsMade, IsWithin, picked}
-use Rattle.cpg_tree.specs.Asked.{Rooms, IsInner, LiesInBoth, lowered}
+use Rattle.cpg_tree.specs.Space.{Space, IsInSpace}
+use Rattle.cpg_tree.specs.Results.{IsForkOf, IsJoinIn, IsJoinOf, IsPickOf, IsResultTree, IsTreeWithin, picked}
+use Rattle.cpg_tree.specs.Asked.{SpacePair, IsInner, IsInBothSpaces, lowered}
 use Rattle.cpg_tree.specs.declared.asked.Highs.{Highs}
 
 -- ---- what a scenario finds
@@ -52,13 +52,13 @@ module _ {T : Type 0} (domain : Scenario → Type 0) (fact : Scenario → T → 
   -- what a scenario that goes to a side is told there
   pub record Side (inner : Scenario → Type 0) (inner_fact : Scenario → T → Type 0) (inner_low : Scenario → ℕ → ℕ) (inner_high : ℕ → Scenario → ℕ → ℕ) (s : Scenario) : Type 0 where
     pub lies : inner s
-    pub tells : (z : T) → inner_fact s z → fact s z
+    pub gives : (z : T) → inner_fact s z → fact s z
     pub lows : (u : ℕ) → u ≢ v → inner_low s u ≤ low s u
     pub highs : (k u : ℕ) → u ≢ v → high k s u ≤ inner_high k s u
 
   module _ (one : Scenario → Type 0) (one_fact : Scenario → T → Type 0) (one_low : Scenario → ℕ → ℕ) (one_high : ℕ → Scenario → ℕ → ℕ)
       (two : Scenario → Type 0) (two_fact : Scenario → T → Type 0) (two_low : Scenario → ℕ → ℕ) (two_high : ℕ → Scenario → ℕ → ℕ) (lo hi r : TreeNode T)
-      (fork : IsForkOf v cut lo hi r) (of_lo : IsMade one one_fact one_low one_high lo) (of_hi : IsMade two two_fact two_low two_high hi)
+      (fork : IsForkOf v cut lo hi r) (of_lo : IsResultTree one one_fact one_low one_high lo) (of_hi : IsResultTree two two_fact two_low two_high hi)
       (first : (s : Scenario) → domain s → number_of s v ≤ cut → Side one one_fact one_low one_high s)
       (first_low : (s : Scenario) → domain s → number_of s v ≤ cut → one_low s v ≤ low s v)
       (first_high : (k : ℕ) (s : Scenario) → domain s → number_of s v ≤ cut → high k s v ≤ min cut (one_high k s v))
@@ -66,8 +66,8 @@ module _ {T : Type 0} (domain : Scenario → Type 0) (fact : Scenario → T → 
       (second_low : (s : Scenario) → domain s → cut < number_of s v → max (cut + 1) (two_low s v) ≤ low s v)
       (second_high : (k : ℕ) (s : Scenario) → domain s → cut < number_of s v → high k s v ≤ two_high k s v) where
     value_is : (s : Scenario) → domain s → (cut < number_of s v) ⊎ (number_of s v ≤ cut) → fact s (value_at r s)
-    value_is s d (inr h) = let side = first s d h in subst (fact s) (sym (fork.value_below s h)) (side.tells (value_at lo s) (of_lo.value s side.lies))
-    value_is s d (inl h) = let side = second s d h in subst (fact s) (sym (fork.value_above s h)) (side.tells (value_at hi s) (of_hi.value s side.lies))
+    value_is s d (inr h) = let side = first s d h in subst (fact s) (sym (fork.value_below s h)) (side.gives (value_at lo s) (of_lo.value s side.lies))
+    value_is s d (inl h) = let side = second s d h in subst (fact s) (sym (fork.value_above s h)) (side.gives (value_at hi s) (of_hi.value s side.lies))
 
     low_is : (s : Scenario) (u : ℕ) → domain s → (cut < number_of s v) ⊎ (number_of s v ≤ cut) → (u ≡ v) ⊎ (u ≢ v) → low_at r s u ≤ low s u
     low_is s u d (inr h) (inl e) = let side = first s d h in subst (λ w. low_at r s w ≤ low s w) (sym e) (omega (arith, fork.low_below s v h, of_lo.lows s v side.lies, first_low s d h))
@@ -82,7 +82,7 @@ module _ {T : Type 0} (domain : Scenario → Type 0) (fact : Scenario → T → 
         (omega (arith, fork.high_above k s v h, of_hi.highs k s v side.lies, second_high k s d h))
     high_is k s u d (inl h) (inr n) = let side = second s d h in omega (arith, fork.high_above k s u h, of_hi.highs k s u side.lies, side.highs k u n)
 
-    pub made_of_sides : IsMade domain fact low high r
+    pub made_of_sides : IsResultTree domain fact low high r
     made_of_sides = record {
       value = λ s d. value_is s d (cases_lt cut (number_of s v));
       lows = λ s u d. low_is s u d (cases_lt cut (number_of s v)) (cases_eq u v);
@@ -91,20 +91,20 @@ module _ {T : Type 0} (domain : Scenario → Type 0) (fact : Scenario → T → 
 
 -- what tells more is made too
 pub made_weaker : {T : Type 0} (domain : Scenario → Type 0) (fact other_fact : Scenario → T → Type 0) (low other_low : Scenario → ℕ → ℕ) (high other_high : ℕ → Scenario → ℕ → ℕ) (r : TreeNode T) →
-    IsMade domain fact low high r →
+    IsResultTree domain fact low high r →
     ((s : Scenario) (z : T) → domain s → fact s z → other_fact s z) → ((s : Scenario) (u : ℕ) → domain s → low s u ≤ other_low s u) →
     ((k : ℕ) (s : Scenario) (u : ℕ) → domain s → other_high k s u ≤ high k s u) →
-    IsMade domain other_fact other_low other_high r
-made_weaker domain fact other_fact low other_low high other_high r made tells lows highs = record {
-  value = λ s d. tells s (value_at r s) d (made.value s d);
+    IsResultTree domain other_fact other_low other_high r
+made_weaker domain fact other_fact low other_low high other_high r made gives lows highs = record {
+  value = λ s d. gives s (value_at r s) d (made.value s d);
   lows = λ s u d. omega (arith, made.lows s u d, lows s u d);
   highs = λ k s u d. omega (arith, made.highs k s u d, highs k s u d);
 }
 
 -- what is made in some scenarios is made in fewer
 pub made_narrower : {T : Type 0} (domain fewer : Scenario → Type 0) (fact : Scenario → T → Type 0) (low : Scenario → ℕ → ℕ) (high : ℕ → Scenario → ℕ → ℕ) (r : TreeNode T) →
-    IsMade domain fact low high r →
-    ((s : Scenario) → fewer s → domain s) → IsMade fewer fact low high r
+    IsResultTree domain fact low high r →
+    ((s : Scenario) → fewer s → domain s) → IsResultTree fewer fact low high r
 made_narrower domain fewer fact low high r made only = record {
   value = λ s d. made.value s (only s d);
   lows = λ s u d. made.lows s u (only s d);
@@ -112,40 +112,40 @@ made_narrower domain fewer fact low high r made only = record {
 }
 
 -- what is made in the space that is asked for is made in both
-pub made_in_both : {T U V : Type 0} (answers : T → U → V → Type 0) (rooms : Rooms) (a : TreeNode T) (b : TreeNode U) (r : TreeNode V) → IsJoinOf answers rooms.asked a b r →
-    IsJoinIn answers (LiesInBoth rooms) a b r
-made_in_both answers rooms a b r made = made_narrower (Lies rooms.asked) (LiesInBoth rooms) _ _ _ r made (λ s d. d.0)
+pub made_in_both : {T U V : Type 0} (answers : T → U → V → Type 0) (spaces : SpacePair) (a : TreeNode T) (b : TreeNode U) (r : TreeNode V) → IsJoinOf answers spaces.asked a b r →
+    IsJoinIn answers (IsInBothSpaces spaces) a b r
+made_in_both answers spaces a b r made = made_narrower (IsInSpace spaces.asked) (IsInBothSpaces spaces) _ _ _ r made (λ s d. d.0)
 
 -- what is made with the part of a tree that the space walked comes to is made with the tree
-pub both_whole : {T U V : Type 0} (answers : T → U → V → Type 0) (rooms : Rooms) (a : TreeNode T) (b part : TreeNode U) (r : TreeNode V) → IsWithin rooms.walked b part →
-    IsJoinIn answers (LiesInBoth rooms) a part r → IsJoinIn answers (LiesInBoth rooms) a b r
-both_whole answers rooms a b part r same made = made_weaker (LiesInBoth rooms) _ _ _ _ _ _ r made
+pub both_whole : {T U V : Type 0} (answers : T → U → V → Type 0) (spaces : SpacePair) (a : TreeNode T) (b part : TreeNode U) (r : TreeNode V) → IsTreeWithin spaces.walked b part →
+    IsJoinIn answers (IsInBothSpaces spaces) a part r → IsJoinIn answers (IsInBothSpaces spaces) a b r
+both_whole answers spaces a b part r same made = made_weaker (IsInBothSpaces spaces) _ _ _ _ _ _ r made
     (λ s z d t. subst (λ y. answers (value_at a s) y z) (same.value s d.1) t)
     (λ s u d. omega (arith, same.lows s u d.1)) (λ k s u d. omega (arith, same.highs k s u d.1))
 
 -- what is made with the part of a tree that a space comes to is made with the tree
-pub join_whole : {T U V : Type 0} (answers : T → U → V → Type 0) (room : Space) (a : TreeNode T) (b part : TreeNode U) (r : TreeNode V) → IsWithin room b part →
-    IsJoinOf answers room a part r → IsJoinOf answers room a b r
-join_whole answers room a b part r same made = made_weaker (Lies room) _ _ _ _ _ _ r made
+pub join_whole : {T U V : Type 0} (answers : T → U → V → Type 0) (space : Space) (a : TreeNode T) (b part : TreeNode U) (r : TreeNode V) → IsTreeWithin space b part →
+    IsJoinOf answers space a part r → IsJoinOf answers space a b r
+join_whole answers space a b part r same made = made_weaker (IsInSpace space) _ _ _ _ _ _ r made
     (λ s z d t. subst (λ y. answers (value_at a s) y z) (same.value s d) t)
     (λ s u d. omega (arith, same.lows s u d)) (λ k s u d. omega (arith, same.highs k s u d))
 
 -- what a chooser picks from the parts of trees that a space comes to is picked from the trees
-pub pick_whole : {T : Type 0} (room : Space) (chooser : TreeNode Bool) (on off on_part off_part r : TreeNode T) → IsWithin room on on_part → IsWithin room off off_part →
-    IsPickOf room chooser on_part off_part r → IsPickOf room chooser on off r
-pick_whole {T} room chooser on off on_part off_part r same_on same_off made = made_weaker (Lies room) _ _ _ _ _ _ r made
+pub pick_whole : {T : Type 0} (space : Space) (chooser : TreeNode Bool) (on off on_part off_part r : TreeNode T) → IsTreeWithin space on on_part → IsTreeWithin space off off_part →
+    IsPickOf space chooser on_part off_part r → IsPickOf space chooser on off r
+pick_whole {T} space chooser on off on_part off_part r same_on same_off made = made_weaker (IsInSpace space) _ _ _ _ _ _ r made
     (λ s z d t. t ∙ same_value (value_at chooser s) s d)
     (λ s u d. omega (arith, same_low (value_at chooser s) s u d)) (λ k s u d. omega (arith, same_high (value_at chooser s) k s u d))
   where
-    same_value : (b : Bool) (s : Scenario) → Lies room s → value_at (picked b on_part off_part) s ≡ value_at (picked b on off) s
+    same_value : (b : Bool) (s : Scenario) → IsInSpace space s → value_at (picked b on_part off_part) s ≡ value_at (picked b on off) s
     same_value true s d = same_on.value s d
     same_value false s d = same_off.value s d
 
-    same_low : (b : Bool) (s : Scenario) (u : ℕ) → Lies room s → low_at (picked b on_part off_part) s u ≤ low_at (picked b on off) s u
+    same_low : (b : Bool) (s : Scenario) (u : ℕ) → IsInSpace space s → low_at (picked b on_part off_part) s u ≤ low_at (picked b on off) s u
     same_low true s u d = same_on.lows s u d
     same_low false s u d = same_off.lows s u d
 
-    same_high : (b : Bool) (k : ℕ) (s : Scenario) (u : ℕ) → Lies room s → high_at k (picked b on off) s u ≤ high_at k (picked b on_part off_part) s u
+    same_high : (b : Bool) (k : ℕ) (s : Scenario) (u : ℕ) → IsInSpace space s → high_at k (picked b on off) s u ≤ high_at k (picked b on_part off_part) s u
     same_high true k s u d = same_on.highs k s u d
     same_high false k s u d = same_off.highs k s u d
 
@@ -153,7 +153,7 @@ pick_whole {T} room chooser on off on_part off_part r same_on same_off made = ma
 
 module _ {T U : Type 0} (fact : Scenario → T → U → Type 0) where
   abbrev pub IsOne : (Scenario → Type 0) → TreeNode T → TreeNode U → Type 0
-  IsOne domain a r = IsMade domain (λ s z. fact s (value_at a s) z) (low_at a) (λ k. high_at k a) r
+  IsOne domain a r = IsResultTree domain (λ s z. fact s (value_at a s) z) (low_at a) (λ k. high_at k a) r
 
   module _ (domain : Scenario → Type 0) (v cut : ℕ) (below : TreeNode T) (above : TreeNode T) (r : TreeNode U) where
     abbrev whole : TreeNode T
@@ -183,7 +183,7 @@ module _ {T U : Type 0} (fact : Scenario → T → U → Type 0) where
         one _ _ _ two _ _ _ lo hi r fork of_lo of_hi
         (λ s d h. record {
           lies = goes_one s d h;
-          tells = λ z t. subst (λ x. fact s x z) (sym (value_below v cut below above s h)) t;
+          gives = λ z t. subst (λ x. fact s x z) (sym (value_below v cut below above s h)) t;
           lows = λ u n. omega (arith, low_below v cut below above s h u);
           highs = λ k u n. omega (arith, high_below v cut below above s h k u n);
         })
@@ -191,7 +191,7 @@ module _ {T U : Type 0} (fact : Scenario → T → U → Type 0) where
         (λ k s d h. omega (arith, high_here v cut below above s h k))
         (λ s d h. record {
           lies = goes_two s d h;
-          tells = λ z t. subst (λ x. fact s x z) (sym (value_above v cut below above s h)) t;
+          gives = λ z t. subst (λ x. fact s x z) (sym (value_above v cut below above s h)) t;
           lows = λ u n. omega (arith, low_above v cut below above s h u n);
           highs = λ k u n. omega (arith, high_above v cut below above s h k u);
         })
@@ -202,7 +202,7 @@ module _ {T U : Type 0} (fact : Scenario → T → U → Type 0) where
 
 module _ {T U : Type 0} (fact : Scenario → T → U → Type 0) (more_low : Scenario → T → ℕ → ℕ) (more_high : ℕ → Scenario → T → ℕ → ℕ) where
   abbrev pub IsTwo : (Scenario → Type 0) → TreeNode T → TreeNode U → Type 0
-  IsTwo domain a r = IsMade domain (λ s z. fact s (value_at a s) z) (λ s u. max (low_at a s u) (more_low s (value_at a s) u)) (λ k s u. min (high_at k a s u) (more_high k s (value_at a s) u)) r
+  IsTwo domain a r = IsResultTree domain (λ s z. fact s (value_at a s) z) (λ s u. max (low_at a s u) (more_low s (value_at a s) u)) (λ k s u. min (high_at k a s u) (more_high k s (value_at a s) u)) r
 
   module _ (domain : Scenario → Type 0) (v cut : ℕ) (below : TreeNode T) (above : TreeNode T) (r : TreeNode U) where
     abbrev both : TreeNode T
@@ -234,7 +234,7 @@ module _ {T U : Type 0} (fact : Scenario → T → U → Type 0) (more_low : Sce
         one _ _ _ two _ _ _ lo hi r fork of_lo of_hi
         (λ s d h. record {
           lies = goes_one s d h;
-          tells = λ z t. subst (λ x. fact s x z) (sym (value_below v cut below above s h)) t;
+          gives = λ z t. subst (λ x. fact s x z) (sym (value_below v cut below above s h)) t;
           lows = λ u n. omega (arith, low_below v cut below above s h u, ap (λ x. more_low s x u) (value_below v cut below above s h));
           highs = λ k u n. omega (arith, high_below v cut below above s h k u n, ap (λ x. more_high k s x u) (value_below v cut below above s h));
         })
@@ -242,7 +242,7 @@ module _ {T U : Type 0} (fact : Scenario → T → U → Type 0) (more_low : Sce
         (λ k s d h. omega (arith, high_here v cut below above s h k, ap (λ x. more_high k s x v) (value_below v cut below above s h)))
         (λ s d h. record {
           lies = goes_two s d h;
-          tells = λ z t. subst (λ x. fact s x z) (sym (value_above v cut below above s h)) t;
+          gives = λ z t. subst (λ x. fact s x z) (sym (value_above v cut below above s h)) t;
           lows = λ u n. omega (arith, low_above v cut below above s h u n, ap (λ x. more_low s x u) (value_above v cut below above s h));
           highs = λ k u n. omega (arith, high_above v cut below above s h k u, ap (λ x. more_high k s x u) (value_above v cut below above s h));
         })
@@ -298,7 +298,7 @@ module _ {T U : Type 0} (fact : Scenario → T → U → Type 0) (more_low : Sce
 -- the same of a tree that is one value
 module _ {T U : Type 0} (fact : Scenario → T → U → Type 0) (more_low : Scenario → T → ℕ → ℕ) (more_high : ℕ → Scenario → T → ℕ → ℕ) (domain : Scenario → Type 0) (x : T) (n : TreeNode T)
     (is : n ≡ Leaf x) (r : TreeNode U) where
-  pub two_leaf_of : IsMade domain (λ s z. fact s x z) (λ s u. more_low s x u) (λ k s u. more_high k s x u) r → IsTwo fact more_low more_high domain n r
+  pub two_leaf_of : IsResultTree domain (λ s z. fact s x z) (λ s u. more_low s x u) (λ k s u. more_high k s x u) r → IsTwo fact more_low more_high domain n r
   two_leaf_of made = subst (λ (m : TreeNode T). IsTwo fact more_low more_high domain m r) (sym is)
       (made_weaker domain _ _ _ _ _ _ r made (λ s z d t. t) (λ s u d. omega arith) (λ k s u d. omega arith))
 
@@ -308,31 +308,32 @@ pub passes_parts : {T : Type 0} (test : ℕ → Bool) (v cut : ℕ) (below above
 passes_parts test v cut below above n is pass = subst (DoForksPass test) is pass
 
 -- if such a tree fits, so do its sides
-pub fit_parts : {T : Type 0} (room : Space) (v cut : ℕ) (below above n : TreeNode T) → n ≡ Fork v cut below above → IsFit room n → IsFit room (Fork v cut below above)
-fit_parts room v cut below above n is fit = subst (IsFit room) is fit
+pub fit_parts : {T : Type 0} (space : Space) (v cut : ℕ) (below above n : TreeNode T) → n ≡ Fork v cut below above → IsFit space n → IsFit space (Fork v cut below above)
+fit_parts space v cut below above n is fit = subst (IsFit space) is fit
 
 -- ---- two spaces, put back above a cut
 
-module _ (rooms shut inner opened : Rooms) (v : ℕ) (highs : Highs) (back : lowered shut v highs ≡ rooms) (same : inner ≡ shut) (put : opened ≡ lowered inner v highs) where
-  pub both_opened : opened ≡ rooms
-  both_opened = put ∙ ap (λ (r : Rooms). lowered r v highs) same ∙ back
+module _ (spaces shut inner opened : SpacePair) (v : ℕ) (highs : Highs) (back : lowered shut v highs ≡ spaces) (same : inner ≡ shut) (put : opened ≡ lowered inner v highs) where
+  pub both_opened : opened ≡ spaces
+  both_opened = put ∙ ap (λ (r : SpacePair). lowered r v highs) same ∙ back
 
   -- what is above the cut in them is in those closed below it
-  pub both_reopened : (upper : Rooms) (cut : ℕ) → ((s : Scenario) → LiesInBoth opened s → cut < number_of s v → LiesInBoth upper s) → (s : Scenario) → LiesInBoth rooms s → cut < number_of s v →
-      LiesInBoth upper s
-  both_reopened upper cut lies_upper s lies h = lies_upper s (subst (λ r. LiesInBoth r s) (sym both_opened) lies) h
+  pub both_reopened : (upper : SpacePair) (cut : ℕ) → ((s : Scenario) → IsInBothSpaces opened s → cut < number_of s v → IsInBothSpaces upper s) → (s : Scenario) → IsInBothSpaces spaces s
+      → cut < number_of s v →
+      IsInBothSpaces upper s
+  both_reopened upper cut lies_upper s lies h = lies_upper s (subst (λ r. IsInBothSpaces r s) (sym both_opened) lies) h
 
 -- ---- a fork at which all scenarios of two spaces go one way
 
-module _ {T U V : Type 0} (answers : T → U → V → Type 0) (rooms inner : Rooms) (v cut : ℕ) (below above n : TreeNode T) (is : n ≡ Fork v cut below above)
-    (other part : TreeNode U) (same : IsWithin rooms.walked other part) (r : TreeNode V) where
+module _ {T U V : Type 0} (answers : T → U → V → Type 0) (spaces inner : SpacePair) (v cut : ℕ) (below above n : TreeNode T) (is : n ≡ Fork v cut below above)
+    (other part : TreeNode U) (same : IsTreeWithin spaces.walked other part) (r : TreeNode V) where
   -- what is made in the spaces left, with the part of the other tree that the space walked comes to, is made with both trees
-  pub made_all_below : IsInner rooms (λ s. number_of s v ≤ cut) inner → IsJoinIn answers (LiesInBoth inner) below part r → IsJoinIn answers (LiesInBoth rooms) n other r
-  made_all_below way made = both_whole answers rooms n other part r same
-      (two_below_of (λ s x z. answers x (value_at part s) z) (λ s x u. low_at part s u) (λ k s x u. high_at k part s u) (LiesInBoth rooms) v cut below above n is r
-      (made_narrower (LiesInBoth inner) (LiesInBoth rooms) _ _ _ r made way.lies) way.goes)
+  pub made_all_below : IsInner spaces (λ s. number_of s v ≤ cut) inner → IsJoinIn answers (IsInBothSpaces inner) below part r → IsJoinIn answers (IsInBothSpaces spaces) n other r
+  made_all_below way made = both_whole answers spaces n other part r same
+      (two_below_of (λ s x z. answers x (value_at part s) z) (λ s x u. low_at part s u) (λ k s x u. high_at k part s u) (IsInBothSpaces spaces) v cut below above n is r
+      (made_narrower (IsInBothSpaces inner) (IsInBothSpaces spaces) _ _ _ r made way.lies) way.goes)
 
-  pub made_all_above : IsInner rooms (λ s. cut < number_of s v) inner → IsJoinIn answers (LiesInBoth inner) above part r → IsJoinIn answers (LiesInBoth rooms) n other r
-  made_all_above way made = both_whole answers rooms n other part r same
-      (two_above_of (λ s x z. answers x (value_at part s) z) (λ s x u. low_at part s u) (λ k s x u. high_at k part s u) (LiesInBoth rooms) v cut below above n is r
-      (made_narrower (LiesInBoth inner) (LiesInBoth rooms) _ _ _ r made way.lies) way.goes)
+  pub made_all_above : IsInner spaces (λ s. cut < number_of s v) inner → IsJoinIn answers (IsInBothSpaces inner) above part r → IsJoinIn answers (IsInBothSpaces spaces) n other r
+  made_all_above way made = both_whole answers spaces n other part r same
+      (two_above_of (λ s x z. answers x (value_at part s) z) (λ s x u. low_at part s u) (λ k s x u. high_at k part s u) (IsInBothSpaces spaces) v cut below above n is r
+      (made_narrower (IsInBothSpaces inner) (IsInBothSpaces spaces) _ _ _ r made way.lies) way.goes)

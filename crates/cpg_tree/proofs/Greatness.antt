@@ -3,21 +3,21 @@ use Rattle.std.proofs.Common.{ℕ, ◌≤◌, ◌≡◌, max, inl, inr, arith, a
 use Rattle.std.proofs.lemmas.Bool.{cases_lt}
 use Rattle.cpg_base.specs.Scenario.{Scenario, number_of}
 use Rattle.cpg_tree.specs.TreeNode.{TreeNode, Leaf, Fork}
-use Rattle.cpg_tree.specs.Space.{Space, Lies}
+use Rattle.cpg_tree.specs.Space.{Space, IsInSpace}
 use Rattle.cpg_tree.specs.Decision.{value_at}
 use Rattle.cpg_tree.specs.Results.{IsFillOf, IsJoinOf}
-use Rattle.cpg_tree.specs.Greater.{IsAtLeast, least_in, most_in}
+use Rattle.cpg_tree.specs.Greater.{IsAtLeast, least_leaf, greatest_leaf}
 use Rattle.cpg_tree.proofs.Forks.{value_below, value_above, made_weaker}
 
 module _ {T : Type 0} (number : T → ℕ) where
-  pub least_under : (a : TreeNode T) (s : Scenario) → least_in number a ≤ number (value_at a s)
+  pub least_under : (a : TreeNode T) (s : Scenario) → least_leaf number a ≤ number (value_at a s)
   least_under (Leaf x) s = omega arith
   least_under (Fork v cut below above) s = elim (cases_lt cut (number_of s v)) [
     | inl h ↦ omega (arith, least_under above s, ap number (value_above v cut below above s h))
     | inr h ↦ omega (arith, least_under below s, ap number (value_below v cut below above s h))
   ]
 
-  pub most_over : (a : TreeNode T) (s : Scenario) → number (value_at a s) ≤ most_in number a
+  pub most_over : (a : TreeNode T) (s : Scenario) → number (value_at a s) ≤ greatest_leaf number a
   most_over (Leaf x) s = omega arith
   most_over (Fork v cut below above) s = elim (cases_lt cut (number_of s v)) [
     | inl h ↦ omega (arith, most_over above s, ap number (value_above v cut below above s h))
@@ -25,17 +25,17 @@ module _ {T : Type 0} (number : T → ℕ) where
   ]
 
 -- what is made of the greater number of two trees
-module _ {T U V : Type 0} (number : T → ℕ) (other_number : U → ℕ) (makes : ℕ → V → Type 0) (room : Space) (a : TreeNode T) (b : TreeNode U) (r : TreeNode V) where
-  pub first_greater : IsAtLeast number other_number a b → IsFillOf (λ x y z. makes (max x (number y)) z) room 0 a r → IsJoinOf (λ x y z. makes (max (number x) (other_number y)) z) room a b r
-  first_greater least made = made_weaker (Lies room) _ _ _ _ _ _ r made
+module _ {T U V : Type 0} (number : T → ℕ) (other_number : U → ℕ) (makes : ℕ → V → Type 0) (space : Space) (a : TreeNode T) (b : TreeNode U) (r : TreeNode V) where
+  pub first_greater : IsAtLeast number other_number a b → IsFillOf (λ x y z. makes (max x (number y)) z) space 0 a r → IsJoinOf (λ x y z. makes (max (number x) (other_number y)) z) space a b r
+  first_greater least made = made_weaker (IsInSpace space) _ _ _ _ _ _ r made
       (λ s z d e. subst (λ (n : ℕ). makes n z) (omega (arith, least s s)) e) (λ s u d. omega arith) (λ k s u d. omega arith)
 
-  pub second_greater : IsAtLeast other_number number b a → IsFillOf (λ x y z. makes (max x (other_number y)) z) room 0 b r → IsJoinOf (λ x y z. makes (max (number x) (other_number y)) z) room a b r
-  second_greater least made = made_weaker (Lies room) _ _ _ _ _ _ r made
+  pub second_greater : IsAtLeast other_number number b a → IsFillOf (λ x y z. makes (max x (other_number y)) z) space 0 b r → IsJoinOf (λ x y z. makes (max (number x) (other_number y)) z) space a b r
+  second_greater least made = made_weaker (IsInSpace space) _ _ _ _ _ _ r made
       (λ s z d e. subst (λ (n : ℕ). makes n z) (omega (arith, least s s)) e) (λ s u d. omega arith) (λ k s u d. omega arith)
 
   -- of one number and a tree
-  pub first_leaf : (x : T) (n : ℕ) → a ≡ Leaf x → n ≡ number x → IsFillOf (λ x y z. makes (max x (other_number y)) z) room n b r →
-      IsJoinOf (λ x y z. makes (max (number x) (other_number y)) z) room a b r
-  first_leaf x n is at made = made_weaker (Lies room) _ _ _ _ _ _ r made
+  pub first_leaf : (x : T) (n : ℕ) → a ≡ Leaf x → n ≡ number x → IsFillOf (λ x y z. makes (max x (other_number y)) z) space n b r →
+      IsJoinOf (λ x y z. makes (max (number x) (other_number y)) z) space a b r
+  first_leaf x n is at made = made_weaker (IsInSpace space) _ _ _ _ _ _ r made
       (λ s z d e. subst (λ (m : ℕ). makes m z) (omega (arith, at, ap (λ (c : TreeNode T). number (value_at c s)) is)) e) (λ s u d. omega arith) (λ k s u d. omega arith)

@@ -8,7 +8,7 @@ pub mod Fits
 pub mod PathLaws
 pub mod Publics
 pub mod Numbers
-pub mod Rooms
+pub mod OpenSpaces
 pub mod Tidy
 pub mod TidyPaths
 pub mod Passing

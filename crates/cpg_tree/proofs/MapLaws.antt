@@ -9,7 +9,7 @@ use Rattle.cpg_tree.specs.declared.item.TreeItem.TheVariants.{Value, Cut}
 use Rattle.cpg_tree.specs.Decision.{IsFit, DoForksPass}
 use Rattle.cpg_tree.specs.Results.{IsMapOf}
 use Rattle.cpg_tree.specs.Flat.{flat}
-use Rattle.cpg_tree.specs.Added.{Adds, ForksEnd, IsForked, IsMapped}
+use Rattle.cpg_tree.specs.Added.{AddsTree, ForksEnd, IsForked, IsMapped}
 use Rattle.cpg_tree.proofs.Forks.{one_fork_of, passes_parts, fit_parts}
 use Rattle.cpg_tree.proofs.Flats.{flat-same}
 
@@ -17,27 +17,27 @@ module _ {T U : Type 0} (answers : T → U → Type 0) where
   mapped_leaf : (x : T) (y : U) → answers x y → IsMapped answers (Leaf x) (Leaf y)
   mapped_leaf x y a = record {
     made = record { value = λ s d. a; lows = λ s v d. omega arith; highs = λ k s v d. omega arith };
-    fit = λ room fit. fit;
+    fit = λ space fit. fit;
     pass = λ test pass. pass;
   }
 
   mapped_fork : (v cut : ℕ) (x y : TreeNode T) (lo hi r : TreeNode U) → IsMapped answers x lo → IsMapped answers y hi → IsForked v cut lo hi r → IsMapped answers (Fork v cut x y) r
   mapped_fork v cut x y lo hi r one two fork = record {
     made = one_fork_of (λ s x z. answers x z) (λ s. ⊤) v cut x y (Fork v cut x y) refl r (λ s. ⊤) (λ s. ⊤) lo hi one.made two.made fork.made (λ s d le. d) (λ s d gt. d);
-    fit = λ room fit. fork.fit room fit.1 fit.2 (one.fit _ fit.3) (two.fit _ fit.4);
+    fit = λ space fit. fork.fit space fit.1 fit.2 (one.fit _ fit.3) (two.fit _ fit.4);
     pass = λ test pass. fork.pass test pass.0 (one.pass test pass.1) (two.pass test pass.2);
   }
 
   -- a value's answer is added
   pub maps_leaf : (x : T) (y : U) (n : TreeNode T) (items : List (TreeItem T)) (old new : List (TreeItem U)) → answers x y → items ≡ flat (Leaf x) → items ≡ flat n → new ≡ old ++
-      (Value y ∷ []) → Adds (IsMapped answers n) old new
+      (Value y ∷ []) → AddsTree (IsMapped answers n) old new
   maps_leaf x y n items old new a is are added =
       (Leaf y, added, subst (λ (m : TreeNode T). IsMapped answers m (Leaf y)) (flat-same (Leaf x) n (sym is ∙ are)) (mapped_leaf x y a))
 
   -- the answers of both sides are added, and then a fork is made of them
   pub maps_fork : (v cut start middle : ℕ) (x y n : TreeNode T) (items : List (TreeItem T)) (old low high new : List (TreeItem U)) → items ≡ flat (Fork v cut x y) → items ≡ flat n →
-      Adds (IsMapped answers x) old low → Adds (IsMapped answers y) low high → start ≡ length old → middle ≡ length low →
-      ForksEnd start middle v cut high new → Adds (IsMapped answers n) old new
+      AddsTree (IsMapped answers x) old low → AddsTree (IsMapped answers y) low high → start ≡ length old → middle ≡ length low →
+      ForksEnd start middle v cut high new → AddsTree (IsMapped answers n) old new
   maps_fork v cut start middle x y n items old low high new is are one two first second forks =
       let fork = forks old one.0 two.0 (record {
         is = two.1 ∙ ap (λ (xs : List (TreeItem U)). xs ++ flat two.0) one.1;

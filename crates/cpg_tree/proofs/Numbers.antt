@@ -8,7 +8,7 @@ use Rattle.cpg_base.specs.Scenario.{number_of_value, Scenario, number_of}
 use Rattle.cpg_base.specs.Numbers.{numbers_below}
 use Rattle.cpg_base.proofs.Lists.{get_or-map-below}
 use Rattle.cpg_tree.specs.TreeNode.{TreeNode, Leaf}
-use Rattle.cpg_tree.specs.Space.{Space, HasFew, IsWhole, is_open_below, is_open_above, above_cut}
+use Rattle.cpg_tree.specs.Space.{Space, HasAtMostFaults, IsWhole, is_open_below, is_open_above, above_cut}
 use Rattle.cpg_tree.specs.Decision.{value_at, IsGood}
 use Rattle.cpg_tree.specs.Results.{IsForkOf}
 use Rattle.cpg_tree.specs.Tree.{IsNumber}
@@ -44,24 +44,24 @@ more_counts p first k above r rest fork = record {
   only = fork_only p first (Leaf first) above r (leaf_only p first) rest.only fork;
 }
 
-module _ (room : Space) (p first k : ℕ) (count : p < 128) (leaves : LeavesCounts room p first k) (less : first < k) where
-  pub counts_open_below : is_open_below room p first ≡ true
-  counts_open_below = le-leb (get_or room.low p 0) first (omega (arith, leaves.low))
+module _ (space : Space) (p first k : ℕ) (count : p < 128) (leaves : LeavesCounts space p first k) (less : first < k) where
+  pub counts_open_below : is_open_below space p first ≡ true
+  counts_open_below = le-leb (get_or space.low p 0) first (omega (arith, leaves.low))
 
-  pub counts_open_above : is_open_above room p first ≡ true
-  counts_open_above = and_from _ _ (lt-ltb first (get_or room.high p 0) (omega (arith, leaves.high, less)))
-      (or_right (nat_le 128 p) _ (lt-ltb first (get_or room.low p 0 + room.left) (omega (arith, leaves.low, leaves.left, less))))
+  pub counts_open_above : is_open_above space p first ≡ true
+  counts_open_above = and_from _ _ (lt-ltb first (get_or space.high p 0) (omega (arith, leaves.high, less)))
+      (or_right (nat_le 128 p) _ (lt-ltb first (get_or space.low p 0 + space.left) (omega (arith, leaves.low, leaves.left, less))))
 
-  pub counts_above : LeavesCounts (above_cut room p first) p (first + 1) k
+  pub counts_above : LeavesCounts (above_cut space p first) p (first + 1) k
   counts_above = record {
     long = search rules;
-    low = get_or-set_same room.low p (first + 1) 0 (omega (arith, leaves.long, count));
+    low = get_or-set_same space.low p (first + 1) 0 (omega (arith, leaves.long, count));
     high = leaves.high;
-    left = omega (arith, leaves.left, less, leaves.low, cond-true (nat_lt p 128) (first + 1 - get_or room.low p 0) 0 (lt-ltb p 128 count));
+    left = omega (arith, leaves.left, less, leaves.low, cond-true (nat_lt p 128) (first + 1 - get_or space.low p 0) 0 (lt-ltb p 128 count));
   }
 
-pub whole_counts : (k : ℕ) (room : Space) (p : ℕ) → p < 128 → IsWhole k room → LeavesCounts room p 0 k
-whole_counts k room p count whole = record { long = whole.long; low = whole.lows p (omega (arith, count)); high = whole.counts p count; left = omega (arith, whole.left) }
+pub whole_counts : (k : ℕ) (space : Space) (p : ℕ) → p < 128 → IsWhole k space → LeavesCounts space p 0 k
+whole_counts k space p count whole = record { long = whole.long; low = whole.lows p (omega (arith, count)); high = whole.counts p count; left = omega (arith, whole.left) }
 
 -- ---- values
 
@@ -74,16 +74,16 @@ value_is v r fork = record {
   only = fork_only v 0 (Leaf false) (Leaf true) r (leaf_only v false) (leaf_only v true) fork;
 }
 
-module _ (k : ℕ) (room : Space) (whole : IsWhole k room) (v : ℕ) (value : 128 ≤ v) (there : v < 256) where
-  pub value_open_below : is_open_below room v 0 ≡ true
-  value_open_below = le-leb (get_or room.low v 0) 0 (omega (arith, whole.lows v there))
+module _ (k : ℕ) (space : Space) (whole : IsWhole k space) (v : ℕ) (value : 128 ≤ v) (there : v < 256) where
+  pub value_open_below : is_open_below space v 0 ≡ true
+  value_open_below = le-leb (get_or space.low v 0) 0 (omega (arith, whole.lows v there))
 
-  pub value_open_above : is_open_above room v 0 ≡ true
-  value_open_above = and_from _ _ (lt-ltb 0 (get_or room.high v 0) (omega (arith, whole.values v value there))) (or_left (nat_le 128 v) _ (le-leb 128 v value))
+  pub value_open_above : is_open_above space v 0 ≡ true
+  value_open_above = and_from _ _ (lt-ltb 0 (get_or space.high v 0) (omega (arith, whole.values v value there))) (or_left (nat_le 128 v) _ (le-leb 128 v value))
 
 -- ---- said of paths
 
-pub number_paths : {T : Type 0} (v k : ℕ) (number : T → ℕ) (node : TreeNode T) → IsGood k node → ((s : Scenario) → HasFew k s → number (value_at node s) ≡ number_of s v) → ForksOnly v node →
+pub number_paths : {T : Type 0} (v k : ℕ) (number : T → ℕ) (node : TreeNode T) → IsGood k node → ((s : Scenario) → HasAtMostFaults k s → number (value_at node s) ≡ number_of s v) → ForksOnly v node →
     IsNumber v k number (state k node)
 number_paths v k number node good value only = record {
   faults = refl;
@@ -94,7 +94,7 @@ number_paths v k number node good value only = record {
 
 -- ---- there is a space of all scenarios
 
-pub some_whole : (k : ℕ) → (room : Space) × IsWhole k room
+pub some_whole : (k : ℕ) → (space : Space) × IsWhole k space
 some_whole k = (
   record { low = replicate 256 0; high = map tops (numbers_below 256); left = k },
   record {
@@ -110,7 +110,7 @@ some_whole k = (
     tops : ℕ → ℕ
     tops v = cond (nat_lt v 128) k 1
 
-module _ (k : ℕ) (s : Scenario) (few : HasFew k s) (v : ℕ) where
+module _ (k : ℕ) (s : Scenario) (few : HasAtMostFaults k s) (v : ℕ) where
   pub count_at_most : v < 128 → number_of s v ≤ k
   count_at_most l = omega (arith, number_le_top k s few v, cond-true (nat_lt v 128) k 1 (lt-ltb v 128 l))
 

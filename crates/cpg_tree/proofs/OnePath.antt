@@ -8,8 +8,8 @@ use Rattle.cpg_base.specs.Numbers.{numbers_below}
 use Rattle.cpg_base.proofs.Lists.{Contains-first, Contains-cases, Contains-nil, Contains-filter, Contains-filter_parts}
 use Rattle.cpg_base.proofs.Sums.{sum_by-below_first, same_sum_by, sum_by_zeros}
 use Rattle.cpg_base.specs.Scenario.{Scenario, IsScenario}
-use Rattle.cpg_tree.specs.Space.{HasFew}
-use Rattle.cpg_tree.specs.Tree.{Path, TreeState, is_on, IsOn, IsAsWide, IsMap, HasOnePathEach}
+use Rattle.cpg_tree.specs.Space.{HasAtMostFaults}
+use Rattle.cpg_tree.specs.Tree.{Path, TreeState, is_on, IsOnPath, IsAsWide, IsMap, HasOnePathEach}
 
 -- ---- a scenario of the graph has at most its faults
 
@@ -27,7 +27,7 @@ few_sum (x ∷ xs) (suc n) = omega (
     next : (i : ℕ) → get_or (x ∷ xs) (i + 1) 0 ≡ get_or xs i 0
     next i = grind (arith, common_steps)
 
-pub scenario_few : (g : Graph) (s : Scenario) → IsScenario g s → HasFew g.faults s
+pub scenario_few : (g : Graph) (s : Scenario) → IsScenario g s → HasAtMostFaults g.faults s
 scenario_few g s law = omega (arith, few_sum s.faults 128, law.budget)
 
 -- ---- the path of a scenario
@@ -36,7 +36,7 @@ first_of_one : {X : Type 0} (xs : List X) → length xs ≡ 1 → (x : X) × Con
 first_of_one [] e = absurd (omega (arith, e))
 first_of_one (x ∷ xs) e = (x, Contains-first x xs)
 
-pub the_path : {T : Type 0} (k : ℕ) (paths : List (Path T)) → HasOnePathEach k paths → (s : Scenario) → HasFew k s → (x : Path T) × IsOn paths s x
+pub the_path : {T : Type 0} (k : ℕ) (paths : List (Path T)) → HasOnePathEach k paths → (s : Scenario) → HasAtMostFaults k s → (x : Path T) × IsOnPath paths s x
 the_path k paths each s few =
     let f = first_of_one (filter (is_on s) paths) (each s few) in
     let parts = Contains-filter_parts (is_on s) paths f.0 f.1 in
@@ -53,7 +53,7 @@ same_of_one [] e x y a b = absurd (Contains-nil x a)
 same_of_one (z ∷ []) e x y a b = sym (the_only z x a) ∙ the_only z y b
 same_of_one (z ∷ w ∷ zs) e x y a b = absurd (omega (arith, e))
 
-pub same_path : {T : Type 0} (k : ℕ) (paths : List (Path T)) → HasOnePathEach k paths → (s : Scenario) → HasFew k s → (x y : Path T) → IsOn paths s x → IsOn paths s y → x ≡ y
+pub same_path : {T : Type 0} (k : ℕ) (paths : List (Path T)) → HasOnePathEach k paths → (s : Scenario) → HasAtMostFaults k s → (x y : Path T) → IsOnPath paths s x → IsOnPath paths s y → x ≡ y
 same_path k paths each s few x y on_x on_y =
     same_of_one (filter (is_on s) paths) (each s few) x y (Contains-filter (is_on s) paths x on_x.matched on_x.stands) (Contains-filter (is_on s) paths y on_y.matched on_y.stands)
 

@@ -14,46 +14,46 @@ use Rattle.cpg_cube.specs.Narrow.{narrowed_by}
 use Rattle.cpg_cube.proofs.CubeLows.{holds-low, holds-high, holds-from}
 use Rattle.cpg_cube.proofs.Narrow.{matches-narrowed, rising-narrowed}
 use Rattle.cpg_tree.specs.TreeNode.{TreeNode, Leaf, Fork}
-use Rattle.cpg_tree.specs.Space.{Space, HasFew, IsWhole, below_cut, above_cut}
+use Rattle.cpg_tree.specs.Space.{Space, HasAtMostFaults, IsWhole, below_cut, above_cut}
 use Rattle.cpg_tree.specs.Decision.{value_at, low_at, high_at, IsFit, IsGood, HasCuts}
 use Rattle.cpg_tree.specs.Paths.{up_to, above, paths_from, paths_of}
-use Rattle.cpg_tree.specs.Tree.{Path, is_on, IsOn}
+use Rattle.cpg_tree.specs.Tree.{Path, is_on, IsOnPath}
 use Rattle.cpg_tree.proofs.Forks.{value_below, value_above, low_below, low_above, low_here, high_below, high_above, high_here}
 use Rattle.cpg_cube.proofs.Narrowed.{low-other, low-same, high-other, high-same}
 use Rattle.cpg_tree.proofs.Spaces.{number_le_top}
 
 -- no high of the space is above the whole range
 Reaches : ℕ → Space → Type 0
-Reaches k room = (v : ℕ) → v < 256 → get_or room.high v 0 ≤ top k v
+Reaches k space = (v : ℕ) → v < 256 → get_or space.high v 0 ≤ top k v
 
-reaches_below : (k : ℕ) (room : Space) (v cut : ℕ) → cut < top k v → Reaches k room → Reaches k (below_cut room v cut)
+reaches_below : (k : ℕ) (space : Space) (v cut : ℕ) → cut < top k v → Reaches k space → Reaches k (below_cut space v cut)
 unfolding Reaches
-reaches_below k room v cut less h u l = by_place (cases_eq u v)
+reaches_below k space v cut less h u l = by_place (cases_eq u v)
   where
-    at_cut : (v < length room.high) ⊎ (length room.high ≤ v) → get_or (slice_set room.high v cut) v 0 ≤ top k v
-    at_cut (inl m) = omega (arith, get_or-set_same room.high v cut 0 m, less)
+    at_cut : (v < length space.high) ⊎ (length space.high ≤ v) → get_or (slice_set space.high v cut) v 0 ≤ top k v
+    at_cut (inl m) = omega (arith, get_or-set_same space.high v cut 0 m, less)
     at_cut (inr past) = omega (arith, less, grown past)
       where
-        grown : length room.high ≤ v → get_or (slice_set room.high v cut) v 0 ≡ 0
-        grown past = get_or_past (slice_set room.high v cut) v 0 (omega (arith, past, long_set room.high v cut))
+        grown : length space.high ≤ v → get_or (slice_set space.high v cut) v 0 ≡ 0
+        grown past = get_or_past (slice_set space.high v cut) v 0 (omega (arith, past, long_set space.high v cut))
           where
             long_set : (xs : List ℕ) (i y : ℕ) → length (slice_set xs i y) ≡ length xs
             long_set xs i y = search rules
 
-    by_place : (u ≡ v) ⊎ (u ≢ v) → get_or (slice_set room.high v cut) u 0 ≤ top k u
-    by_place (inr n) = omega (arith, get_or-set_other room.high v u cut 0 n, h u l)
-    by_place (inl e) = subst (λ w. get_or (slice_set room.high v cut) w 0 ≤ top k w) (sym e) (at_cut (cases_lt v (length room.high)))
+    by_place : (u ≡ v) ⊎ (u ≢ v) → get_or (slice_set space.high v cut) u 0 ≤ top k u
+    by_place (inr n) = omega (arith, get_or-set_other space.high v u cut 0 n, h u l)
+    by_place (inl e) = subst (λ w. get_or (slice_set space.high v cut) w 0 ≤ top k w) (sym e) (at_cut (cases_lt v (length space.high)))
 
-fits_cuts : {T : Type 0} (k : ℕ) (node : TreeNode T) (room : Space) → Reaches k room → IsFit room node → HasCuts k node
+fits_cuts : {T : Type 0} (k : ℕ) (node : TreeNode T) (space : Space) → Reaches k space → IsFit space node → HasCuts k node
 unfolding Reaches
-fits_cuts k (Leaf x) room h fit = tt
-fits_cuts k (Fork v cut below above) room h fit =
-    let less : cut < top k v = omega (arith, ltb-true cut (get_or room.high v 0) (and_parts (nat_lt cut (get_or room.high v 0)) _ fit.2).0, h v fit.0) in
-    (fit.0, less, fits_cuts k below (below_cut room v cut) (reaches_below k room v cut less h) fit.3, fits_cuts k above (above_cut room v cut) h fit.4)
+fits_cuts k (Leaf x) space h fit = tt
+fits_cuts k (Fork v cut below above) space h fit =
+    let less : cut < top k v = omega (arith, ltb-true cut (get_or space.high v 0) (and_parts (nat_lt cut (get_or space.high v 0)) _ fit.2).0, h v fit.0) in
+    (fit.0, less, fits_cuts k below (below_cut space v cut) (reaches_below k space v cut less h) fit.3, fits_cuts k above (above_cut space v cut) h fit.4)
 
-whole_reaches : (k : ℕ) (room : Space) → IsWhole k room → Reaches k room
+whole_reaches : (k : ℕ) (space : Space) → IsWhole k space → Reaches k space
 unfolding Reaches
-whole_reaches k room whole v l = elim (cases_lt v 128) [
+whole_reaches k space whole v l = elim (cases_lt v 128) [
   | inl m ↦ omega (arith, whole.counts v m, cond-true (nat_lt v 128) k 1 (lt-ltb v 128 m))
   | inr m ↦ omega (arith, whole.values v m l, cond-false (nat_lt v 128) k 1 (le-ltb v 128 m))
 ]
@@ -89,15 +89,15 @@ module _ (k : ℕ) (cube : List Literal) (tidy : IsTidy k cube) (v cut : ℕ) (l
 
 module _ {T : Type 0} (k : ℕ) (s : Scenario) where
   -- the path on from a cube tells what the scenario finds
-  pub record Tells (cube : List Literal) (node : TreeNode T) (x : Path T) : Type 0 where
+  pub record IsPathOf (cube : List Literal) (node : TreeNode T) (x : Path T) : Type 0 where
     pub came : matches cube s ≡ true
     pub value : x.1 ≡ value_at node s
     pub low : (v : ℕ) → low_in x.0 v ≡ max (low_in cube v) (low_at node s v)
     pub high : (v : ℕ) → high_in k x.0 v ≡ min (high_in k cube v) (high_at k node s v)
 
-  tells_below : (cube : List Literal) → IsTidy k cube → (v cut : ℕ) (below : TreeNode T) (upper : TreeNode T) → cut < top k v → (x : Path T) →
-      Tells (narrowed_by (up_to v cut) cube) below x → Tells cube (Fork v cut below upper) x
-  tells_below cube tidy v cut below upper less x t =
+  path_below : (cube : List Literal) → IsTidy k cube → (v cut : ℕ) (below : TreeNode T) (upper : TreeNode T) → cut < top k v → (x : Path T) →
+      IsPathOf (narrowed_by (up_to v cut) cube) below x → IsPathOf cube (Fork v cut below upper) x
+  path_below cube tidy v cut below upper less x t =
       let both = and_parts (holds s (up_to v cut)) (matches cube s) (sym (matches-narrowed s (up_to v cut) cube) ∙ t.came) in
       let le : number_of s v ≤ cut = holds-high s (up_to v cut) both.0 in
       record {
@@ -115,9 +115,9 @@ module _ {T : Type 0} (k : ℕ) (s : Scenario) where
         ];
       }
 
-  tells_above : (cube : List Literal) → IsTidy k cube → (v cut : ℕ) (below : TreeNode T) (upper : TreeNode T) → cut < top k v → (x : Path T) →
-      Tells (narrowed_by (above k v cut) cube) upper x → Tells cube (Fork v cut below upper) x
-  tells_above cube tidy v cut below upper less x t =
+  path_above : (cube : List Literal) → IsTidy k cube → (v cut : ℕ) (below : TreeNode T) (upper : TreeNode T) → cut < top k v → (x : Path T) →
+      IsPathOf (narrowed_by (above k v cut) cube) upper x → IsPathOf cube (Fork v cut below upper) x
+  path_above cube tidy v cut below upper less x t =
       let both = and_parts (holds s (above k v cut)) (matches cube s) (sym (matches-narrowed s (above k v cut) cube) ∙ t.came) in
       let gt : cut < number_of s v = let l = holds-low s (above k v cut) both.0 in omega (arith, l) in
       record {
@@ -135,30 +135,30 @@ module _ {T : Type 0} (k : ℕ) (s : Scenario) where
         ];
       }
 
-  pub tells : (node : TreeNode T) (cube : List Literal) → IsTidy k cube → HasCuts k node → (x : Path T) → Contains (paths_from k cube node) x → matches x.0 s ≡ true → Tells cube node x
-  tells (Leaf y) cube tidy cuts x c m = only (Contains-cases (cube, y) [] x c)
+  pub is_path : (node : TreeNode T) (cube : List Literal) → IsTidy k cube → HasCuts k node → (x : Path T) → Contains (paths_from k cube node) x → matches x.0 s ≡ true → IsPathOf cube node x
+  is_path (Leaf y) cube tidy cuts x c m = only (Contains-cases (cube, y) [] x c)
     where
-      only : ((cube, y) ≡ x) ⊎ Contains [] x → Tells cube (Leaf y) x
-      only (inl e) = subst (λ (z : Path T). Tells cube (Leaf y) z) e (record {
+      only : ((cube, y) ≡ x) ⊎ Contains [] x → IsPathOf cube (Leaf y) x
+      only (inl e) = subst (λ (z : Path T). IsPathOf cube (Leaf y) z) e (record {
         came = subst (λ (z : Path T). matches z.0 s ≡ true) (sym e) m;
         value = refl;
         low = λ v. omega arith;
         high = λ v. omega (arith, tidy.within v);
       })
       only (inr none) = absurd (Contains-nil x none)
-  tells (Fork v cut below upper) cube tidy cuts x c m =
+  is_path (Fork v cut below upper) cube tidy cuts x c m =
       elim (Contains-append_cases (paths_from k (narrowed_by (up_to v cut) cube) below) (paths_from k (narrowed_by (above k v cut) cube) upper) x c) [
-        | inl i ↦ tells_below cube tidy v cut below upper cuts.1 x (tells below (narrowed_by (up_to v cut) cube) (tidy_below k cube tidy v cut cuts.1) cuts.2 x i m)
-        | inr i ↦ tells_above cube tidy v cut below upper cuts.1 x (tells upper (narrowed_by (above k v cut) cube) (tidy_above k cube tidy v cut cuts.1) cuts.3 x i m)
+        | inl i ↦ path_below cube tidy v cut below upper cuts.1 x (is_path below (narrowed_by (up_to v cut) cube) (tidy_below k cube tidy v cut cuts.1) cuts.2 x i m)
+        | inr i ↦ path_above cube tidy v cut below upper cuts.1 x (is_path upper (narrowed_by (above k v cut) cube) (tidy_above k cube tidy v cut cuts.1) cuts.3 x i m)
       ]
 
   -- a scenario that the cube doesn't match is on no path
   none_from : (node : TreeNode T) (cube : List Literal) → IsTidy k cube → HasCuts k node → matches cube s ≡ false → length (filter (is_on s) (paths_from k cube node)) ≡ 0
   none_from node cube tidy cuts off = ap length
-      (filter_none (is_on s) (paths_from k cube node) (λ x c. false_from_ne_true (matches x.0 s) (λ m. both_ways (matches cube s) off (tells node cube tidy cuts x c m).came)))
+      (filter_none (is_on s) (paths_from k cube node) (λ x c. false_from_ne_true (matches x.0 s) (λ m. both_ways (matches cube s) off (is_path node cube tidy cuts x c m).came)))
 
   -- one that it matches is on one
-  pub one_from : HasFew k s → (node : TreeNode T) (cube : List Literal) → IsTidy k cube → HasCuts k node → matches cube s ≡ true → length (filter (is_on s) (paths_from k cube node)) ≡ 1
+  pub one_from : HasAtMostFaults k s → (node : TreeNode T) (cube : List Literal) → IsTidy k cube → HasCuts k node → matches cube s ≡ true → length (filter (is_on s) (paths_from k cube node)) ≡ 1
   one_from few (Leaf y) cube tidy cuts on = ap length (cond-true (matches cube s) ((cube, y) ∷ []) [] on)
   one_from few (Fork v cut below upper) cube tidy cuts on =
       ap length (filter-append (is_on s) (paths_from k (narrowed_by (up_to v cut) cube) below) (paths_from k (narrowed_by (above k v cut) cube) upper))
@@ -184,7 +184,7 @@ no_literals : (k : ℕ) → IsTidy k []
 no_literals k = record { rising = λ i j d l m. absurd (omega (arith, m)); within = λ v. omega arith }
 
 module _ {T : Type 0} (k : ℕ) (node : TreeNode T) (good : IsGood k node) (s : Scenario) where
-  pub one_path : HasFew k s → length (filter (is_on s) (paths_of k node)) ≡ 1
+  pub one_path : HasAtMostFaults k s → length (filter (is_on s) (paths_of k node)) ≡ 1
   one_path few = one_from k s few node [] (no_literals k) (good_cuts k node good) refl
 
   -- the path of a scenario has the value and the ranges that it finds
@@ -193,6 +193,6 @@ module _ {T : Type 0} (k : ℕ) (node : TreeNode T) (good : IsGood k node) (s : 
     pub low : (v : ℕ) → low_in x.0 v ≡ low_at node s v
     pub high : (v : ℕ) → high_in k x.0 v ≡ min (top k v) (high_at k node s v)
 
-  pub found : (x : Path T) → IsOn (paths_of k node) s x → Found x
-  found x on = let t = tells k s node [] (no_literals k) (good_cuts k node good) x on.stands on.matched in
+  pub found : (x : Path T) → IsOnPath (paths_of k node) s x → Found x
+  found x on = let t = is_path k s node [] (no_literals k) (good_cuts k node good) x on.stands on.matched in
       record { value = t.value; low = λ v. omega (arith, t.low v); high = λ v. t.high v }

@@ -4,7 +4,7 @@ use Rattle.cpg_base.specs.Scenario.{Scenario}
 use Rattle.cpg_cube.specs.Cube.{low_in, high_in}
 use Rattle.cpg_base.specs.Variable.{top}
 use Rattle.cpg_tree.specs.TreeNode.{TreeNode}
-use Rattle.cpg_tree.specs.Space.{Space, Lies, HasFew, IsWhole}
+use Rattle.cpg_tree.specs.Space.{Space, IsInSpace, HasAtMostFaults, IsWhole}
 use Rattle.cpg_tree.specs.Decision.{value_at, low_at, high_at, IsGood, IsFit, DoForksPass}
 use Rattle.cpg_tree.specs.Paths.{paths_of}
 use Rattle.cpg_tree.specs.declared.item.TreeItem.{TreeItem}
@@ -12,7 +12,7 @@ use Rattle.cpg_tree.specs.Flat.{IsFlat, flat}
 use Rattle.cpg_tree.specs.ReadBack.{IsGoodList, paths_in}
 use Rattle.cpg_tree.specs.Added.{IsMapped, IsJoined, IsPicked}
 use Rattle.cpg_tree.specs.Results.{IsMapOf, IsJoinOf, IsPickOf, picked}
-use Rattle.cpg_tree.specs.Tree.{Path, TreeState, IsOn, IsMap, IsJoin, IsPick, IsValueAt, DoPathsPass}
+use Rattle.cpg_tree.specs.Tree.{Path, TreeState, IsOnPath, IsMap, IsJoin, IsPick, IsValueAt, DoPathsPass}
 use Rattle.cpg_tree.proofs.Flats.{flat-same, paths_in-flat}
 use Rattle.cpg_tree.proofs.PathLaws.{found}
 use Rattle.cpg_tree.proofs.Passing.{forks_of_paths, paths_of_forks}
@@ -37,8 +37,8 @@ module _ {T : Type 0} (k : ℕ) (items shown : List (TreeItem T)) (same : shown 
 pub state_seen : {T : Type 0} (t : TreeState T) (a : TreeNode T) → t.paths ≡ paths_of t.faults a → state t.faults a ≡ t
 state_seen {T} t a paths = ap (λ (ps : List (Path T)). record { faults = t.faults; paths = ps }) (sym paths)
 
-module _ (k : ℕ) (room : Space) (all : (s : Scenario) → HasFew k s → Lies room s) where
-  pub join_paths : {T U V : Type 0} (answers : T → U → V → Type 0) (a : TreeNode T) (b : TreeNode U) (r : TreeNode V) → IsGood k a → IsGood k b → IsGood k r → IsJoinOf answers room a b r →
+module _ (k : ℕ) (space : Space) (all : (s : Scenario) → HasAtMostFaults k s → IsInSpace space s) where
+  pub join_paths : {T U V : Type 0} (answers : T → U → V → Type 0) (a : TreeNode T) (b : TreeNode U) (r : TreeNode V) → IsGood k a → IsGood k b → IsGood k r → IsJoinOf answers space a b r →
       IsJoin answers (state k a) (state k b) (state k r)
   join_paths answers a b r good_a good_b good_r made = record {
     faults = refl;
@@ -58,7 +58,7 @@ module _ (k : ℕ) (room : Space) (all : (s : Scenario) → HasFew k s → Lies 
         };
   }
 
-  pub pick_paths : {T : Type 0} (chooser : TreeNode Bool) (on off r : TreeNode T) → IsGood k chooser → IsGood k on → IsGood k off → IsGood k r → IsPickOf room chooser on off r →
+  pub pick_paths : {T : Type 0} (chooser : TreeNode Bool) (on off r : TreeNode T) → IsGood k chooser → IsGood k on → IsGood k off → IsGood k r → IsPickOf space chooser on off r →
       IsPick (state k chooser) (state k on) (state k off) (state k r)
   pick_paths {T} chooser on off r good_c good_on good_off good_r made = record {
     faults = refl;
@@ -75,15 +75,15 @@ module _ (k : ℕ) (room : Space) (all : (s : Scenario) → HasFew k s → Lies 
         };
   }
     where
-      picked_value : (b : Bool) (s : Scenario) (x : Path T) → IsOn (if b then paths_of k on else paths_of k off) s x → x.1 ≡ value_at (picked b on off) s
+      picked_value : (b : Bool) (s : Scenario) (x : Path T) → IsOnPath (if b then paths_of k on else paths_of k off) s x → x.1 ≡ value_at (picked b on off) s
       picked_value true s x h = (found k on good_on s x h).value
       picked_value false s x h = (found k off good_off s x h).value
 
-      picked_low : (b : Bool) (s : Scenario) (x : Path T) → IsOn (if b then paths_of k on else paths_of k off) s x → (v : ℕ) → low_in x.0 v ≡ low_at (picked b on off) s v
+      picked_low : (b : Bool) (s : Scenario) (x : Path T) → IsOnPath (if b then paths_of k on else paths_of k off) s x → (v : ℕ) → low_in x.0 v ≡ low_at (picked b on off) s v
       picked_low true s x h v = (found k on good_on s x h).low v
       picked_low false s x h v = (found k off good_off s x h).low v
 
-      picked_high : (b : Bool) (s : Scenario) (x : Path T) → IsOn (if b then paths_of k on else paths_of k off) s x → (v : ℕ) → high_in k x.0 v ≡ min (top k v) (high_at k (picked b on off) s v)
+      picked_high : (b : Bool) (s : Scenario) (x : Path T) → IsOnPath (if b then paths_of k on else paths_of k off) s x → (v : ℕ) → high_in k x.0 v ≡ min (top k v) (high_at k (picked b on off) s v)
       picked_high true s x h v = (found k on good_on s x h).high v
       picked_high false s x h v = (found k off good_off s x h).high v
 
@@ -109,14 +109,15 @@ map_paths k answers a r good_a good_r made = record {
 -- what is made of two trees, said of what callers see of them
 module _ {T U V : Type 0} (k l : ℕ) (a : TreeNode T) (b : TreeNode U) (r : TreeNode V) (first : TreeState T) (second : TreeState U) (is_first : state k a ≡ first)
     (is_second : state l b ≡ second) where
-  pub joined_seen : (answers : T → U → V → Type 0) → first.faults ≡ second.faults → IsGood k a → IsGood l b → (room : Space) → IsWhole k room → ((s : Scenario) → HasFew k s → Lies room s) →
-      IsFit room r → IsJoinOf answers room a b r →
+  pub joined_seen : (answers : T → U → V → Type 0) → first.faults ≡ second.faults → IsGood k a → IsGood l b → (space : Space) → IsWhole k space
+      → ((s : Scenario) → HasAtMostFaults k s → IsInSpace space s) →
+      IsFit space r → IsJoinOf answers space a b r →
       IsJoin answers first second (state k r)
-  joined_seen answers same good_a good_b room whole all fit made =
+  joined_seen answers same good_a good_b space whole all fit made =
       let equal : k ≡ l = ap (λ (t : TreeState T). t.faults) is_first ∙ same ∙ sym (ap (λ (t : TreeState U). t.faults) is_second) in
       subst (λ (x : TreeState T). IsJoin answers x second (state k r)) is_first
       (subst (λ (y : TreeState U). IsJoin answers (state k a) y (state k r)) (ap (λ (m : ℕ). state m b) equal ∙ is_second)
-      (join_paths k room all answers a b r good_a (subst (λ (m : ℕ). IsGood m b) (sym equal) good_b) (room, whole, fit) made))
+      (join_paths k space all answers a b r good_a (subst (λ (m : ℕ). IsGood m b) (sym equal) good_b) (space, whole, fit) made))
 
   pub joined_pass : (test : ℕ → Bool) → (DoForksPass test a → DoForksPass test b → DoForksPass test r) → DoPathsPass test first.paths → DoPathsPass test second.paths → DoPathsPass test (paths_of k r)
   joined_pass test pass on_first on_second = paths_of_forks test k r (pass
@@ -126,8 +127,8 @@ module _ {T U V : Type 0} (k l : ℕ) (a : TreeNode T) (b : TreeNode U) (r : Tre
 -- ---- what is made of trees that callers see
 
 -- the list of a tree that is made fits the space of all scenarios
-pub good_made : {T : Type 0} (k : ℕ) (room : Space) (r : TreeNode T) (items : List (TreeItem T)) → IsWhole k room → IsFit room r → items ≡ flat r → IsGoodList k items
-good_made k room r items whole fit are = (r, are, (room, whole, fit))
+pub good_made : {T : Type 0} (k : ℕ) (space : Space) (r : TreeNode T) (items : List (TreeItem T)) → IsWhole k space → IsFit space r → items ≡ flat r → IsGoodList k items
+good_made k space r items whole fit are = (r, are, (space, whole, fit))
 
 module _ {T U : Type 0} (answers : T → U → Type 0) (t : TreeState T) (n : TreeNode T) (good : IsGood t.faults n) (paths : t.paths ≡ paths_of t.faults n) (k : ℕ) (same : k ≡ t.faults) (r : TreeNode U)
     (mapped : IsMapped answers n r) where
@@ -148,12 +149,12 @@ module _ {T U : Type 0} (answers : T → U → Type 0) (t : TreeState T) (n : Tr
 module _ {T U V : Type 0} (first : TreeState T) (second : TreeState U) (a : TreeNode T) (b : TreeNode U) (good_a : IsGood first.faults a) (good_b : IsGood second.faults b)
     (paths_a : first.paths ≡ paths_of first.faults a) (paths_b : second.paths ≡ paths_of second.faults b) (k : ℕ) (same : k ≡ first.faults) (r : TreeNode V) (made : TreeState V)
     (is : made ≡ state k r) where
-  pub join_shown : (answers : T → U → V → Type 0) → first.faults ≡ second.faults → (room : Space) → IsWhole k room → ((s : Scenario) → HasFew k s → Lies room s) →
-      IsFit room r → IsJoinOf answers room a b r →
+  pub join_shown : (answers : T → U → V → Type 0) → first.faults ≡ second.faults → (space : Space) → IsWhole k space → ((s : Scenario) → HasAtMostFaults k s → IsInSpace space s) →
+      IsFit space r → IsJoinOf answers space a b r →
       IsJoin answers first second made
-  join_shown answers equal room whole all fit joined = subst (IsJoin answers first second) (ap (λ (m : ℕ). state m r) (sym same) ∙ sym is)
-      (joined_seen first.faults second.faults a b r first second (state_seen first a paths_a) (state_seen second b paths_b) answers equal good_a good_b room
-      (subst (λ (m : ℕ). IsWhole m room) same whole) (λ s few. all s (subst (λ (m : ℕ). HasFew m s) (sym same) few)) fit joined)
+  join_shown answers equal space whole all fit joined = subst (IsJoin answers first second) (ap (λ (m : ℕ). state m r) (sym same) ∙ sym is)
+      (joined_seen first.faults second.faults a b r first second (state_seen first a paths_a) (state_seen second b paths_b) answers equal good_a good_b space
+      (subst (λ (m : ℕ). IsWhole m space) same whole) (λ s few. all s (subst (λ (m : ℕ). HasAtMostFaults m s) (sym same) few)) fit joined)
 
   pub join_passes : (test : ℕ → Bool) → (DoForksPass test a → DoForksPass test b → DoForksPass test r) → DoPathsPass test first.paths → DoPathsPass test second.paths → DoPathsPass test made.paths
   join_passes test pass on_first on_second = subst (λ (u : TreeState V). DoPathsPass test u.paths) (ap (λ (m : ℕ). state m r) (sym same) ∙ sym is)
@@ -164,10 +165,10 @@ module _ {T : Type 0} (chooser : TreeState Bool) (first second : TreeState T) (c
     (good_b : IsGood second.faults b) (paths_c : chooser.paths ≡ paths_of chooser.faults c) (paths_a : first.paths ≡ paths_of first.faults a) (paths_b : second.paths ≡ paths_of second.faults b)
     (k : ℕ)
     (same : k ≡ chooser.faults) (r : TreeNode T) (made : TreeState T) (is : made ≡ state k r) where
-  pub pick_shown : chooser.faults ≡ first.faults → chooser.faults ≡ second.faults → (room : Space) → IsWhole k room → ((s : Scenario) → HasFew k s → Lies room s) → IsFit room r →
-      IsPickOf room c a b r →
+  pub pick_shown : chooser.faults ≡ first.faults → chooser.faults ≡ second.faults → (space : Space) → IsWhole k space → ((s : Scenario) → HasAtMostFaults k s → IsInSpace space s) → IsFit space r →
+      IsPickOf space c a b r →
       IsPick chooser first second made
-  pick_shown one two room whole all fit picked =
+  pick_shown one two space whole all fit picked =
       let m : ℕ = chooser.faults in
       let equal_a : state m a ≡ first = ap (λ (l : ℕ). state l a) one ∙ state_seen first a paths_a in
       let equal_b : state m b ≡ second = ap (λ (l : ℕ). state l b) two ∙ state_seen second b paths_b in
@@ -175,9 +176,9 @@ module _ {T : Type 0} (chooser : TreeState Bool) (first second : TreeState T) (c
       (subst (λ (x : TreeState Bool). IsPick x first second (state m r)) (state_seen chooser c paths_c)
       (subst (λ (x : TreeState T). IsPick (state m c) x second (state m r)) equal_a
       (subst (λ (x : TreeState T). IsPick (state m c) (state m a) x (state m r)) equal_b
-      (pick_paths m room (λ s few. all s (subst (λ (l : ℕ). HasFew l s) (sym same) few)) c a b r good_c (subst (λ (l : ℕ). IsGood l a) (sym one) good_a) (subst (λ (l : ℕ). IsGood l b)
+      (pick_paths m space (λ s few. all s (subst (λ (l : ℕ). HasAtMostFaults l s) (sym same) few)) c a b r good_c (subst (λ (l : ℕ). IsGood l a) (sym one) good_a) (subst (λ (l : ℕ). IsGood l b)
       (sym two) good_b)
-      (room, subst (λ (l : ℕ). IsWhole l room) same whole, fit) picked))))
+      (space, subst (λ (l : ℕ). IsWhole l space) same whole, fit) picked))))
 
   pub pick_passes : (test : ℕ → Bool) → (DoForksPass test c → DoForksPass test a → DoForksPass test b → DoForksPass test r) → DoPathsPass test chooser.paths → DoPathsPass test first.paths →
       DoPathsPass test second.paths → DoPathsPass test made.paths

@@ -14,10 +14,10 @@ use Rattle.cpg_tree.specs.Later.{time_later}
 use Rattle.cpg_tree.specs.Paths.{up_to, above, paths_from, paths_of}
 use Rattle.cpg_tree.specs.Read.{read_by, later_path, later_by}
 use Rattle.cpg_tree.specs.declared.item.TreeItem.{TreeItem}
-use Rattle.cpg_tree.specs.Added.{Adds, IsFilled, IsKept, IsPart}
-use Rattle.cpg_tree.specs.Results.{IsFillOf, IsWithin}
+use Rattle.cpg_tree.specs.Added.{AddsTree, IsFilled, IsRestricted, IsPartInSpace}
+use Rattle.cpg_tree.specs.Results.{IsFillOf, IsTreeWithin}
 use Rattle.cpg_tree.specs.Space.{Space, below_cut, above_cut}
-use Rattle.cpg_tree.specs.Tree.{Path, TreeState, is_on, IsOn, IsMap, IsAsWide, HasOnePathEach, DoPathsPass}
+use Rattle.cpg_tree.specs.Tree.{Path, TreeState, is_on, IsOnPath, IsMap, IsAsWide, HasOnePathEach, DoPathsPass}
 use Rattle.cpg_tree.proofs.OnePath.{same_path}
 use Rattle.cpg_tree.proofs.Publics.{state}
 
@@ -45,9 +45,9 @@ module _ {T : Type 0} (number : T → ℕ) where
   pass_read test (Leaf x) pass = tt
   pass_read test (Fork v cut below above) pass = (pass.0, pass_read test below pass.1, pass_read test above pass.2)
 
-  fit_read : (room : Space) (a : TreeNode T) → IsFit room a → IsFit room (read_by number a)
-  fit_read room (Leaf x) fit = tt
-  fit_read room (Fork v cut below above) fit = (fit.0, fit.1, fit.2, fit_read (below_cut room v cut) below fit.3, fit_read (above_cut room v cut) above fit.4)
+  fit_read : (space : Space) (a : TreeNode T) → IsFit space a → IsFit space (read_by number a)
+  fit_read space (Leaf x) fit = tt
+  fit_read space (Fork v cut below above) fit = (fit.0, fit.1, fit.2, fit_read (below_cut space v cut) below fit.3, fit_read (above_cut space v cut) above fit.4)
 
   pub good_read : (k : ℕ) (a : TreeNode T) → IsGood k a → IsGood k (read_by number a)
   good_read k a good = (good.0, good.1, fit_read good.0 a good.2)
@@ -59,16 +59,16 @@ module _ {T : Type 0} (number : T → ℕ) where
       ∙ sym (map-append (λ (q : Path T). (q.0, number q.1)) (paths_from k (narrowed_by (up_to v cut) cube) lower) (paths_from k (narrowed_by (above k v cut) cube) upper))
 
   -- the part of a tree that a space comes to, read
-  pub within_read : (room : Space) (a part : TreeNode T) → IsWithin room a part → IsWithin room (read_by number a) (read_by number part)
-  within_read room a part same = record {
+  pub within_read : (space : Space) (a part : TreeNode T) → IsTreeWithin space a part → IsTreeWithin space (read_by number a) (read_by number part)
+  within_read space a part same = record {
     value = λ s d. value_read part s ∙ ap number (same.value s d) ∙ sym (value_read a s);
     lows = λ s u d. omega (arith, low_read part s u, low_read a s u, same.lows s u d);
     highs = λ k s u d. omega (arith, high_read k part s u, high_read k a s u, same.highs k s u d);
   }
 
   -- at least 0 is as it is read
-  pub filled_read : (room : Space) (a : TreeNode T) (r : TreeNode ℕ) → IsFillOf (λ (x : ℕ) (y : T) (z : ℕ). z ≡ max x (number y)) room 0 a r → IsWithin room (read_by number a) r
-  filled_read room a r made = record {
+  pub filled_read : (space : Space) (a : TreeNode T) (r : TreeNode ℕ) → IsFillOf (λ (x : ℕ) (y : T) (z : ℕ). z ≡ max x (number y)) space 0 a r → IsTreeWithin space (read_by number a) r
+  filled_read space a r made = record {
     value = λ s d. omega (arith, made.value s d, value_read a s);
     lows = λ s u d. omega (arith, low_read a s u, made.lows s u d);
     highs = λ k s u d. omega (arith, high_read k a s u, made.highs k s u d);
@@ -79,12 +79,12 @@ module _ {T : Type 0} (number : T → ℕ) where
   passes_read test (Leaf x) pass = tt
   passes_read test (Fork v cut below above) pass = (pass.0, passes_read test below pass.1, passes_read test above pass.2)
 
-  pub part_read : (room : Space) (a part : TreeNode T) → IsPart room a part → IsPart room (read_by number a) (read_by number part)
-  part_read room a part is = record { same = within_read room a part is.same; pass = λ test on. pass_read test part (is.pass test (passes_read test a on)) }
+  pub part_read : (space : Space) (a part : TreeNode T) → IsPartInSpace space a part → IsPartInSpace space (read_by number a) (read_by number part)
+  part_read space a part is = record { same = within_read space a part is.same; pass = λ test on. pass_read test part (is.pass test (passes_read test a on)) }
 
-  pub kept_read : (room : Space) (a : TreeNode T) (old new : List (TreeItem ℕ)) → Adds (IsFilled (λ (x : ℕ) (y : T) (z : ℕ). z ≡ max x (number y)) room 0 a) old new →
-      Adds (IsKept room (read_by number a)) old new
-  kept_read room a old new p = (p.0, p.1, record { made = filled_read room a p.0 p.2.made; fit = p.2.fit; pass = λ test on. p.2.pass test (passes_read test a on) })
+  pub kept_read : (space : Space) (a : TreeNode T) (old new : List (TreeItem ℕ)) → AddsTree (IsFilled (λ (x : ℕ) (y : T) (z : ℕ). z ≡ max x (number y)) space 0 a) old new →
+      AddsTree (IsRestricted space (read_by number a)) old new
+  kept_read space a old new p = (p.0, p.1, record { made = filled_read space a p.0 p.2.made; fit = p.2.fit; pass = λ test on. p.2.pass test (passes_read test a on) })
 
 pub state_read : (k delay : ℕ) (a : TreeNode (Option ℕ)) → state k (read_by (time_later delay) a) ≡ later_by delay (state k a)
 state_read k delay a = ap (λ (paths : List (Path ℕ)). record { faults = k; paths = paths }) (paths_read (time_later delay) k [] a)
@@ -117,7 +117,7 @@ module _ (delay : ℕ) (t : TreeState (Option ℕ)) where
           (subst (λ (y : Path (Option ℕ)). IsAsWide t.faults y.0 x.0) (same_path t.faults t.paths each s few x r.0 on_x r.1) (record { low = λ v. omega arith; high = λ v. omega arith }));
     }
       where
-        from_later : (s : Scenario) (z : Path ℕ) → IsOn (later_by delay t).paths s z → (x : Path (Option ℕ)) × IsOn t.paths s x × (later_path delay x ≡ z)
+        from_later : (s : Scenario) (z : Path ℕ) → IsOnPath (later_by delay t).paths s z → (x : Path (Option ℕ)) × IsOnPath t.paths s x × (later_path delay x ≡ z)
         from_later s z on =
             let r = Contains-map_parts (later_path delay) t.paths z on.stands in
             (r.0, record { stands = r.1; matched = subst (λ (w : Path ℕ). IsTrue (is_on s w)) (sym r.2) on.matched }, r.2)

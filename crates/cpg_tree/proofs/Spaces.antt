@@ -10,33 +10,33 @@ use Rattle.cpg_base.proofs.Lists.{numbers-Contains, Contains-numbers}
 use Rattle.cpg_base.proofs.NumbersOf.{number_of-fault, number_of_value-le}
 use Rattle.cpg_base.proofs.Sums.{le-sum_by, sum_changed, same_sum_by}
 use Rattle.cpg_base.specs.Variable.{top}
-use Rattle.cpg_tree.specs.Space.{Space, Lies, HasFew, beyond, is_open_below, below_cut, above_cut}
+use Rattle.cpg_tree.specs.Space.{Space, IsInSpace, HasAtMostFaults, beyond, is_open_below, below_cut, above_cut}
 
 -- what is not less is at most
 pub not_less : (a b : ℕ) → nat_lt a b ≡ false → b ≤ a
 not_less a b h = elim (cases_lt a b) [ inl l ↦ absurd (both_ways (nat_lt a b) h (lt-ltb a b l)) | inr l ↦ l ]
 
-module _ (room : Space) (s : Scenario) (lies : Lies room s) (v cut : ℕ) (there : v < 256) where
+module _ (space : Space) (s : Scenario) (lies : IsInSpace space s) (v cut : ℕ) (there : v < 256) where
   -- a count goes no further beyond its low than faults are left
-  pub count_le : v < 128 → number_of s v ≤ get_or room.low v 0 + room.left
+  pub count_le : v < 128 → number_of s v ≤ get_or space.low v 0 + space.left
   count_le l =
-      let one = le-sum_by (beyond room s) (numbers_below 128) v (Contains-numbers 128 v l) in
+      let one = le-sum_by (beyond space s) (numbers_below 128) v (Contains-numbers 128 v l) in
       omega (arith, one, lies.left, number_of-fault s v l)
 
-  pub none_below : is_open_below room v cut ≡ false → cut < number_of s v
-  none_below h = let l = lies.low v there in elim (cases_lt cut (get_or room.low v 0)) [
+  pub none_below : is_open_below space v cut ≡ false → cut < number_of s v
+  none_below h = let l = lies.low v there in elim (cases_lt cut (get_or space.low v 0)) [
     | inl m ↦ omega (arith, l, m)
-    | inr m ↦ absurd (both_ways (is_open_below room v cut) h (le-leb (get_or room.low v 0) cut m))
+    | inr m ↦ absurd (both_ways (is_open_below space v cut) h (le-leb (get_or space.low v 0) cut m))
   ]
 
-  pub none_by_range : nat_lt cut (get_or room.high v 0) ≡ false → number_of s v ≤ cut
-  none_by_range h = omega (arith, lies.high v there, not_less cut (get_or room.high v 0) h)
+  pub none_by_range : nat_lt cut (get_or space.high v 0) ≡ false → number_of s v ≤ cut
+  none_by_range h = omega (arith, lies.high v there, not_less cut (get_or space.high v 0) h)
 
-  pub none_by_faults : (nat_le 128 v || nat_lt cut (get_or room.low v 0 + room.left)) ≡ false → number_of s v ≤ cut
+  pub none_by_faults : (nat_le 128 v || nat_lt cut (get_or space.low v 0 + space.left)) ≡ false → number_of s v ≤ cut
   none_by_faults h =
-      let parts = or_parts (nat_le 128 v) (nat_lt cut (get_or room.low v 0 + room.left)) h in
+      let parts = or_parts (nat_le 128 v) (nat_lt cut (get_or space.low v 0 + space.left)) h in
       elim (cases_lt v 128) [
-        | inl l ↦ omega (arith, count_le l, not_less cut (get_or room.low v 0 + room.left) parts.1)
+        | inl l ↦ omega (arith, count_le l, not_less cut (get_or space.low v 0 + space.left) parts.1)
         | inr l ↦ absurd (both_ways (nat_le 128 v) parts.0 (le-leb 128 v l))
       ]
 
@@ -56,54 +56,54 @@ module _ (xs : List ℕ) (v y u : ℕ) where
 none_less : (n left : ℕ) → n ≤ left → n ≤ left - 0
 none_less n left l = omega arith
 
-module _ (room : Space) (s : Scenario) (lies : Lies room s) (v cut : ℕ) (there : v < 256) where
-  pub lies_below : length room.high ≡ 256 → number_of s v ≤ cut → Lies (below_cut room v cut) s
+module _ (space : Space) (s : Scenario) (lies : IsInSpace space s) (v cut : ℕ) (there : v < 256) where
+  pub lies_below : length space.high ≡ 256 → number_of s v ≤ cut → IsInSpace (below_cut space v cut) s
   lies_below long h = record {
     low = lies.low;
     high = λ u l. elim (cases_eq u v) [
-      | inl e ↦ omega (arith, set_same room.high v cut u (omega (arith, long, there)) e, h, ap (number_of s) e)
-      | inr n ↦ omega (arith, set_other room.high v cut u n, lies.high u l)
+      | inl e ↦ omega (arith, set_same space.high v cut u (omega (arith, long, there)) e, h, ap (number_of s) e)
+      | inr n ↦ omega (arith, set_other space.high v cut u n, lies.high u l)
     ];
     left = lies.left;
   }
 
-  pub lies_above : length room.low ≡ 256 → is_open_below room v cut ≡ true → cut < number_of s v → Lies (above_cut room v cut) s
+  pub lies_above : length space.low ≡ 256 → is_open_below space v cut ≡ true → cut < number_of s v → IsInSpace (above_cut space v cut) s
   lies_above long under h = record {
     low = λ u l. elim (cases_eq u v) [
-      | inl e ↦ omega (arith, set_same room.low v (cut + 1) u (omega (arith, long, there)) e, h, ap (number_of s) e)
-      | inr n ↦ omega (arith, set_other room.low v (cut + 1) u n, lies.low u l)
+      | inl e ↦ omega (arith, set_same space.low v (cut + 1) u (omega (arith, long, there)) e, h, ap (number_of s) e)
+      | inr n ↦ omega (arith, set_other space.low v (cut + 1) u n, lies.low u l)
     ];
     high = lies.high;
     left = elim (cases_lt v 128) [
       | inl l ↦
-          let changed = sum_changed (beyond (above_cut room v cut) s) (beyond room s) 128 v l (λ u n. ap (λ m. fault_of s u - m) (set_other room.low v (cut + 1) u n)) in
-          let here = ap (λ m. sum_by (beyond room s) (numbers_below 128) + (fault_of s v - m)) (set_same room.low v (cut + 1) v (omega (arith, long, there)) refl) in
-          subst (λ n. sum_by (beyond (above_cut room v cut) s) (numbers_below 128) ≤ room.left - n) (sym (cond-true (nat_lt v 128) (cut + 1 - get_or room.low v 0) 0 (lt-ltb v 128 l)))
-          (fewer_left _ _ (get_or room.low v 0) cut (fault_of s v) room.left (changed ∙ here) lies.left (leb-true (get_or room.low v 0) cut under) (subst (λ n. cut < n) (number_of-fault s v l) h))
+          let changed = sum_changed (beyond (above_cut space v cut) s) (beyond space s) 128 v l (λ u n. ap (λ m. fault_of s u - m) (set_other space.low v (cut + 1) u n)) in
+          let here = ap (λ m. sum_by (beyond space s) (numbers_below 128) + (fault_of s v - m)) (set_same space.low v (cut + 1) v (omega (arith, long, there)) refl) in
+          subst (λ n. sum_by (beyond (above_cut space v cut) s) (numbers_below 128) ≤ space.left - n) (sym (cond-true (nat_lt v 128) (cut + 1 - get_or space.low v 0) 0 (lt-ltb v 128 l)))
+          (fewer_left _ _ (get_or space.low v 0) cut (fault_of s v) space.left (changed ∙ here) lies.left (leb-true (get_or space.low v 0) cut under) (subst (λ n. cut < n) (number_of-fault s v l) h))
       | inr l ↦
-          let same = same_sum_by (beyond (above_cut room v cut) s) (beyond room s) (numbers_below 128)
-          (λ u c. ap (λ m. fault_of s u - m) (set_other room.low v (cut + 1) u (λ e. omega (arith, numbers-Contains 128 u c, e, l)))) in
-          subst (λ n. sum_by (beyond (above_cut room v cut) s) (numbers_below 128) ≤ room.left - n) (sym (cond-false (nat_lt v 128) (cut + 1 - get_or room.low v 0) 0 (le-ltb v 128 l)))
-          (subst (λ n. n ≤ room.left - 0) (sym same) (none_less _ room.left lies.left))
+          let same = same_sum_by (beyond (above_cut space v cut) s) (beyond space s) (numbers_below 128)
+          (λ u c. ap (λ m. fault_of s u - m) (set_other space.low v (cut + 1) u (λ e. omega (arith, numbers-Contains 128 u c, e, l)))) in
+          subst (λ n. sum_by (beyond (above_cut space v cut) s) (numbers_below 128) ≤ space.left - n) (sym (cond-false (nat_lt v 128) (cut + 1 - get_or space.low v 0) 0 (le-ltb v 128 l)))
+          (subst (λ n. n ≤ space.left - 0) (sym same) (none_less _ space.left lies.left))
     ];
   }
 
 -- what is above a cut lies in a space that was closed above it, put back and closed below it
-pub lies_reopened : (room shut inner opened upper : Space) (v high cut : ℕ) → below_cut shut v high ≡ room → inner ≡ shut → opened ≡ below_cut inner v high →
-    ((s : Scenario) → Lies opened s → cut < number_of s v → Lies upper s) →
-    (s : Scenario) → Lies room s → cut < number_of s v → Lies upper s
-lies_reopened room shut inner opened upper v high cut back same put lies_upper s lies h =
-    lies_upper s (subst (λ r. Lies r s) (sym (put ∙ ap (λ r. below_cut r v high) same ∙ back)) lies) h
+pub lies_reopened : (space shut inner opened upper : Space) (v high cut : ℕ) → below_cut shut v high ≡ space → inner ≡ shut → opened ≡ below_cut inner v high →
+    ((s : Scenario) → IsInSpace opened s → cut < number_of s v → IsInSpace upper s) →
+    (s : Scenario) → IsInSpace space s → cut < number_of s v → IsInSpace upper s
+lies_reopened space shut inner opened upper v high cut back same put lies_upper s lies h =
+    lies_upper s (subst (λ r. IsInSpace r s) (sym (put ∙ ap (λ r. below_cut r v high) same ∙ back)) lies) h
 
 -- what is left above the cut then
-pub above_reopened : (room shut inner opened upper : Space) (v high cut : ℕ) → below_cut shut v high ≡ room → inner ≡ shut → opened ≡ below_cut inner v high → upper ≡ above_cut opened v cut →
-    upper ≡ above_cut room v cut
-above_reopened room shut inner opened upper v high cut back same reopened closed =
+pub above_reopened : (space shut inner opened upper : Space) (v high cut : ℕ) → below_cut shut v high ≡ space → inner ≡ shut → opened ≡ below_cut inner v high → upper ≡ above_cut opened v cut →
+    upper ≡ above_cut space v cut
+above_reopened space shut inner opened upper v high cut back same reopened closed =
     closed ∙ ap (λ (r : Space). above_cut r v cut) (reopened ∙ ap (λ (r : Space). below_cut r v high) same ∙ back)
 
 -- ---- all scenarios of at most k faults
 
-module _ (k : ℕ) (s : Scenario) (few : HasFew k s) where
+module _ (k : ℕ) (s : Scenario) (few : HasAtMostFaults k s) where
   count_few : (p : ℕ) → p < 128 → fault_of s p ≤ k
   count_few p l = omega (arith, le-sum_by (fault_of s) (numbers_below 128) p (Contains-numbers 128 p l), few)
 
@@ -119,9 +119,9 @@ module _ (k : ℕ) (s : Scenario) (few : HasFew k s) where
     )
   ]
 
-  pub lies_whole : (room : Space) → ((v : ℕ) → v < 256 → get_or room.low v 0 ≡ 0) → ((v : ℕ) → v < 128 → get_or room.high v 0 ≡ k) → ((v : ℕ) → 128 ≤ v → v < 256 → get_or room.high v 0 ≡ 1) →
-      room.left ≡ k → Lies room s
-  lies_whole room lows counts values left = record {
+  pub lies_whole : (space : Space) → ((v : ℕ) → v < 256 → get_or space.low v 0 ≡ 0) → ((v : ℕ) → v < 128 → get_or space.high v 0 ≡ k) → ((v : ℕ) → 128 ≤ v → v < 256 → get_or space.high v 0 ≡ 1) →
+      space.left ≡ k → IsInSpace space s
+  lies_whole space lows counts values left = record {
     low = λ v l. omega (arith, lows v l);
     high = λ v l. elim (cases_lt v 128) [
       | inl m ↦ omega (arith, counts v m, number_of-fault s v m, count_few v m)
@@ -132,7 +132,7 @@ module _ (k : ℕ) (s : Scenario) (few : HasFew k s) where
         number_of_value-le (get_or s.values (v - 128) false),
       )
     ];
-    left = omega (arith, same_sum_by (beyond room s) (fault_of s) (numbers_below 128) (λ p c. omega (arith, lows p (omega (arith, numbers-Contains 128 p c)))), few, left);
+    left = omega (arith, same_sum_by (beyond space s) (fault_of s) (numbers_below 128) (λ p c. omega (arith, lows p (omega (arith, numbers-Contains 128 p c)))), few, left);
   }
 
 -- what holds if a test fails

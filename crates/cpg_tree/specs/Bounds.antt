@@ -4,18 +4,18 @@ use Rattle.cpg_tree.specs.declared.bounds.Span.{Span}
 use Rattle.cpg_tree.specs.declared.item.TreeItem.{TreeItem}
 use Rattle.cpg_tree.specs.TreeNode.{TreeNode, Leaf, Fork}
 use Rattle.cpg_tree.specs.Flat.{flat}
-use Rattle.cpg_tree.specs.Greater.{least_in, most_in}
+use Rattle.cpg_tree.specs.Greater.{least_leaf, greatest_leaf}
 
 -- the least and the greatest number of a tree
 abbrev pub span_in : {T : Type 0} → (T → ℕ) → TreeNode T → Span
-span_in number node = record { least = least_in number node; most = most_in number node }
+span_in number node = record { least = least_leaf number node; most = greatest_leaf number node }
 
 -- the span of each fork, behind those of its sides
 abbrev pub bounds_in : {T : Type 0} → (T → ℕ) → TreeNode T → List Span
 bounds_in number (Leaf x) = []
 bounds_in number (Fork v cut below above) = bounds_in number below ++ bounds_in number above ++ (record {
-  least = min (least_in number below) (least_in number above);
-  most = max (most_in number below) (most_in number above);
+  least = min (least_leaf number below) (least_leaf number above);
+  most = max (greatest_leaf number below) (greatest_leaf number above);
 } ∷ [])
 
 -- a tree's items with the spans of its forks
@@ -23,5 +23,5 @@ abbrev pub IsBounded : {T : Type 0} → (T → ℕ) → List (TreeItem T) → Li
 IsBounded {T} number items bounds = (n : TreeNode T) × (items ≡ flat n) × (bounds ≡ bounds_in number n)
 
 -- the spans of both sides of a fork: the first `forks` of them are those of the side below
-abbrev pub AreSides : List Span → ℕ → List Span → List Span → Type 0
-AreSides bounds forks below above = (front back : List Span) (fork : Span) → bounds ≡ front ++ back ++ (fork ∷ []) → forks ≡ length front → (below ≡ front) × (above ≡ back)
+abbrev pub AreSpansOfSides : List Span → ℕ → List Span → List Span → Type 0
+AreSpansOfSides bounds forks below above = (front back : List Span) (fork : Span) → bounds ≡ front ++ back ++ (fork ∷ []) → forks ≡ length front → (below ≡ front) × (above ≡ back)

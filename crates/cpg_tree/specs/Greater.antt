@@ -7,14 +7,14 @@ use Rattle.cpg_tree.specs.declared.item.TreeItem.TheVariants.{Value, Cut}
 use Rattle.cpg_tree.specs.Decision.{value_at}
 
 -- the least number of a leaf
-abbrev pub least_in : {T : Type 0} → (T → ℕ) → TreeNode T → ℕ
-least_in number (Leaf x) = number x
-least_in number (Fork v cut below above) = min (least_in number below) (least_in number above)
+abbrev pub least_leaf : {T : Type 0} → (T → ℕ) → TreeNode T → ℕ
+least_leaf number (Leaf x) = number x
+least_leaf number (Fork v cut below above) = min (least_leaf number below) (least_leaf number above)
 
 -- the greatest number of a leaf
-abbrev pub most_in : {T : Type 0} → (T → ℕ) → TreeNode T → ℕ
-most_in number (Leaf x) = number x
-most_in number (Fork v cut below above) = max (most_in number below) (most_in number above)
+abbrev pub greatest_leaf : {T : Type 0} → (T → ℕ) → TreeNode T → ℕ
+greatest_leaf number (Leaf x) = number x
+greatest_leaf number (Fork v cut below above) = max (greatest_leaf number below) (greatest_leaf number above)
 
 -- each number of a tree is at least each number of another
 abbrev pub IsAtLeast : {T U : Type 0} → (T → ℕ) → (U → ℕ) → TreeNode T → TreeNode U → Type 0

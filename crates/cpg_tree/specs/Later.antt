@@ -9,9 +9,9 @@ abbrev pub time_later : ℕ → Option ℕ → ℕ
 time_later delay time = min (unwrap_or time 0 + delay) (2 ^ 64 - 1)
 
 -- each leaf is a time of at least this
-abbrev pub IsAtLeast : ℕ → TreeNode (Option ℕ) → Type 0
-IsAtLeast least (Leaf x) = x ≡ Some (max (time_later 0 x) least)
-IsAtLeast least (Fork v cut below above) = IsAtLeast least below × IsAtLeast least above
+abbrev pub AreAtLeast : ℕ → TreeNode (Option ℕ) → Type 0
+AreAtLeast least (Leaf x) = x ≡ Some (max (time_later 0 x) least)
+AreAtLeast least (Fork v cut below above) = AreAtLeast least below × AreAtLeast least above
 
 -- an item is no value, or a time of at least this
 abbrev pub IsItemFrom : ℕ → TreeItem (Option ℕ) → Type 0

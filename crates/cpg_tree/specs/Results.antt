@@ -3,7 +3,7 @@ use Rattle.std.specs.Prelude.{⊤, ℕ, ◌+◌, ◌≡◌, ◌≢◌, ◌≤◌
 use Rattle.cpg_base.specs.Scenario.{Scenario, number_of}
 use Rattle.cpg_base.specs.Variable.{top}
 use Rattle.cpg_tree.specs.TreeNode.{TreeNode}
-use Rattle.cpg_tree.specs.Space.{Space, Lies}
+use Rattle.cpg_tree.specs.Space.{Space, IsInSpace}
 use Rattle.cpg_tree.specs.Decision.{value_at, low_at, high_at}
 
 -- the values of one tree up to a cut and of another above it, by ranges that are as wide as those of a fork at least
@@ -18,7 +18,7 @@ pub record IsForkOf {T : Type 0} (v cut : ℕ) (below above r : TreeNode T) : Ty
   pub high_above : (k : ℕ) (s : Scenario) (u : ℕ) → cut < number_of s v → high_at k above s u ≤ high_at k r s u
 
 -- in the scenarios of a domain the tree's value has a fact, and its range of each variable contains a given one
-pub record IsMade {T : Type 0} (domain : Scenario → Type 0) (fact : Scenario → T → Type 0) (low : Scenario → ℕ → ℕ)
+pub record IsResultTree {T : Type 0} (domain : Scenario → Type 0) (fact : Scenario → T → Type 0) (low : Scenario → ℕ → ℕ)
     (high : ℕ → Scenario → ℕ → ℕ) (r : TreeNode T) : Type 0 where
   pub value : (s : Scenario) → domain s → fact s (value_at r s)
   pub lows : (s : Scenario) (v : ℕ) → domain s → low_at r s v ≤ low s v
@@ -26,34 +26,34 @@ pub record IsMade {T : Type 0} (domain : Scenario → Type 0) (fact : Scenario �
 
 -- a tree of a function's answers
 abbrev pub IsMapOf : {T U : Type 0} → (T → U → Type 0) → TreeNode T → TreeNode U → Type 0
-IsMapOf answers a r = IsMade (λ s. ⊤) (λ s z. answers (value_at a s) z) (low_at a) (λ k. high_at k a) r
+IsMapOf answers a r = IsResultTree (λ s. ⊤) (λ s z. answers (value_at a s) z) (low_at a) (λ k. high_at k a) r
 
 -- a tree that has the values of another for the scenarios of a space, with ranges that contain those of the other
-abbrev pub IsWithin : {T : Type 0} → Space → TreeNode T → TreeNode T → Type 0
-IsWithin room a r = IsMade (Lies room) (λ s z. z ≡ value_at a s) (low_at a) (λ k. high_at k a) r
+abbrev pub IsTreeWithin : {T : Type 0} → Space → TreeNode T → TreeNode T → Type 0
+IsTreeWithin space a r = IsResultTree (IsInSpace space) (λ s z. z ≡ value_at a s) (low_at a) (λ k. high_at k a) r
 
 -- a tree of a function's answers to a value and the values of a tree
 abbrev pub IsFillOf : {T U V : Type 0} → (T → U → V → Type 0) → Space → T → TreeNode U → TreeNode V → Type 0
-IsFillOf answers room x b r = IsMade (Lies room) (λ s z. answers x (value_at b s) z) (low_at b) (λ k. high_at k b) r
+IsFillOf answers space x b r = IsResultTree (IsInSpace space) (λ s z. answers x (value_at b s) z) (low_at b) (λ k. high_at k b) r
 
 -- a tree of a function's answers to the values of two
 abbrev pub IsJoinOf : {T U V : Type 0} → (T → U → V → Type 0) → Space → TreeNode T → TreeNode U → TreeNode V → Type 0
-IsJoinOf answers room a b r = IsMade (Lies room) (λ s z. answers (value_at a s) (value_at b s) z)
+IsJoinOf answers space a b r = IsResultTree (IsInSpace space) (λ s z. answers (value_at a s) (value_at b s) z)
     (λ s v. max (low_at a s v) (low_at b s v)) (λ k s v. min (high_at k a s v) (high_at k b s v)) r
 
 -- a tree of a function's answers to the values of two, in the scenarios of a domain
 abbrev pub IsJoinIn : {T U V : Type 0} → (T → U → V → Type 0) → (Scenario → Type 0) → TreeNode T → TreeNode U → TreeNode V → Type 0
-IsJoinIn answers domain a b r = IsMade domain (λ s z. answers (value_at a s) (value_at b s) z)
+IsJoinIn answers domain a b r = IsResultTree domain (λ s z. answers (value_at a s) (value_at b s) z)
     (λ s v. max (low_at a s v) (low_at b s v)) (λ k s v. min (high_at k a s v) (high_at k b s v)) r
 
 -- what is told of a value where a chooser is true: a fact, and else that it is another one
-abbrev pub TellsWhere : {V : Type 0} → Bool → Type 0 → V → V → Type 0
-TellsWhere true fact none z = fact
-TellsWhere false fact none z = z ≡ none
+abbrev pub HoldsIfChosen : {V : Type 0} → Bool → Type 0 → V → V → Type 0
+HoldsIfChosen true fact none z = fact
+HoldsIfChosen false fact none z = z ≡ none
 
 -- a tree of a function's answers to the values of two where a chooser is true, and of one value elsewhere
 abbrev pub IsJoinWhereOf : {T U V : Type 0} → (T → U → V → Type 0) → V → (Scenario → Type 0) → TreeNode Bool → TreeNode T → TreeNode U → TreeNode V → Type 0
-IsJoinWhereOf answers none domain chooser a b r = IsMade domain (λ s z. TellsWhere (value_at chooser s) (answers (value_at a s) (value_at b s) z) none z)
+IsJoinWhereOf answers none domain chooser a b r = IsResultTree domain (λ s z. HoldsIfChosen (value_at chooser s) (answers (value_at a s) (value_at b s) z) none z)
     (λ s v. max (low_at chooser s v) (if value_at chooser s then max (low_at a s v) (low_at b s v) else 0))
     (λ k s v. min (high_at k chooser s v) (if value_at chooser s then min (high_at k a s v) (high_at k b s v) else top k v)) r
 
@@ -63,6 +63,6 @@ picked b on off = if b then on else off
 
 -- the values of the tree that a chooser picks in each scenario
 abbrev pub IsPickOf : {T : Type 0} → Space → TreeNode Bool → TreeNode T → TreeNode T → TreeNode T → Type 0
-IsPickOf room chooser on off r = IsMade (Lies room) (λ s z. z ≡ value_at (picked (value_at chooser s) on off) s)
+IsPickOf space chooser on off r = IsResultTree (IsInSpace space) (λ s z. z ≡ value_at (picked (value_at chooser s) on off) s)
     (λ s v. max (low_at chooser s v) (low_at (picked (value_at chooser s) on off) s v))
     (λ k s v. min (high_at k chooser s v) (high_at k (picked (value_at chooser s) on off) s v)) r

@@ -8,51 +8,51 @@ use Rattle.cpg_tree.specs.declared.space.Lifted.{Lifted}
 
 -- the faults of a process beyond the low of its count
 abbrev pub beyond : Space → Scenario → ℕ → ℕ
-beyond room s p = fault_of s p - get_or room.low p 0
+beyond space s p = fault_of s p - get_or space.low p 0
 
 -- each number is in range, and there are no more faults beyond the lows than are left
-pub record Lies (room : Space) (s : Scenario) : Type 0 where
-  pub low : (v : ℕ) → v < 256 → get_or room.low v 0 ≤ number_of s v
-  pub high : (v : ℕ) → v < 256 → number_of s v ≤ get_or room.high v 0
-  pub left : sum_by (beyond room s) (numbers_below 128) ≤ room.left
+pub record IsInSpace (space : Space) (s : Scenario) : Type 0 where
+  pub low : (v : ℕ) → v < 256 → get_or space.low v 0 ≤ number_of s v
+  pub high : (v : ℕ) → v < 256 → number_of s v ≤ get_or space.high v 0
+  pub left : sum_by (beyond space s) (numbers_below 128) ≤ space.left
 
 -- at most k faults
-abbrev pub HasFew : ℕ → Scenario → Type 0
-HasFew k s = sum_by (fault_of s) (numbers_below 128) ≤ k
+abbrev pub HasAtMostFaults : ℕ → Scenario → Type 0
+HasAtMostFaults k s = sum_by (fault_of s) (numbers_below 128) ≤ k
 
 -- whether a number up to the cut is in range
 abbrev pub is_open_below : Space → ℕ → ℕ → Bool
-is_open_below room v cut = nat_le (get_or room.low v 0) cut
+is_open_below space v cut = nat_le (get_or space.low v 0) cut
 
 -- whether a number above the cut is in range, and the faults that are left allow it
 abbrev pub is_open_above : Space → ℕ → ℕ → Bool
-is_open_above room v cut = nat_lt cut (get_or room.high v 0) && (nat_le 128 v || nat_lt cut (get_or room.low v 0 + room.left))
+is_open_above space v cut = nat_lt cut (get_or space.high v 0) && (nat_le 128 v || nat_lt cut (get_or space.low v 0 + space.left))
 
 -- how many faults a count of a variable is: a value is none
 abbrev pub faults_of : ℕ → ℕ → ℕ
 faults_of v count = if nat_lt v 128 then count else 0
 
 -- the faults that a literal asks for beyond the low of its variable
-abbrev pub more_asked : Space → Literal → ℕ
-more_asked room l = faults_of l.variable (l.low - get_or room.low l.variable 0)
+abbrev pub asked_beyond : Space → Literal → ℕ
+asked_beyond space l = faults_of l.variable (l.low - get_or space.low l.variable 0)
 
 -- with the numbers up to a cut that has numbers on both sides
 abbrev pub below_cut : Space → ℕ → ℕ → Space
-below_cut room v cut = record { low = room.low; high = slice_set room.high v cut; left = room.left }
+below_cut space v cut = record { low = space.low; high = slice_set space.high v cut; left = space.left }
 
 -- with the numbers above it
 abbrev pub above_cut : Space → ℕ → ℕ → Space
-above_cut room v cut = record { low = slice_set room.low v (cut + 1); high = room.high; left = room.left - faults_of v (cut + 1 - get_or room.low v 0) }
+above_cut space v cut = record { low = slice_set space.low v (cut + 1); high = space.high; left = space.left - faults_of v (cut + 1 - get_or space.low v 0) }
 
 -- with a low and the faults left as they were
 abbrev pub reopened_below : Space → ℕ → Lifted → Space
-reopened_below room v was = record { low = slice_set room.low v was.low; high = room.high; left = was.left }
+reopened_below space v was = record { low = slice_set space.low v was.low; high = space.high; left = was.left }
 
 -- the space of all scenarios of at most k faults
-pub record IsWhole (k : ℕ) (room : Space) : Type 0 where
-  pub long : length room.low ≡ 256
-  pub longer : length room.high ≡ 256
-  pub lows : (v : ℕ) → v < 256 → get_or room.low v 0 ≡ 0
-  pub counts : (v : ℕ) → v < 128 → get_or room.high v 0 ≡ k
-  pub values : (v : ℕ) → 128 ≤ v → v < 256 → get_or room.high v 0 ≡ 1
-  pub left : room.left ≡ k
+pub record IsWhole (k : ℕ) (space : Space) : Type 0 where
+  pub long : length space.low ≡ 256
+  pub longer : length space.high ≡ 256
+  pub lows : (v : ℕ) → v < 256 → get_or space.low v 0 ≡ 0
+  pub counts : (v : ℕ) → v < 128 → get_or space.high v 0 ≡ k
+  pub values : (v : ℕ) → 128 ≤ v → v < 256 → get_or space.high v 0 ≡ 1
+  pub left : space.left ≡ k

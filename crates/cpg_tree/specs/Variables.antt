@@ -18,16 +18,16 @@ pub record AreCountsFrom (p first k : ℕ) (node : TreeNode ℕ) : Type 0 where
   pub only : ForksOnly p node
 
 -- all these counts, and no lower one, are left in a space
-pub record LeavesCounts (room : Space) (p first k : ℕ) : Type 0 where
-  pub long : length room.low ≡ 256
-  pub low : get_or room.low p 0 ≡ first
-  pub high : get_or room.high p 0 ≡ k
-  pub left : first + room.left ≡ k
+pub record LeavesCounts (space : Space) (p first k : ℕ) : Type 0 where
+  pub long : length space.low ≡ 256
+  pub low : get_or space.low p 0 ≡ first
+  pub high : get_or space.high p 0 ≡ k
+  pub left : first + space.left ≡ k
 
 -- a tree of these counts
 pub record IsCounted (p first k : ℕ) (r : TreeNode ℕ) : Type 0 where
   pub counts : AreCountsFrom p first k r
-  pub fit : (room : Space) → LeavesCounts room p first k → IsFit room r
+  pub fit : (space : Space) → LeavesCounts space p first k → IsFit space r
   pub pass : (test : ℕ → Bool) → test p ≡ true → DoForksPass test r
 
 -- the value of a condition
@@ -38,7 +38,7 @@ pub record IsValueNode (v : ℕ) (node : TreeNode Bool) : Type 0 where
 -- a tree of this value
 pub record IsValued (v : ℕ) (r : TreeNode Bool) : Type 0 where
   pub value : IsValueNode v r
-  pub fit : (k : ℕ) (room : Space) → IsWhole k room → IsFit room r
+  pub fit : (k : ℕ) (space : Space) → IsWhole k space → IsFit space r
   pub pass : (test : ℕ → Bool) → test v ≡ true → DoForksPass test r
 
 -- whether a number is a variable of the graph

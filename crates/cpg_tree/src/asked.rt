@@ -1,14 +1,14 @@
 //! Two spaces at once: the scenarios that are asked for, and those that come to a place of a tree.
 ghost use Rattle.std.specs.Prelude.{◌≡◌, ◌≤◌, ◌<◌, true};
 ghost use Rattle.cpg_base.specs.Scenario.{Scenario, number_of};
-ghost use Rattle.cpg_tree.specs.Asked.{IsWay, LiesInBoth, lowered, raised_back};
+ghost use Rattle.cpg_tree.specs.Asked.{IsWay, IsInBothSpaces, lowered, raised_back};
 ghost use Rattle.cpg_tree.specs.Space.{above_cut, below_cut, is_open_above, is_open_below};
 
 use crate::space::{Lifted, Space};
 
 /// The scenarios that are asked for, and those that the forks on the way to a place of a tree leave.
 #[derive(Clone, Copy)]
-pub(crate) struct Rooms {
+pub(crate) struct SpacePair {
     pub(crate) asked: Space,
     pub(crate) walked: Space,
 }
@@ -38,12 +38,12 @@ pub(crate) enum Way {
     Both,
 }
 
-impl Rooms {
+impl SpacePair {
     /// Leaves the scenarios up to a cut; the highs that it had.
     pub(crate) fn close_above(&mut self, variable: u8, cut: u8) -> Highs
         ensures asked { self.new.asked ≡ below_cut self.old.asked variable cut }
         ensures back { lowered self.new variable result ≡ self.old }
-        ensures lies { (s : Scenario) → LiesInBoth self.old s → number_of s variable ≤ cut → LiesInBoth self.new s }
+        ensures lies { (s : Scenario) → IsInBothSpaces self.old s → number_of s variable ≤ cut → IsInBothSpaces self.new s }
     {
         Highs {
             asked: self.asked.close_above(variable, cut),
@@ -67,7 +67,7 @@ impl Rooms {
         requires walked_above { is_open_above self.old.walked variable cut ≡ true }
         ensures asked { self.new.asked ≡ above_cut self.old.asked variable cut }
         ensures back { raised_back self.new variable result ≡ self.old }
-        ensures lies { (s : Scenario) → LiesInBoth self.old s → cut < number_of s variable → LiesInBoth self.new s }
+        ensures lies { (s : Scenario) → IsInBothSpaces self.old s → cut < number_of s variable → IsInBothSpaces self.new s }
     {
         Lows {
             asked: self.asked.close_below(variable, cut),
@@ -87,7 +87,7 @@ impl Rooms {
     pub(crate) fn ask_below(&mut self, variable: u8, cut: u8) -> Highs
         ensures asked { self.new.asked ≡ below_cut self.old.asked variable cut }
         ensures back { lowered self.new variable result ≡ self.old }
-        ensures lies { (s : Scenario) → LiesInBoth self.old s → number_of s variable ≤ cut → LiesInBoth self.new s }
+        ensures lies { (s : Scenario) → IsInBothSpaces self.old s → number_of s variable ≤ cut → IsInBothSpaces self.new s }
     {
         Highs {
             asked: self.asked.close_above(variable, cut),
@@ -101,7 +101,7 @@ impl Rooms {
         requires above { is_open_above self.old.asked variable cut ≡ true }
         ensures asked { self.new.asked ≡ above_cut self.old.asked variable cut }
         ensures back { raised_back self.new variable result ≡ self.old }
-        ensures lies { (s : Scenario) → LiesInBoth self.old s → cut < number_of s variable → LiesInBoth self.new s }
+        ensures lies { (s : Scenario) → IsInBothSpaces self.old s → cut < number_of s variable → IsInBothSpaces self.new s }
     {
         Lows {
             asked: self.asked.close_below(variable, cut),
@@ -113,7 +113,7 @@ impl Rooms {
     fn walk_below(&mut self, variable: u8, cut: u8) -> Highs
         ensures asked { self.new.asked ≡ self.old.asked }
         ensures back { lowered self.new variable result ≡ self.old }
-        ensures lies { (s : Scenario) → LiesInBoth self.old s → number_of s variable ≤ cut → LiesInBoth self.new s }
+        ensures lies { (s : Scenario) → IsInBothSpaces self.old s → number_of s variable ≤ cut → IsInBothSpaces self.new s }
     {
         Highs {
             asked: self.asked.highest(variable),
@@ -127,7 +127,7 @@ impl Rooms {
         requires above { is_open_above self.old.walked variable cut ≡ true }
         ensures asked { self.new.asked ≡ self.old.asked }
         ensures back { raised_back self.new variable result ≡ self.old }
-        ensures lies { (s : Scenario) → LiesInBoth self.old s → cut < number_of s variable → LiesInBoth self.new s }
+        ensures lies { (s : Scenario) → IsInBothSpaces self.old s → cut < number_of s variable → IsInBothSpaces self.new s }
     {
         Lows {
             asked: self.asked.lowest(variable),

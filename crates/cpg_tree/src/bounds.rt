@@ -1,7 +1,7 @@
 //! The least and the greatest number below each fork of a tree whose leaves are read as numbers.
 ghost use Rattle.std.specs.Prelude.{◌≡◌, ◌++◌, ℕ, max, min, nat_le, IfOk};
 ghost use Rattle.std.specs.Bool.{OnTrue};
-ghost use Rattle.cpg_tree.specs.Bounds.{AreSides, IsBounded, bounds_in, span_in};
+ghost use Rattle.cpg_tree.specs.Bounds.{AreSpansOfSides, IsBounded, bounds_in, span_in};
 ghost use Rattle.cpg_tree.specs.Flat.{IsFlat, flat};
 ghost use Rattle.cpg_tree.specs.Greater.{IsAtLeast, are_from, most_from};
 ghost use Rattle.cpg_tree.specs.TreeNode.{TreeNode, Fork};
@@ -56,7 +56,7 @@ pub(crate) struct BoundedTree<'a, T> {
 
 /// The spans of the forks of both sides of a fork, of which the side below has so many.
 fn bounds_of_sides(bounds: &[Span], forks: usize) -> (&[Span], &[Span])
-    ensures { AreSides bounds.now forks result.0.now result.1.now }
+    ensures { AreSpansOfSides bounds.now forks result.0.now result.1.now }
 {
     let Some((_, sides)) = bounds.split_last() else {
         return (bounds, bounds);

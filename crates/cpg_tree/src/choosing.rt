@@ -1,6 +1,6 @@
 //! The greater of two trees where a chooser is true.
 ghost use Rattle.std.specs.Prelude.{◌≡◌, ◌≤◌, max, ℕ, Bool, All, IfOk, true, vec_len};
-ghost use Rattle.cpg_tree.specs.Added.{Adds};
+ghost use Rattle.cpg_tree.specs.Added.{AddsTree};
 ghost use Rattle.cpg_tree.specs.AddedInBoth.{IsJoinedWhere};
 ghost use Rattle.cpg_tree.specs.Bounds.{IsBounded};
 ghost use Rattle.cpg_tree.specs.Flat.{IsFlat, flat};
@@ -8,7 +8,7 @@ ghost use Rattle.cpg_tree.specs.Tree.{DoPathsPass, HasOnePathEach, IsJoinWhere, 
 ghost use Rattle.cpg_tree.specs.TreeNode.{TreeNode};
 
 use crate::Tree;
-use crate::asked::Rooms;
+use crate::asked::SpacePair;
 use crate::bounds::{BoundedTree, push_bounds};
 use crate::fork::fork;
 use crate::greater::{Greater, greater_by};
@@ -31,7 +31,7 @@ struct TreePair<'a, T, U> {
 fn greater_where<T: Copy, U: Copy, V: Copy + Eq, R: Reading<T>, S: Reading<U>, F: Fn(u64) -> V>(
     chooser: &[TreeItem<bool>],
     pair: &TreePair<'_, T, U>,
-    rooms: &mut Rooms,
+    spaces: &mut SpacePair,
     how: &Greater<'_, R, S, F>,
     none: V,
     out: &mut Vec<TreeItem<V>>,
@@ -42,16 +42,16 @@ fn greater_where<T: Copy, U: Copy, V: Copy + Eq, R: Reading<T>, S: Reading<U>, F
     requires own { IsBounded (R.number how.now.read.now) pair.now.own.items.now pair.now.own.bounds.now }
     requires others { IsBounded (S.number how.now.other_reading.now) pair.now.other.items.now pair.now.other.bounds.now }
     ensures long { IfOk result (λ _. vec_len out.old ≤ vec_len out.new) }
-    ensures back { IfOk result (λ _. rooms.new ≡ rooms.old) }
+    ensures back { IfOk result (λ _. spaces.new ≡ spaces.old) }
     ensures made { IfOk result (λ _. (c : TreeNode Bool) (n : TreeNode T) (m : TreeNode U) → chooser.now ≡ flat c → pair.now.own.items.now ≡ flat n →
         pair.now.other.items.now ≡ flat m →
-        Adds (IsJoinedWhere (λ x y z. F.post how.now.made.now (max (R.number how.now.read.now x) (S.number how.now.other_reading.now y)) z) none rooms.old c n m)
+        AddsTree (IsJoinedWhere (λ x y z. F.post how.now.made.now (max (R.number how.now.read.now x) (S.number how.now.other_reading.now y)) z) none spaces.old c n m)
         out.old.items out.new.items) }
 {
     match top_of(chooser) {
         Top::Value(is_on) => {
             if is_on {
-                return greater_by(pair.own, pair.other, rooms, how, out);
+                return greater_by(pair.own, pair.other, spaces, how, out);
             }
             out.push(TreeItem::Value(none))?;
             Ok(())
@@ -62,20 +62,20 @@ fn greater_where<T: Copy, U: Copy, V: Copy + Eq, R: Reading<T>, S: Reading<U>, F
             below,
             above,
         } => {
-            if !rooms.asked.is_open_below(variable, cut) {
-                return greater_where(above, pair, rooms, how, none, out);
+            if !spaces.asked.is_open_below(variable, cut) {
+                return greater_where(above, pair, spaces, how, none, out);
             }
-            if !rooms.asked.is_open_above(variable, cut) {
-                return greater_where(below, pair, rooms, how, none, out);
+            if !spaces.asked.is_open_above(variable, cut) {
+                return greater_where(below, pair, spaces, how, none, out);
             }
             let start = out.len();
-            let highs = rooms.ask_below(variable, cut);
-            greater_where(below, pair, rooms, how, none, out)?;
-            rooms.reopen_above(variable, highs);
+            let highs = spaces.ask_below(variable, cut);
+            greater_where(below, pair, spaces, how, none, out)?;
+            spaces.reopen_above(variable, highs);
             let middle = out.len();
-            let lows = rooms.ask_above(variable, cut);
-            greater_where(above, pair, rooms, how, none, out)?;
-            rooms.reopen_below(variable, lows);
+            let lows = spaces.ask_above(variable, cut);
+            greater_where(above, pair, spaces, how, none, out)?;
+            spaces.reopen_below(variable, lows);
             fork(out, start, middle, variable, cut)
         }
     }
@@ -137,12 +137,12 @@ impl Tree<bool> {
         };
         let faults = self.faults();
         let space = Space::whole(faults);
-        let mut rooms = Rooms {
+        let mut spaces = SpacePair {
             asked: space,
             walked: space,
         };
         let mut items = Vec::new(alloc);
-        greater_where(self.items(), &pair, &mut rooms, &how, none, &mut items)?;
+        greater_where(self.items(), &pair, &mut spaces, &how, none, &mut items)?;
         Ok(Tree::of(alloc, faults, items))
     }
 }

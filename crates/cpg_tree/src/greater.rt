@@ -1,7 +1,7 @@
 //! The greater of two trees whose leaves are read as numbers.
 ghost use Rattle.std.specs.Prelude.{◌≡◌, ◌≤◌, max, ℕ, Bool, All, IfOk, true, vec_len};
-ghost use Rattle.cpg_tree.specs.Added.{Adds, IsFilled, IsJoined, IsMapped};
-ghost use Rattle.cpg_tree.specs.AddedInBoth.{BoundedPartIs, IsJoinedIn};
+ghost use Rattle.cpg_tree.specs.Added.{AddsTree, IsFilled, IsJoined, IsMapped};
+ghost use Rattle.cpg_tree.specs.AddedInBoth.{IsBoundedPartList, IsJoinedIn};
 ghost use Rattle.cpg_tree.specs.Bounds.{IsBounded, bounds_in};
 ghost use Rattle.cpg_tree.specs.Decision.{IsFit};
 ghost use Rattle.cpg_tree.specs.Flat.{IsFlat, flat};
@@ -10,7 +10,7 @@ ghost use Rattle.cpg_tree.specs.Tree.{DoPathsPass, HasOnePathEach, IsJoin, IsTid
 ghost use Rattle.cpg_tree.specs.TreeNode.{TreeNode};
 
 use crate::Tree;
-use crate::asked::{Rooms, Way};
+use crate::asked::{SpacePair, Way};
 use crate::bounds::{BoundedTree, is_at_least, push_bounds, sides, span_of};
 use crate::fork::fork;
 use crate::item::TreeItem;
@@ -32,7 +32,7 @@ pub(crate) struct Greater<'a, R, S, F> {
 /// The part of a tree that all scenarios of a space come to.
 fn bounded_part<'a, T: Copy>(tree: BoundedTree<'a, T>, space: &Space) -> BoundedTree<'a, T>
     requires { IsFlat tree.items.now }
-    ensures part { (n : TreeNode T) → tree.entry.items.now ≡ flat n → BoundedPartIs space.now n tree.entry.bounds.now result.items.now result.bounds.now }
+    ensures part { (n : TreeNode T) → tree.entry.items.now ≡ flat n → IsBoundedPartList space.now n tree.entry.bounds.now result.items.now result.bounds.now }
     ensures flat { IsFlat result.items.now }
 {
     match top_of(tree.items) {
@@ -69,7 +69,7 @@ pub(crate) fn at_least<T: Copy, V: Copy + Eq, R: Reading<T>, F: Fn(u64) -> V>(
     ensures long { IfOk result (λ _. vec_len out.old ≤ vec_len out.new) }
     ensures back { IfOk result (λ _. space.new ≡ space.old) }
     ensures made { IfOk result (λ _. (n : TreeNode T) → items.now ≡ flat n →
-        Adds (IsFilled (λ x y z. F.post made.now (max x (R.number read.now y)) z) space.old value n) out.old.items out.new.items) }
+        AddsTree (IsFilled (λ x y z. F.post made.now (max x (R.number read.now y)) z) space.old value n) out.old.items out.new.items) }
 {
     fill_items(
         items,
@@ -93,7 +93,7 @@ pub(crate) fn greater_by<
 >(
     own: BoundedTree<'_, T>,
     other: BoundedTree<'_, U>,
-    rooms: &mut Rooms,
+    spaces: &mut SpacePair,
     how: &Greater<'_, R, S, F>,
     out: &mut Vec<TreeItem<V>>,
 ) -> Result<(), OutOfMemory>
@@ -102,21 +102,21 @@ pub(crate) fn greater_by<
     requires own { IsBounded (R.number how.now.read.now) own.items.now own.bounds.now }
     requires others { IsBounded (S.number how.now.other_reading.now) other.items.now other.bounds.now }
     ensures long { IfOk result (λ _. vec_len out.old ≤ vec_len out.new) }
-    ensures back { IfOk result (λ _. rooms.new ≡ rooms.old) }
+    ensures back { IfOk result (λ _. spaces.new ≡ spaces.old) }
     ensures made { IfOk result (λ _. (n : TreeNode T) (m : TreeNode U) → own.entry.items.now ≡ flat n → other.entry.items.now ≡ flat m →
-        Adds (IsJoinedIn (λ x y z. F.post how.now.made.now (max (R.number how.now.read.now x) (S.number how.now.other_reading.now y)) z) rooms.old n m)
+        AddsTree (IsJoinedIn (λ x y z. F.post how.now.made.now (max (R.number how.now.read.now x) (S.number how.now.other_reading.now y)) z) spaces.old n m)
         out.old.items out.new.items) }
 {
-    let other = bounded_part(other, &rooms.walked);
+    let other = bounded_part(other, &spaces.walked);
     let own_span = span_of(own, how.read);
     let other_span = span_of(other, how.other_reading);
     if own_span.is_at_least(other_span) {
-        return at_least(own.items, &mut rooms.asked, 0, how.read, how.made, out);
+        return at_least(own.items, &mut spaces.asked, 0, how.read, how.made, out);
     }
     if other_span.is_at_least(own_span) {
         return at_least(
             other.items,
-            &mut rooms.asked,
+            &mut spaces.asked,
             0,
             how.other_reading,
             how.made,
@@ -128,7 +128,7 @@ pub(crate) fn greater_by<
             let number = how.read.number(value);
             at_least(
                 other.items,
-                &mut rooms.asked,
+                &mut spaces.asked,
                 number,
                 how.other_reading,
                 how.made,
@@ -142,26 +142,26 @@ pub(crate) fn greater_by<
             above,
         } => {
             let (below, above) = sides(own.bounds, below, above);
-            match rooms.way(variable, cut) {
+            match spaces.way(variable, cut) {
                 Way::Above(lows) => {
-                    greater_by(above, other, rooms, how, out)?;
-                    rooms.reopen_below(variable, lows);
+                    greater_by(above, other, spaces, how, out)?;
+                    spaces.reopen_below(variable, lows);
                     Ok(())
                 }
                 Way::Below(highs) => {
-                    greater_by(below, other, rooms, how, out)?;
-                    rooms.reopen_above(variable, highs);
+                    greater_by(below, other, spaces, how, out)?;
+                    spaces.reopen_above(variable, highs);
                     Ok(())
                 }
                 Way::Both => {
                     let start = out.len();
-                    let highs = rooms.close_above(variable, cut);
-                    greater_by(below, other, rooms, how, out)?;
-                    rooms.reopen_above(variable, highs);
+                    let highs = spaces.close_above(variable, cut);
+                    greater_by(below, other, spaces, how, out)?;
+                    spaces.reopen_above(variable, highs);
                     let middle = out.len();
-                    let lows = rooms.close_below(variable, cut);
-                    greater_by(above, other, rooms, how, out)?;
-                    rooms.reopen_below(variable, lows);
+                    let lows = spaces.close_below(variable, cut);
+                    greater_by(above, other, spaces, how, out)?;
+                    spaces.reopen_below(variable, lows);
                     fork(out, start, middle, variable, cut)
                 }
             }
@@ -182,7 +182,7 @@ fn at_least_everywhere<T: Copy, V: Copy + Eq, R: Reading<T>, F: Fn(u64) -> V>(
     requires flat { IsFlat items.now }
     ensures long { IfOk result (λ _. vec_len out.old ≤ vec_len out.new) }
     ensures made { IfOk result (λ _. (n : TreeNode T) → items.now ≡ flat n →
-        Adds (IsMapped (λ y z. F.post made.now (max value (R.number read.now y)) z) n) out.old.items out.new.items) }
+        AddsTree (IsMapped (λ y z. F.post made.now (max value (R.number read.now y)) z) n) out.old.items out.new.items) }
 {
     out.reserve(items.len())?;
     map_items(items, &|leaf: T| made(value.max(read.number(leaf))), out)
@@ -204,7 +204,7 @@ fn greater_items<T: Copy, U: Copy, V: Copy + Eq, R: Reading<T>, S: Reading<U>, F
     requires other_fit { (m : TreeNode U) → other.now ≡ flat m → IsFit space.now m }
     ensures long { IfOk result (λ _. vec_len out.old ≤ vec_len out.new) }
     ensures made { IfOk result (λ _. (n : TreeNode T) (m : TreeNode U) → own.now ≡ flat n → other.now ≡ flat m →
-        Adds (IsJoined (λ x y z. F.post how.now.made.now (max (R.number how.now.read.now x) (S.number how.now.other_reading.now y)) z) space.now n m)
+        AddsTree (IsJoined (λ x y z. F.post how.now.made.now (max (R.number how.now.read.now x) (S.number how.now.other_reading.now y)) z) space.now n m)
         out.old.items out.new.items) }
 {
     if let Top::Value(value) = top_of(own) {
@@ -239,7 +239,7 @@ fn greater_by_bounds<T: Copy, U: Copy, V: Copy + Eq, R: Reading<T>, S: Reading<U
     requires other_flat { IsFlat other.now }
     ensures long { IfOk result (λ _. vec_len out.old ≤ vec_len out.new) }
     ensures made { IfOk result (λ _. (n : TreeNode T) (m : TreeNode U) → own.now ≡ flat n → other.now ≡ flat m →
-        Adds (IsJoined (λ x y z. F.post how.now.made.now (max (R.number how.now.read.now x) (S.number how.now.other_reading.now y)) z) space.now n m)
+        AddsTree (IsJoined (λ x y z. F.post how.now.made.now (max (R.number how.now.read.now x) (S.number how.now.other_reading.now y)) z) space.now n m)
         out.old.items out.new.items) }
 {
     // one list for both takes fewer and larger blocks than two
@@ -256,12 +256,12 @@ fn greater_by_bounds<T: Copy, U: Copy, V: Copy + Eq, R: Reading<T>, S: Reading<U
         items: other,
         bounds: other_bounds,
     };
-    let mut rooms = Rooms {
+    let mut spaces = SpacePair {
         asked: *space,
         walked: *space,
     };
     out.reserve(own.items.len().max(other.items.len()))?;
-    greater_by(own, other, &mut rooms, how, out)
+    greater_by(own, other, &mut spaces, how, out)
 }
 
 impl<T: Copy> Tree<T> {

@@ -2,7 +2,7 @@
 ghost use Rattle.std.specs.Prelude.{◌≡◌, ◌≤◌, true, IfOk, length, vec_len};
 ghost use Rattle.cpg_tree.specs.TreeNode.{TreeNode};
 ghost use Rattle.cpg_tree.specs.Flat.{IsFlat, flat};
-ghost use Rattle.cpg_tree.specs.Added.{Adds, IsFilled, IsJoined};
+ghost use Rattle.cpg_tree.specs.Added.{AddsTree, IsFilled, IsJoined};
 
 use crate::fork::fork;
 use crate::item::TreeItem;
@@ -24,7 +24,7 @@ pub(crate) fn fill_items<T: Copy, U: Copy, V: Copy + Eq, F: Fn(T, U) -> V>(
     requires flat { IsFlat items.now }
     ensures long { IfOk result (λ _. vec_len out.old ≤ vec_len out.new) }
     ensures back { IfOk result (λ _. space.new ≡ space.old) }
-    ensures made { IfOk result (λ _. (n : TreeNode U) → items.now ≡ flat n → Adds (IsFilled (F.post f.now) space.old value n) out.old.items out.new.items) }
+    ensures made { IfOk result (λ _. (n : TreeNode U) → items.now ≡ flat n → AddsTree (IsFilled (F.post f.now) space.old value n) out.old.items out.new.items) }
 {
     match top_of(items) {
         Top::Value(other) => {
@@ -71,7 +71,7 @@ pub(crate) fn join_items<T: Copy, U: Copy, V: Copy + Eq, F: Fn(T, U) -> V>(
     ensures long { IfOk result (λ _. vec_len out.old ≤ vec_len out.new) }
     ensures back { IfOk result (λ _. space.new ≡ space.old) }
     ensures made { IfOk result (λ _. (n : TreeNode T) (m : TreeNode U) → items.now ≡ flat n → other.now ≡ flat m →
-        Adds (IsJoined (F.post f.now) space.old n m) out.old.items out.new.items) }
+        AddsTree (IsJoined (F.post f.now) space.old n m) out.old.items out.new.items) }
 {
     // so that no leaf goes through the other tree from its top
     let other = part_in(other, space);

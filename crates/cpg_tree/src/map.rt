@@ -2,7 +2,7 @@
 ghost use Rattle.std.specs.Prelude.{◌≡◌, ◌≤◌, true, IfOk, length, vec_len};
 ghost use Rattle.cpg_tree.specs.TreeNode.{TreeNode};
 ghost use Rattle.cpg_tree.specs.Flat.{IsFlat, flat};
-ghost use Rattle.cpg_tree.specs.Added.{Adds, IsMapped};
+ghost use Rattle.cpg_tree.specs.Added.{AddsTree, IsMapped};
 
 use crate::fork::fork;
 use crate::item::TreeItem;
@@ -19,7 +19,7 @@ pub(crate) fn map_items<T: Copy, U: Copy + Eq, F: Fn(T) -> U>(
     requires equal { (x y : U) → U.eq x y ≡ true → x ≡ y }
     requires flat { IsFlat items.now }
     ensures long { IfOk result (λ _. vec_len out.old ≤ vec_len out.new) }
-    ensures made { IfOk result (λ _. (n : TreeNode T) → items.now ≡ flat n → Adds (IsMapped (F.post f.now) n) out.old.items out.new.items) }
+    ensures made { IfOk result (λ _. (n : TreeNode T) → items.now ≡ flat n → AddsTree (IsMapped (F.post f.now) n) out.old.items out.new.items) }
 {
     match top_of(items) {
         Top::Value(value) => {

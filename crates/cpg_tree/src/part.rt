@@ -1,7 +1,7 @@
 //! The part of a tree that a space comes to.
 ghost use Rattle.std.specs.Prelude.{◌≡◌};
 ghost use Rattle.cpg_tree.specs.TreeNode.{TreeNode};
-ghost use Rattle.cpg_tree.specs.Added.{PartIs};
+ghost use Rattle.cpg_tree.specs.Added.{IsPartList};
 ghost use Rattle.cpg_tree.specs.Flat.{IsFlat, flat};
 
 use crate::item::TreeItem;
@@ -11,7 +11,7 @@ use crate::top::{Top, top_of};
 /// The part of a tree that a space comes to: without the forks at the top of which it closes a side.
 pub fn part_in<'a, T: Copy>(items: &'a [TreeItem<T>], space: &Space) -> &'a [TreeItem<T>]
     requires { IsFlat items.now }
-    ensures part { (n : TreeNode T) → items.now ≡ flat n → PartIs space.now n result.now }
+    ensures part { (n : TreeNode T) → items.now ≡ flat n → IsPartList space.now n result.now }
     ensures flat { IsFlat result.now }
 {
     match top_of(items) {

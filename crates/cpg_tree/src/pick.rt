@@ -1,7 +1,7 @@
 //! The values of the tree that a chooser picks.
 ghost use Rattle.std.specs.Prelude.{◌≡◌, ◌≤◌, ℕ, Bool, All, true, IfOk, vec_len};
 ghost use Rattle.cpg_tree.specs.TreeNode.{TreeNode};
-ghost use Rattle.cpg_tree.specs.Added.{Adds, IsKept, IsPicked};
+ghost use Rattle.cpg_tree.specs.Added.{AddsTree, IsRestricted, IsPicked};
 ghost use Rattle.cpg_tree.specs.Flat.{IsFlat, flat};
 ghost use Rattle.cpg_tree.specs.Tree.{DoPathsPass, HasOnePathEach, IsPick, IsTidyPath};
 
@@ -24,7 +24,7 @@ pub(crate) fn within_items<T: Copy + Eq>(
     requires flat { IsFlat items.now }
     ensures long { IfOk result (λ _. vec_len out.old ≤ vec_len out.new) }
     ensures back { IfOk result (λ _. space.new ≡ space.old) }
-    ensures made { IfOk result (λ _. (n : TreeNode T) → items.now ≡ flat n → Adds (IsKept space.old n) out.old.items out.new.items) }
+    ensures made { IfOk result (λ _. (n : TreeNode T) → items.now ≡ flat n → AddsTree (IsRestricted space.old n) out.old.items out.new.items) }
 {
     fill_items(items, space, (), &|_own: (), value: T| value, out)
 }
@@ -44,7 +44,7 @@ fn pick_items<T: Copy + Eq>(
     ensures long { IfOk result (λ _. vec_len out.old ≤ vec_len out.new) }
     ensures back { IfOk result (λ _. space.new ≡ space.old) }
     ensures made { IfOk result (λ _. (n : TreeNode Bool) (a b : TreeNode T) → items.now ≡ flat n → on.now ≡ flat a → off.now ≡ flat b →
-        Adds (IsPicked space.old n a b) out.old.items out.new.items) }
+        AddsTree (IsPicked space.old n a b) out.old.items out.new.items) }
 {
     // so that no leaf goes through them from their tops
     let on = part_in(on, space);

@@ -1,6 +1,6 @@
 //! What a chooser picks of a tree whose leaves are read as numbers and of a tree of numbers.
 ghost use Rattle.std.specs.Prelude.{◌≡◌, ◌≤◌, ℕ, Bool, All, IfOk, vec_len};
-ghost use Rattle.cpg_tree.specs.Added.{Adds, IsPicked};
+ghost use Rattle.cpg_tree.specs.Added.{AddsTree, IsPicked};
 ghost use Rattle.cpg_tree.specs.Flat.{IsFlat, flat};
 ghost use Rattle.cpg_tree.specs.Read.{later_by, read_by};
 ghost use Rattle.cpg_tree.specs.Tree.{DoPathsPass, HasOnePathEach, IsPick, IsTidyPath};
@@ -32,7 +32,7 @@ fn pick_read<T: Copy, R: Reading<T>>(
     ensures long { IfOk result (λ _. vec_len out.old ≤ vec_len out.new) }
     ensures back { IfOk result (λ _. space.new ≡ space.old) }
     ensures made { IfOk result (λ _. (c : TreeNode Bool) (n : TreeNode T) (m : TreeNode ℕ) → items.now ≡ flat c → on.now ≡ flat n → off.now ≡ flat m →
-        Adds (IsPicked space.old c (read_by (R.number read.now) n) m) out.old.items out.new.items) }
+        AddsTree (IsPicked space.old c (read_by (R.number read.now) n) m) out.old.items out.new.items) }
 {
     // so that no leaf goes through them from their tops
     let on = part_in(on, space);

@@ -3,7 +3,7 @@ ghost use Rattle.std.specs.Prelude.{◌≡◌, ◌≤◌, ◌<◌, ◌+◌, ◌|
 ghost use Rattle.std.specs.Bool.{OnFalse, OnTrue};
 ghost use Rattle.cpg_cube.specs.Cube.{IsRising, holds, matches};
 ghost use Rattle.cpg_base.specs.Scenario.{Scenario, number_of};
-ghost use Rattle.cpg_tree.specs.Space.{Lies, IsWhole, HasFew, is_open_below, is_open_above, below_cut, above_cut, reopened_below, faults_of};
+ghost use Rattle.cpg_tree.specs.Space.{IsInSpace, IsWhole, HasAtMostFaults, is_open_below, is_open_above, below_cut, above_cut, reopened_below, faults_of};
 
 use cpg_base::FIRST_VALUE;
 use cpg_cube::{Literal, VARIABLES};
@@ -36,7 +36,7 @@ impl Space {
     /// All scenarios of at most `k` faults.
     pub fn whole(k: u8) -> Space
         ensures is { IsWhole k result }
-        ensures lies { (s : Scenario) → HasFew k s → Lies result s }
+        ensures lies { (s : Scenario) → HasAtMostFaults k s → IsInSpace result s }
     {
         let mut high = [1; VARIABLES];
         for variable in 0..FIRST_VALUE {
@@ -52,7 +52,7 @@ impl Space {
     /// Whether a number up to the cut is in range.
     pub fn is_open_below(&self, variable: u8, cut: u8) -> bool
         ensures is { result ≡ is_open_below self.now variable cut }
-        ensures none { OnFalse result ((s : Scenario) → Lies self.now s → cut < number_of s variable) }
+        ensures none { OnFalse result ((s : Scenario) → IsInSpace self.now s → cut < number_of s variable) }
     {
         self.low[variable as usize] <= cut
     }
@@ -70,14 +70,14 @@ impl Space {
     /// Whether a number above the cut is in range, and the faults that are left allow it.
     pub fn is_open_above(&self, variable: u8, cut: u8) -> bool
         ensures is { result ≡ is_open_above self.now variable cut }
-        ensures none { OnFalse result ((s : Scenario) → Lies self.now s → number_of s variable ≤ cut) }
+        ensures none { OnFalse result ((s : Scenario) → IsInSpace self.now s → number_of s variable ≤ cut) }
     {
         cut < self.high[variable as usize] && self.allows_above(variable, cut)
     }
 
     /// The greatest number of a variable.
     pub fn most(&self, variable: u8) -> u8
-        ensures { (s : Scenario) → Lies self.now s → number_of s variable ≤ result }
+        ensures { (s : Scenario) → IsInSpace self.now s → number_of s variable ≤ result }
     {
         let high = self.high[variable as usize];
         let low = self.low[variable as usize];
@@ -95,7 +95,7 @@ impl Space {
 
     /// The least number of a variable.
     pub fn least(&self, variable: u8) -> u8
-        ensures { (s : Scenario) → Lies self.now s → result ≤ number_of s variable }
+        ensures { (s : Scenario) → IsInSpace self.now s → result ≤ number_of s variable }
     {
         self.low[variable as usize]
     }
@@ -121,7 +121,7 @@ impl Space {
     pub fn close_above(&mut self, variable: u8, cut: u8) -> u8
         ensures is { self.new ≡ below_cut self.old variable cut }
         ensures back { below_cut self.new variable result ≡ self.old }
-        ensures lies { (s : Scenario) → Lies self.old s → number_of s variable ≤ cut → Lies self.new s }
+        ensures lies { (s : Scenario) → IsInSpace self.old s → number_of s variable ≤ cut → IsInSpace self.new s }
     {
         let high = self.highest(variable);
         self.high[variable as usize] = cut;
@@ -141,7 +141,7 @@ impl Space {
         requires above { is_open_above self.old variable cut ≡ true }
         ensures is { self.new ≡ above_cut self.old variable cut }
         ensures back { reopened_below self.new variable result ≡ self.old }
-        ensures lies { (s : Scenario) → Lies self.old s → cut < number_of s variable → Lies self.new s }
+        ensures lies { (s : Scenario) → IsInSpace self.old s → cut < number_of s variable → IsInSpace self.new s }
     {
         let was = self.lowest(variable);
         self.raise(variable, cut);
@@ -158,8 +158,8 @@ impl Space {
 
     /// Leaves the scenarios in which a number is at least so great; false only if there are none.
     fn lift(&mut self, variable: u8, low: u8) -> bool
-        ensures lies { OnTrue result ((s : Scenario) → Lies self.old s → low ≤ number_of s variable → Lies self.new s) }
-        ensures none { OnFalse result ((s : Scenario) → Lies self.old s → number_of s variable < low) }
+        ensures lies { OnTrue result ((s : Scenario) → IsInSpace self.old s → low ≤ number_of s variable → IsInSpace self.new s) }
+        ensures none { OnFalse result ((s : Scenario) → IsInSpace self.old s → number_of s variable < low) }
     {
         if low == 0 {
             return true;
@@ -177,8 +177,8 @@ impl Space {
 
     /// Leaves the scenarios in which a number is at most so great; false only if there are none.
     fn lower(&mut self, variable: u8, high: u8) -> bool
-        ensures lies { OnTrue result ((s : Scenario) → Lies self.old s → number_of s variable ≤ high → Lies self.new s) }
-        ensures none { OnFalse result ((s : Scenario) → Lies self.old s → high < number_of s variable) }
+        ensures lies { OnTrue result ((s : Scenario) → IsInSpace self.old s → number_of s variable ≤ high → IsInSpace self.new s) }
+        ensures none { OnFalse result ((s : Scenario) → IsInSpace self.old s → high < number_of s variable) }
     {
         if !self.is_open_below(variable, high) {
             return false;
@@ -192,8 +192,8 @@ impl Space {
 
     /// Leaves the scenarios in which a literal holds; false only if there are none.
     fn narrow(&mut self, literal: Literal) -> bool
-        ensures lies { OnTrue result ((s : Scenario) → Lies self.old s → holds s literal ≡ true → Lies self.new s) }
-        ensures none { OnFalse result ((s : Scenario) → Lies self.old s → holds s literal ≡ false) }
+        ensures lies { OnTrue result ((s : Scenario) → IsInSpace self.old s → holds s literal ≡ true → IsInSpace self.new s) }
+        ensures none { OnFalse result ((s : Scenario) → IsInSpace self.old s → holds s literal ≡ false) }
     {
         if !self.lift(literal.variable, literal.low) {
             return false;
@@ -206,7 +206,7 @@ impl Space {
         requires below { is_open_below self.old variable cut ≡ true }
         requires above { is_open_above self.old variable cut ≡ true }
         ensures is { self.new ≡ above_cut self.old variable cut }
-        ensures lies { (s : Scenario) → Lies self.old s → cut < number_of s variable → Lies self.new s }
+        ensures lies { (s : Scenario) → IsInSpace self.old s → cut < number_of s variable → IsInSpace self.new s }
     {
         // that the high fits its type tells that `cut + 1` does
         let _high = self.high[variable as usize];
@@ -216,8 +216,8 @@ impl Space {
     }
 
     /// Whether a literal holds in the whole space.
-    pub fn tells(&self, literal: &Literal) -> bool
-        ensures { OnTrue result ((s : Scenario) → Lies self.now s → holds s literal.now ≡ true) }
+    pub fn implies(&self, literal: &Literal) -> bool
+        ensures { OnTrue result ((s : Scenario) → IsInSpace self.now s → holds s literal.now ≡ true) }
     {
         if self.low[literal.variable as usize] < literal.low {
             return false;
@@ -231,7 +231,7 @@ impl Space {
     /// Whether the faults that are left suffice for the lows of literals from a place on.
     pub fn affords(&self, literals: &[Literal], from: usize) -> bool
         requires { IsRising literals.now }
-        ensures { OnFalse result ((s : Scenario) → Lies self.now s → matches literals.now s ≡ false) }
+        ensures { OnFalse result ((s : Scenario) → IsInSpace self.now s → matches literals.now s ≡ false) }
     {
         let mut left = self.left;
         for at in from..literals.len() {
@@ -248,8 +248,8 @@ impl Space {
 
     /// Leaves the scenarios that literals match; false only if there are none, and then it is any space.
     pub fn narrow_to(&mut self, literals: &[Literal]) -> bool
-        ensures lies { OnTrue result ((s : Scenario) → Lies self.old s → matches literals.now s ≡ true → Lies self.new s) }
-        ensures none { OnFalse result ((s : Scenario) → Lies self.old s → matches literals.now s ≡ false) }
+        ensures lies { OnTrue result ((s : Scenario) → IsInSpace self.old s → matches literals.now s ≡ true → IsInSpace self.new s) }
+        ensures none { OnFalse result ((s : Scenario) → IsInSpace self.old s → matches literals.now s ≡ false) }
     {
         for literal in literals {
             if !self.narrow(*literal) {
@@ -261,8 +261,8 @@ impl Space {
 
     /// The scenarios of the space that literals match; `None` only if there are none.
     pub fn within(&self, literals: &[Literal]) -> Option<Space>
-        ensures lies { IfSome result (λ r. (s : Scenario) → Lies self.now s → matches literals.now s ≡ true → Lies r s) }
-        ensures none { IfNone result ((s : Scenario) → Lies self.now s → matches literals.now s ≡ false) }
+        ensures lies { IfSome result (λ r. (s : Scenario) → IsInSpace self.now s → matches literals.now s ≡ true → IsInSpace r s) }
+        ensures none { IfNone result ((s : Scenario) → IsInSpace self.now s → matches literals.now s ≡ false) }
     {
         let mut space = *self;
         if !space.narrow_to(literals) {
@@ -273,8 +273,8 @@ impl Space {
 
     /// The scenarios of at most `k` faults that literals match; `None` only if there are none.
     pub fn of(k: u8, literals: &[Literal]) -> Option<Space>
-        ensures lies { IfSome result (λ r. (s : Scenario) → HasFew k s → matches literals.now s ≡ true → Lies r s) }
-        ensures none { IfNone result ((s : Scenario) → HasFew k s → matches literals.now s ≡ false) }
+        ensures lies { IfSome result (λ r. (s : Scenario) → HasAtMostFaults k s → matches literals.now s ≡ true → IsInSpace r s) }
+        ensures none { IfNone result ((s : Scenario) → HasAtMostFaults k s → matches literals.now s ≡ false) }
     {
         let mut space = Space::whole(k);
         if !space.narrow_to(literals) {

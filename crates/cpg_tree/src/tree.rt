@@ -4,7 +4,7 @@ ghost use Rattle.std.specs.Bool.{OnTrue};
 ghost use Rattle.cpg_tree.specs.TreeNode.{TreeNode};
 ghost use Rattle.cpg_tree.specs.Decision.{IsGood};
 ghost use Rattle.cpg_tree.specs.Flat.{IsFlat, flat};
-ghost use Rattle.cpg_tree.specs.Later.{IsAtLeast, IsItemFrom, time_later};
+ghost use Rattle.cpg_tree.specs.Later.{AreAtLeast, IsItemFrom, time_later};
 ghost use Rattle.cpg_tree.specs.Paths.{paths_of};
 ghost use Rattle.cpg_tree.specs.ReadBack.{IsGoodList};
 ghost use Rattle.cpg_tree.specs.Tree.{HasOnePathEach, IsTidyPath, DoPathsPass, IsConstant, IsMap, IsJoin, IsValueAt};
@@ -188,7 +188,7 @@ fn is_item_from(item: TreeItem<Option<u64>>, least: u64) -> bool
 /// Whether each value of a tree is a time of at least this.
 fn are_at_least(items: &[TreeItem<Option<u64>>], least: u64) -> bool
     requires { IsFlat items.now }
-    ensures { OnTrue result ((n : TreeNode (Option ℕ)) → items.now ≡ flat n → IsAtLeast least n) }
+    ensures { OnTrue result ((n : TreeNode (Option ℕ)) → items.now ≡ flat n → AreAtLeast least n) }
 {
     for item in items {
         if !is_item_from(*item, least) {

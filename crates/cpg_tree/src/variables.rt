@@ -1,7 +1,7 @@
 //! Trees of the numbers of variables.
 ghost use Rattle.std.specs.Prelude.{◌≡◌, ◌≤◌, ◌<◌, ◌+◌, ℕ, Bool, true, All, IfOk, vec_len};
 ghost use Rattle.cpg_base.specs.Scenario.{number_of_value};
-ghost use Rattle.cpg_tree.specs.Added.{Adds};
+ghost use Rattle.cpg_tree.specs.Added.{AddsTree};
 ghost use Rattle.cpg_tree.specs.Tree.{HasOnePathEach, IsTidyPath, DoPathsPass, IsNumber};
 ghost use Rattle.cpg_tree.specs.Variables.{IsCounted, IsValued};
 
@@ -21,7 +21,7 @@ fn push_counts(
     requires process { process < 128 }
     requires first { first ≤ k }
     ensures long { IfOk result (λ _. vec_len out.old ≤ vec_len out.new) }
-    ensures made { IfOk result (λ _. Adds (IsCounted process first k) out.old.items out.new.items) }
+    ensures made { IfOk result (λ _. AddsTree (IsCounted process first k) out.old.items out.new.items) }
 {
     if first == k {
         out.push(TreeItem::Value(k))?;
@@ -37,7 +37,7 @@ fn push_counts(
 /// Adds the tree of the value of a condition.
 fn push_value(condition: u8, out: &mut Vec<TreeItem<bool>>) -> Result<(), OutOfMemory>
     requires { condition < 32 }
-    ensures { IfOk result (λ _. Adds (IsValued (128 + condition)) out.old.items out.new.items) }
+    ensures { IfOk result (λ _. AddsTree (IsValued (128 + condition)) out.old.items out.new.items) }
 {
     let start = out.len();
     out.push(TreeItem::Value(false))?;

@@ -17,7 +17,7 @@ use Rattle.cpg_cube.proofs.KeyPlaces.{first_differ}
 use Rattle.cpg_cube.proofs.Narrow.{rising-narrowed}
 use Rattle.cpg_cube.proofs.Narrowed.{low-other, low-same, high-other, high-same}
 use Rattle.cpg_tree.specs.TreeNode.{TreeNode, Leaf, Fork}
-use Rattle.cpg_tree_columns.specs.Along.{IsAlong}
+use Rattle.cpg_tree_columns.specs.Along.{AreForksAlong}
 use Rattle.cpg_tree_columns.specs.Columns.{column_of, columns_of_paths}
 use Rattle.cpg_tree.specs.Decision.{HasCuts, IsGood}
 use Rattle.cpg_tree.specs.Paths.{up_to, above, paths_from, paths_of}
@@ -66,7 +66,8 @@ falls k (Fork v cut below upper) cube rising cuts x c u =
 -- ---- the lows of variables that stand before all forks stay
 
 module _ (places : List ℕ) where
-  stays : {T : Type 0} (k left : ℕ) (node : TreeNode T) (cube : List Literal) → IsAlong places left node → (x : Path T) → Contains (paths_from k cube node) x → (u : ℕ) → left < get_or places u 0 →
+  stays : {T : Type 0} (k left : ℕ) (node : TreeNode T) (cube : List Literal) → AreForksAlong places left node → (x : Path T) → Contains (paths_from k cube node) x → (u : ℕ)
+      → left < get_or places u 0 →
       low_in x.0 u ≡ low_in cube u
   stays k left (Leaf y) cube along x c u l = ap (λ z. low_in z u) (only cube y x c)
   stays k left (Fork v cut below upper) cube along x c u l =
@@ -86,7 +87,7 @@ module _ (g : Graph) (order places : List ℕ) (are : ArePlaces (variables_along
   abbrev HasNumbers : {T : Type 0} → List (Path T) → Type 0
   HasNumbers {T} paths = (x : Path T) → Contains paths x → (u : ℕ) → u < 256 → low_in x.0 u ≤ high_in k x.0 u
 
-  sorted_paths : {T : Type 0} (left : ℕ) (node : TreeNode T) (cube : List Literal) → IsRising cube → HasCuts k node → IsAlong places left node → HasNumbers (paths_from k cube node) →
+  sorted_paths : {T : Type 0} (left : ℕ) (node : TreeNode T) (cube : List Literal) → IsRising cube → HasCuts k node → AreForksAlong places left node → HasNumbers (paths_from k cube node) →
       AllPairs (λ (x y : Path T). Stands x.0 y.0) (paths_from k cube node)
   sorted_paths {T} left (Leaf y) cube rising cuts along numbers = AllPairs-cons_by (λ (x z : Path T). Stands x.0 z.0) (cube, y) [] (λ z c. absurd (Contains-nil z c))
       (AllPairs-nil (λ (x z : Path T). Stands x.0 z.0))
@@ -126,7 +127,7 @@ module _ (g : Graph) (order places : List ℕ) (are : ArePlaces (variables_along
       alone cube (Some t) = AllPairs-cons_by (λ (c d : Column). Stands c.cube d.cube) (record { time = t; cube = cube }) [] (λ z c. absurd (Contains-nil z c))
           (AllPairs-nil (λ (c d : Column). Stands c.cube d.cube))
 
-  pub sorted_columns : (node : TreeNode (Option ℕ)) → IsGood k node → IsAlong places 256 node → AreByLows (λ (c : Column). c.cube) g order (columns_of_paths (paths_of k node))
+  pub sorted_columns : (node : TreeNode (Option ℕ)) → IsGood k node → AreForksAlong places 256 node → AreByLows (λ (c : Column). c.cube) g order (columns_of_paths (paths_of k node))
   sorted_columns node good along = columns_stand (paths_of k node)
       (sorted_paths 256 node [] (λ i j d l m. absurd (omega (arith, m))) (good_cuts k node good) along
-      (λ x c u l. let told = tidy_of k node good x c in omega (arith, told.told.low u l, told.is.opens u l, told.told.high u l)))
+      (λ x c u l. let covers = tidy_of k node good x c in omega (arith, covers.covers.low u l, covers.is.opens u l, covers.covers.high u l)))

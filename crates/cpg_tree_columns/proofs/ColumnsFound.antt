@@ -21,7 +21,7 @@ use Rattle.cpg_cube.specs.Undo.{IsUndo, restored}
 use Rattle.cpg_tree.specs.Decision.{HasCuts, IsFit, IsGood}
 use Rattle.cpg_tree.specs.Paths.{up_to, above, paths_from}
 use Rattle.cpg_tree.specs.Tree.{Path}
-use Rattle.cpg_tree.proofs.Rooms.{IsRoom, IsTold, low_at_most, cut_less, cut_under, room_below, room_above, told_below, told_above, room_whole, told_whole}
+use Rattle.cpg_tree.proofs.OpenSpaces.{IsOpenSpace, CoversSpace, low_at_most, cut_less, cut_under, opens_below, opens_above, covers_below, covers_above, whole_opens, whole_covers}
 use Rattle.cpg_tree_columns.specs.Columns.{column_of, columns_of_paths, columns_from}
 
 -- the range of a literal's variable after narrowing
@@ -45,17 +45,17 @@ range_high k l (m ∷ ms) h = elim (cases_eq l.variable m.variable) [
 
 -- ---- neither side's range is empty
 
-module _ (k : ℕ) (room : Space) (is : IsRoom k room) (v cut : ℕ) (there : v < 256) (below : is_open_below room v cut ≡ true) (upper : is_open_above room v cut ≡ true) (cube : List Literal)
-    (told : IsTold k room cube) where
+module _ (k : ℕ) (space : Space) (is : IsOpenSpace k space) (v cut : ℕ) (there : v < 256) (below : is_open_below space v cut ≡ true) (upper : is_open_above space v cut ≡ true) (cube : List Literal)
+    (covers : CoversSpace k space cube) where
   pub some_below : with_literal (up_to v cut) cube ≡ Some (narrowed_by (up_to v cut) cube)
   some_below = cond-true _ _ _ (le-leb (range_left (up_to v cut) cube).low (range_left (up_to v cut) cube).high
       (omega (
         arith,
         range_low (up_to v cut) cube,
-        range_high k (up_to v cut) cube (omega (arith, cut_under k room is v cut there below upper)),
-        told.low v there,
-        told.high v there,
-        low_at_most k room is v cut there below upper,
+        range_high k (up_to v cut) cube (omega (arith, cut_under k space is v cut there below upper)),
+        covers.low v there,
+        covers.high v there,
+        low_at_most k space is v cut there below upper,
         is.opens v there,
       )))
 
@@ -65,10 +65,10 @@ module _ (k : ℕ) (room : Space) (is : IsRoom k room) (v cut : ℕ) (there : v 
         arith,
         range_low (above k v cut) cube,
         range_high k (above k v cut) cube (omega arith),
-        told.low v there,
-        told.high v there,
-        cut_under k room is v cut there below upper,
-        cut_less k room is v cut there below upper,
+        covers.low v there,
+        covers.high v there,
+        cut_under k space is v cut there below upper,
+        cut_less k space is v cut there below upper,
         is.opens v there,
         is.tops v there,
       )))
@@ -78,19 +78,20 @@ module _ (k : ℕ) (room : Space) (is : IsRoom k room) (v cut : ℕ) (there : v 
 flat_both : (xs ys : List (Path (Option ℕ))) → columns_of_paths (xs ++ ys) ≡ columns_of_paths xs ++ columns_of_paths ys
 flat_both xs ys = flat_map-append (λ (p : Path (Option ℕ)). column_of p.0 p.1) xs ys
 
-pub columns_are : (k : ℕ) (node : TreeNode (Option ℕ)) (room : Space) (cube : List Literal) → IsRoom k room → IsTold k room cube → IsFit room node →
+pub columns_are : (k : ℕ) (node : TreeNode (Option ℕ)) (space : Space) (cube : List Literal) → IsOpenSpace k space → CoversSpace k space cube → IsFit space node →
     columns_from k cube node ≡ columns_of_paths (paths_from k cube node)
-columns_are k (Leaf x) room cube is told fit = sym (append-nil (column_of cube x))
-columns_are k (Fork v cut below upper) room cube is told fit =
+columns_are k (Leaf x) space cube is covers fit = sym (append-nil (column_of cube x))
+columns_are k (Fork v cut below upper) space cube is covers fit =
     ap₂ ◌++◌
-    (ap (λ (o : Option (List Literal)). option_map_or (λ c. columns_from k c below) o []) (some_below k room is v cut fit.0 fit.1 fit.2 cube told)
-    ∙ columns_are k below (below_cut room v cut) (narrowed_by (up_to v cut) cube) (room_below k room is v cut fit.0 fit.1 fit.2) (told_below k room is v cut fit.0 fit.1 fit.2 cube told) fit.3)
-    (ap (λ (o : Option (List Literal)). option_map_or (λ c. columns_from k c upper) o []) (some_above k room is v cut fit.0 fit.1 fit.2 cube told)
-    ∙ columns_are k upper (above_cut room v cut) (narrowed_by (above k v cut) cube) (room_above k room is v cut fit.0 fit.1 fit.2) (told_above k room is v cut fit.0 fit.1 fit.2 cube told) fit.4)
+    (ap (λ (o : Option (List Literal)). option_map_or (λ c. columns_from k c below) o []) (some_below k space is v cut fit.0 fit.1 fit.2 cube covers)
+    ∙ columns_are k below (below_cut space v cut) (narrowed_by (up_to v cut) cube) (opens_below k space is v cut fit.0 fit.1 fit.2) (covers_below k space is v cut fit.0 fit.1 fit.2 cube covers) fit.3)
+    (ap (λ (o : Option (List Literal)). option_map_or (λ c. columns_from k c upper) o []) (some_above k space is v cut fit.0 fit.1 fit.2 cube covers)
+    ∙ columns_are k upper (above_cut space v cut) (narrowed_by (above k v cut) cube) (opens_above k space is v cut fit.0 fit.1 fit.2) (covers_above k space is v cut fit.0 fit.1 fit.2 cube covers)
+    fit.4)
     ∙ sym (flat_both (paths_from k (narrowed_by (up_to v cut) cube) below) (paths_from k (narrowed_by (above k v cut) cube) upper))
 
 pub all_columns : (k : ℕ) (node : TreeNode (Option ℕ)) → IsGood k node → columns_from k [] node ≡ columns_of_paths (paths_from k [] node)
-all_columns k node good = columns_are k node good.0 [] (room_whole k good.0 good.1) (told_whole k good.0 good.1) good.2
+all_columns k node good = columns_are k node good.0 [] (whole_opens k good.0 good.1) (whole_covers k good.0 good.1) good.2
 
 -- the columns that are found from the root of a tree on are those of its paths
 pub columns_seen : (k : ℕ) (node : TreeNode (Option ℕ)) → IsGood k node → (paths : List (Path (Option ℕ))) → paths ≡ paths_from k [] node → (faults : ℕ) → faults ≡ k → (whole : List Literal) →

@@ -31,7 +31,7 @@ use Rattle.cpg_tree.specs.Paths.{up_to, above, paths_of}
 use Rattle.cpg_tree.specs.Tree.{Path}
 use Rattle.cpg_tree_columns.proofs.ColumnsFound.{above_again}
 use Rattle.cpg_tree_columns.specs.Columns.{column_of, columns_from, columns_of_paths, first_with, IsTidyColumn}
-use Rattle.cpg_tree_columns.specs.Greatest.{HasValue, IsLeastWhereSorted, kept}
+use Rattle.cpg_tree_columns.specs.Greatest.{HasValueAt, IsLeastWhereSorted, if_wanted}
 use Rattle.cpg_tree_columns.proofs.Leasts.{column_there, path_there}
 use Rattle.cpg_tree_columns.proofs.TidyColumns.{tidy_columns}
 
@@ -108,23 +108,23 @@ module _ (wanted : ℕ) where
     leaf_is : first_with wanted (columns_from k cube node) ≡ first_with wanted (column_of cube x)
     leaf_is = ap (λ (n : TreeNode (Option ℕ)). first_with wanted (columns_from k cube n)) is
 
-    pub leaf_first : is_some (kept wanted x) ≡ true → first_with wanted (columns_from k cube node) ≡ Some cube
+    pub leaf_first : is_some (if_wanted wanted x) ≡ true → first_with wanted (columns_from k cube node) ≡ Some cube
     leaf_first on = leaf_is ∙ by_value x on
       where
-        by_value : (o : Option ℕ) → is_some (kept wanted o) ≡ true → first_with wanted (column_of cube o) ≡ Some cube
+        by_value : (o : Option ℕ) → is_some (if_wanted wanted o) ≡ true → first_with wanted (column_of cube o) ≡ Some cube
         by_value None h = cc
         by_value (Some time) h = elim (cases_eq time wanted) [
           | inl same ↦ cond-true (time == wanted) (Some cube) None (eq-eqb _ _ same)
-          | inr differs ↦ absurd (both_ways (is_some (kept wanted (Some time))) (ap is_some (cond-false (time == wanted) (Some time) None (ne_eqb _ _ differs))) h)
+          | inr differs ↦ absurd (both_ways (is_some (if_wanted wanted (Some time))) (ap is_some (cond-false (time == wanted) (Some time) None (ne_eqb _ _ differs))) h)
         ]
 
-    pub leaf_none : is_some (kept wanted x) ≡ false → first_with wanted (columns_from k cube node) ≡ None
+    pub leaf_none : is_some (if_wanted wanted x) ≡ false → first_with wanted (columns_from k cube node) ≡ None
     leaf_none off = leaf_is ∙ by_value x off
       where
-        by_value : (o : Option ℕ) → is_some (kept wanted o) ≡ false → first_with wanted (column_of cube o) ≡ None
+        by_value : (o : Option ℕ) → is_some (if_wanted wanted o) ≡ false → first_with wanted (column_of cube o) ≡ None
         by_value None h = refl
         by_value (Some time) h = elim (cases_eq time wanted) [
-          | inl same ↦ absurd (both_ways (is_some (kept wanted (Some time))) h (ap is_some (cond-true (time == wanted) (Some time) None (eq-eqb _ _ same))))
+          | inl same ↦ absurd (both_ways (is_some (if_wanted wanted (Some time))) h (ap is_some (cond-true (time == wanted) (Some time) None (eq-eqb _ _ same))))
           | inr differs ↦ cond-false (time == wanted) (Some cube) None (ne_eqb _ _ differs)
         ]
 
@@ -185,7 +185,7 @@ module _ (g : Graph) (paths : List (Path (Option ℕ))) (wanted : ℕ) where
       by_value (Some cube) k None e = absurd (none-some (lows g cube) e)
 
   pub some_sorted : (order : List ℕ) → IsPermutation (numbers_below (process_count g)) order → AreByLows (λ (c : Column). c.cube) g order (columns_of_paths paths) →
-      (o : Option Scenario) → IfSome o (IsLeastWhereSorted g paths wanted) → IfSome o (IsLeast g order (HasValue paths (Some wanted)))
+      (o : Option Scenario) → IfSome o (IsLeastWhereSorted g paths wanted) → IfSome o (IsLeast g order (HasValueAt paths (Some wanted)))
   some_sorted order all stand None h = tt
   some_sorted order all stand (Some s) h = h order all stand
 

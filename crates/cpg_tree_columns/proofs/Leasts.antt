@@ -17,7 +17,7 @@ use Rattle.cpg_cube.proofs.KeyLows.{lows_are_key}
 use Rattle.cpg_cube.specs.Column.{Column}
 use Rattle.cpg_tree_columns.specs.Columns.{column_of, columns_of_paths, IsTidyColumn}
 use Rattle.cpg_tree.specs.Tree.{Path}
-use Rattle.cpg_tree_columns.specs.Greatest.{HasNumber}
+use Rattle.cpg_tree_columns.specs.Greatest.{HasNumberAt}
 
 least_of_column : (g : Graph) → process_count g ≤ 128 → (c : Column) → IsTidyColumn g c → (order : List ℕ) → IsLeast g order (λ s. matches c.cube s ≡ true) (lows g c.cube)
 least_of_column g few c tidy order = lows-least g few c.cube tidy.cube tidy.met order
@@ -76,7 +76,7 @@ module _ (paths : List (Path (Option ℕ))) (columns : List Column) (p : IsPermu
         ap₂ is_below (sym (lows_are_key g few d.cube (tidy_at d k).met order all)) (sym (lows_are_key g few c.cube (tidy_at c here).met order all)) ∙ below in
         not_before_transitive g order (lows g c.cube) (lows g d.cube) u order_of ((least_of_column g few d (tidy_at d k) order).least u law m)
 
-    pub least_of_columns : IsLeast g order (HasNumber paths) (lows g c.cube)
+    pub least_of_columns : IsLeast g order (HasNumberAt paths) (lows g c.cube)
     least_of_columns = record {
       lawful = (least_of_column g few c (tidy_at c here) order).lawful;
       holds =

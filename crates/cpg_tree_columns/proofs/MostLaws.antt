@@ -17,9 +17,9 @@ use Rattle.cpg_tree.specs.TreeNode.{TreeNode, Leaf, Fork}
 use Rattle.cpg_tree.specs.Decision.{IsGood}
 use Rattle.cpg_tree.specs.Paths.{up_to, above, paths_from, paths_of}
 use Rattle.cpg_tree_columns.specs.Columns.{column_of, columns_of_paths, IsTidyColumn}
-use Rattle.cpg_tree.specs.Space.{HasFew}
-use Rattle.cpg_tree.specs.Tree.{Path, TreeState, is_on, IsOn, IsMap, HasOnePathEach}
-use Rattle.cpg_tree_columns.specs.Greatest.{IsGreatestOf, HasNumber, HasValue, IsMost, IsReached, greater, most_of, kept}
+use Rattle.cpg_tree.specs.Space.{HasAtMostFaults}
+use Rattle.cpg_tree.specs.Tree.{Path, TreeState, is_on, IsOnPath, IsMap, HasOnePathEach}
+use Rattle.cpg_tree_columns.specs.Greatest.{IsGreatestOf, HasNumberAt, HasValueAt, IsGreatestNumber, IsNumberReached, greater, most_of, if_wanted}
 use Rattle.cpg_tree.proofs.OnePath.{scenario_few, the_path}
 use Rattle.cpg_tree.proofs.PathLaws.{one_path}
 use Rattle.cpg_tree_columns.proofs.TidyColumns.{tidy_columns}
@@ -82,7 +82,7 @@ no_most k node none p c = by_value p.1 refl
 
 -- some scenario has the number of a path
 path_reached : (g : Graph) (node : TreeNode (Option ℕ)) → IsGood g.faults node → (m : ℕ) → process_count g ≤ 128 → All (λ p. IsKnown g p.0) (paths_of g.faults node) → (p : Path (Option ℕ)) →
-    Contains (paths_of g.faults node) p → p.1 ≡ Some m → IsReached g (paths_of g.faults node) m
+    Contains (paths_of g.faults node) p → p.1 ≡ Some m → IsNumberReached g (paths_of g.faults node) m
 path_reached g node good m processes known p there is =
     let paths = paths_of g.faults node in
     let column : Contains (columns_of_paths paths) (record { time = m; cube = p.0 }) = Contains-flat_map (λ (p : Path (Option ℕ)). column_of p.0 p.1) paths p (record { time = m; cube = p.0 }) there
@@ -94,17 +94,17 @@ path_reached g node good m processes known p there is =
 
 -- some scenario has the greatest
 most_reached : (g : Graph) (node : TreeNode (Option ℕ)) → IsGood g.faults node → (m : ℕ) → most_of node ≡ Some m → process_count g ≤ 128 → All (λ p. IsKnown g p.0) (paths_of g.faults node) →
-    IsReached g (paths_of g.faults node) m
+    IsNumberReached g (paths_of g.faults node) m
 most_reached g node good m most processes known =
     let x = most_there g.faults node [] m most in
     path_reached g node good m processes known x.0 x.1 x.2
 
-most_is : (k : ℕ) (node : TreeNode (Option ℕ)) → IsGood k node → (m : ℕ) → most_of node ≡ Some m → IsMost (record { faults = k; paths = paths_of k node }) m
+most_is : (k : ℕ) (node : TreeNode (Option ℕ)) → IsGood k node → (m : ℕ) → most_of node ≡ Some m → IsGreatestNumber (record { faults = k; paths = paths_of k node }) m
 most_is k node good m most = record {
   above = λ p n c e. subst (λ o. IsUnder o n) most (under_most k node [] p n c e);
   there = most_there k node [] m most;
   reached = λ g processes same known.
-      subst (λ n. IsReached g (paths_of n node) m) (sym same)
+      subst (λ n. IsNumberReached g (paths_of n node) m) (sym same)
       (most_reached g node (subst (λ n. IsGood n node) same good) m most processes (subst (λ n. All (λ p. IsKnown g p.0) (paths_of n node)) same known));
 }
 
@@ -114,7 +114,7 @@ pub most_none : (k : ℕ) (node : TreeNode (Option ℕ)) (o : Option ℕ) → o 
 most_none k node None e = λ i d l. no_most k node (sym e) (get_or (paths_of k node) i d) (Contains-get_or (paths_of k node) i d l)
 most_none k node (Some m) e = tt
 
-pub most_some : (k : ℕ) (node : TreeNode (Option ℕ)) → IsGood k node → (o : Option ℕ) → o ≡ most_of node → IfSome o (IsMost (record { faults = k; paths = paths_of k node }))
+pub most_some : (k : ℕ) (node : TreeNode (Option ℕ)) → IsGood k node → (o : Option ℕ) → o ≡ most_of node → IfSome o (IsGreatestNumber (record { faults = k; paths = paths_of k node }))
 most_some k node good None e = tt
 most_some k node good (Some m) e = most_is k node good m (sym e)
 
@@ -126,18 +126,18 @@ not_without k node m most none =
     let x = most_there k node [] m most in
     All-contains (λ (p : Path (Option ℕ)). p.1 ≢ Some m) (paths_of k node) x.0 none x.1 x.2
 
-pub greatest_of : (g : Graph) (order : List ℕ) (k : ℕ) (node : TreeNode (Option ℕ)) (m : ℕ) → most_of node ≡ Some m → (s : Scenario) → IsLeast g order (HasValue (paths_of k node) (Some m)) s →
+pub greatest_of : (g : Graph) (order : List ℕ) (k : ℕ) (node : TreeNode (Option ℕ)) (m : ℕ) → most_of node ≡ Some m → (s : Scenario) → IsLeast g order (HasValueAt (paths_of k node) (Some m)) s →
     IsGreatestOf g order (paths_of k node) m s
 greatest_of g order k node m most s least = record { most = λ p n c e. subst (λ o. IsUnder o n) most (under_most k node [] p n c e); least = least }
 
 -- ---- the tree of one number alone
 
-kept_same : (m : ℕ) → kept m (Some m) ≡ Some m
-kept_same m = cond-true (m == m) (Some m) None (eq-eqb m m refl)
+if_wanted_same : (m : ℕ) → if_wanted m (Some m) ≡ Some m
+if_wanted_same m = cond-true (m == m) (Some m) None (eq-eqb m m refl)
 
-kept_is : (m : ℕ) (o : Option ℕ) (n : ℕ) → kept m o ≡ Some n → (o ≡ Some m) × (n ≡ m)
-kept_is m None n e = absurd (none-some n e)
-kept_is m (Some x) n e = elim (cases_eq x m) [
+if_wanted_is : (m : ℕ) (o : Option ℕ) (n : ℕ) → if_wanted m o ≡ Some n → (o ≡ Some m) × (n ≡ m)
+if_wanted_is m None n e = absurd (none-some n e)
+if_wanted_is m (Some x) n e = elim (cases_eq x m) [
   | inl same ↦
       let is : Some x ≡ Some n = sym (cond-true (x == m) (Some x) None (eq-eqb x m same)) ∙ e in
       (ap Some same, omega (arith, same, ap (λ o. unwrap_or o 0) is))
@@ -145,25 +145,25 @@ kept_is m (Some x) n e = elim (cases_eq x m) [
 ]
 
 module _ (g : Graph) (node : TreeNode (Option ℕ)) (good : IsGood g.faults node) (m : ℕ) (all only : TreeState (Option ℕ)) (is : record { faults = g.faults; paths = paths_of g.faults node } ≡ all)
-    (each : HasOnePathEach g.faults only.paths) (map : IsMap (λ x z. z ≡ kept m x) all only) where
-  few : (s : Scenario) → IsScenario g s → HasFew all.faults s
-  few s law = subst (λ n. HasFew n s) (ap (λ (t : TreeState (Option ℕ)). t.faults) is) (scenario_few g s law)
+    (each : HasOnePathEach g.faults only.paths) (map : IsMap (λ x z. z ≡ if_wanted m x) all only) where
+  few : (s : Scenario) → IsScenario g s → HasAtMostFaults all.faults s
+  few s law = subst (λ n. HasAtMostFaults n s) (ap (λ (t : TreeState (Option ℕ)). t.faults) is) (scenario_few g s law)
 
-  path_of : (s : Scenario) → IsScenario g s → (x : Path (Option ℕ)) × IsOn all.paths s x
+  path_of : (s : Scenario) → IsScenario g s → (x : Path (Option ℕ)) × IsOnPath all.paths s x
   path_of s law = the_path g.faults all.paths (λ u f. subst (λ (t : TreeState (Option ℕ)). length (filter (is_on u) t.paths) ≡ 1) is (one_path g.faults node good u f)) s (scenario_few g s law)
 
   -- if the tree has the number, so has the other
-  alone : (s : Scenario) → IsScenario g s → HasValue all.paths (Some m) s → HasValue only.paths (Some m) s
+  alone : (s : Scenario) → IsScenario g s → HasValueAt all.paths (Some m) s → HasValueAt only.paths (Some m) s
   alone s law has =
       let z = the_path g.faults only.paths each s (scenario_few g s law) in
-      (z.0, z.1, map.value s has.0 z.0 (few s law) has.1 z.1 ∙ ap (kept m) has.2 ∙ kept_same m)
+      (z.0, z.1, map.value s has.0 z.0 (few s law) has.1 z.1 ∙ ap (if_wanted m) has.2 ∙ if_wanted_same m)
 
   -- the least scenario of the one is that of the other
-  least_alone : (order : List ℕ) (s : Scenario) → IsLeast g order (HasNumber only.paths) s → IsLeast g order (HasValue all.paths (Some m)) s
+  least_alone : (order : List ℕ) (s : Scenario) → IsLeast g order (HasNumberAt only.paths) s → IsLeast g order (HasValueAt all.paths (Some m)) s
   least_alone order s h =
       let z = h.holds.has in
       let x = path_of s h.lawful in
-      let parts = kept_is m x.0.1 h.holds.number (sym (map.value s x.0 z.0 (few s h.lawful) x.1 z.1) ∙ z.2) in
+      let parts = if_wanted_is m x.0.1 h.holds.number (sym (map.value s x.0 z.0 (few s h.lawful) x.1 z.1) ∙ z.2) in
       record {
         lawful = h.lawful;
         holds = (x.0, x.1, parts.0);
@@ -175,7 +175,7 @@ module _ (g : Graph) (node : TreeNode (Option ℕ)) (good : IsGood g.faults node
   none_alone processes known none i d l e =
       let there = subst (λ (t : TreeState (Option ℕ)). Contains t.paths (get_or all.paths i d)) (sym is) (Contains-get_or all.paths i d l) in
       let r = path_reached g node good m processes known (get_or all.paths i d) there e in
-      let z = alone r.scenario r.lawful (subst (λ (t : TreeState (Option ℕ)). HasValue t.paths (Some m) r.scenario) is r.has) in
+      let z = alone r.scenario r.lawful (subst (λ (t : TreeState (Option ℕ)). HasValueAt t.paths (Some m) r.scenario) is r.has) in
       none-some m (sym (All-contains (λ (p : Path (Option ℕ)). p.1 ≡ None) only.paths z.0 none z.1.stands) ∙ z.2)
 
   -- ---- as what a call answers
@@ -185,6 +185,6 @@ module _ (g : Graph) (node : TreeNode (Option ℕ)) (good : IsGood g.faults node
   listed_none processes known None h = none_alone processes known h
   listed_none processes known (Some s) h = tt
 
-  pub listed_some : (order : List ℕ) (o : Option Scenario) → IfSome o (IsLeast g order (HasNumber only.paths)) → IfSome o (IsLeast g order (HasValue all.paths (Some m)))
+  pub listed_some : (order : List ℕ) (o : Option Scenario) → IfSome o (IsLeast g order (HasNumberAt only.paths)) → IfSome o (IsLeast g order (HasValueAt all.paths (Some m)))
   listed_some order None h = tt
   listed_some order (Some s) h = least_alone order s h

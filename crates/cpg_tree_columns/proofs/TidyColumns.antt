@@ -18,7 +18,7 @@ use Rattle.cpg_tree.specs.TreeNode.{TreeNode}
 use Rattle.cpg_tree.specs.Decision.{IsGood}
 use Rattle.cpg_tree.specs.Paths.{paths_of}
 use Rattle.cpg_tree.specs.Tree.{Path}
-use Rattle.cpg_tree.proofs.Tidy.{IsToldPath, tidy_of, range, not_whole, within}
+use Rattle.cpg_tree.proofs.Tidy.{IsPathAround, tidy_of, range, not_whole, within}
 use Rattle.cpg_tree_columns.specs.Columns.{column_of, columns_of_paths, IsTidyColumn}
 
 -- a sum over fewer numbers is no greater
@@ -29,24 +29,24 @@ sum_by_fewer f (suc n) (suc m) l = omega (arith, sum_by-below_first f n, sum_by-
 
 -- ---- some scenario meets the cube of a path
 
-is_open_literal : (k : ℕ) (cube : List Literal) (tidy : IsToldPath k cube) (l : Literal) → Contains cube l → is_open k l ≡ true
+is_open_literal : (k : ℕ) (cube : List Literal) (tidy : IsPathAround k cube) (l : Literal) → Contains cube l → is_open k l ≡ true
 is_open_literal k cube tidy l c =
     let there = (tidy.part l c).0 in
     let bounds = range k cube tidy l c in
-    let less : l.low ≤ l.high = omega (arith, bounds.0, bounds.1, tidy.told.low l.variable there, tidy.is.opens l.variable there, tidy.told.high l.variable there) in
+    let less : l.low ≤ l.high = omega (arith, bounds.0, bounds.1, tidy.covers.low l.variable there, tidy.is.opens l.variable there, tidy.covers.high l.variable there) in
     and_from (nat_le l.low l.high) _ (le-leb l.low l.high less) (le-leb l.low (top k l.variable) (omega (arith, less, within k cube tidy l c)))
 
-module _ (g : Graph) (few : process_count g ≤ 128) (cube : List Literal) (tidy : IsToldPath g.faults cube) (known : All (λ l. IsVariable g l.variable) cube) where
+module _ (g : Graph) (few : process_count g ≤ 128) (cube : List Literal) (tidy : IsPathAround g.faults cube) (known : All (λ l. IsVariable g l.variable) cube) where
   pub path_cube : IsCube g cube
-  path_cube = record { rising = tidy.told.rising; known = known }
+  path_cube = record { rising = tidy.covers.rising; known = known }
 
   pub path_met : is_met g.faults cube ≡ true
   path_met = and_from _ _ (all_from (is_open g.faults) cube (is_open_literal g.faults cube tidy))
       (le-leb (asked_faults cube) g.faults (omega (
         arith,
         budget_of_cube g few cube path_cube,
-        sum_by-le_each (low_in cube) (λ p. get_or tidy.room.low p 0) (numbers_below (process_count g)) (λ p c. tidy.told.low p (omega (arith, numbers-Contains (process_count g) p c, few))),
-        sum_below_le (λ p. get_or tidy.room.low p 0) (process_count g) few,
+        sum_by-le_each (low_in cube) (λ p. get_or tidy.space.low p 0) (numbers_below (process_count g)) (λ p c. tidy.covers.low p (omega (arith, numbers-Contains (process_count g) p c, few))),
+        sum_below_le (λ p. get_or tidy.space.low p 0) (process_count g) few,
         tidy.is.budget,
       )))
     where

@@ -6,9 +6,9 @@ use Rattle.cpg_base.specs.Scenario.{Scenario, IsScenario}
 use Rattle.cpg_base.specs.Variable.{top}
 use Rattle.cpg_tree.specs.TreeNode.{TreeNode}
 use Rattle.cpg_tree.specs.Decision.{value_at, DoForksPass}
-use Rattle.cpg_tree_columns.specs.Greatest.{HasValue}
+use Rattle.cpg_tree_columns.specs.Greatest.{HasValueAt}
 use Rattle.cpg_tree.specs.declared.space.Space.{Space}
-use Rattle.cpg_tree.specs.Space.{Lies, HasFew}
+use Rattle.cpg_tree.specs.Space.{IsInSpace, HasAtMostFaults}
 use Rattle.cpg_tree.specs.Tree.{TreeState, DoPathsPass}
 use Rattle.cpg_tree.specs.Variables.{is_variable}
 
@@ -16,8 +16,8 @@ use Rattle.cpg_tree.specs.Variables.{is_variable}
 
 -- a scenario has the number where the other tree is true
 pub record HasWhere (t : TreeState (Option ℕ)) (wanted : TreeState Bool) (number : ℕ) (s : Scenario) : Type 0 where
-  pub has : HasValue t.paths (Some number) s
-  pub there : HasValue wanted.paths true s
+  pub has : HasValueAt t.paths (Some number) s
+  pub there : HasValueAt wanted.paths true s
 
 -- the trees are of a graph of few processes
 pub record AreOf (g : Graph) (t : TreeState (Option ℕ)) (wanted : TreeState Bool) : Type 0 where
@@ -34,12 +34,12 @@ pub record IsReachedWhere (g : Graph) (t : TreeState (Option ℕ)) (wanted : Tre
 
 -- the greatest number that a scenario has where the other tree is true, and one of a graph has it
 pub record IsMostWhere (t : TreeState (Option ℕ)) (wanted : TreeState Bool) (most : ℕ) : Type 0 where
-  pub above : (s : Scenario) (other : ℕ) → HasFew t.faults s → HasWhere t wanted other s → other ≤ most
+  pub above : (s : Scenario) (other : ℕ) → HasAtMostFaults t.faults s → HasWhere t wanted other s → other ≤ most
   pub reached : (g : Graph) → AreOf g t wanted → IsReachedWhere g t wanted most
 
 -- no scenario has a number there
 abbrev pub IsNowhere : TreeState (Option ℕ) → TreeState Bool → Type 0
-IsNowhere t wanted = (s : Scenario) (number : ℕ) → HasFew t.faults s → HasWhere t wanted number s → ⊥
+IsNowhere t wanted = (s : Scenario) (number : ℕ) → HasAtMostFaults t.faults s → HasWhere t wanted number s → ⊥
 
 -- ---- of nodes
 
@@ -53,13 +53,13 @@ IsUpTo None number = ⊥
 IsUpTo (Some most) number = number ≤ most
 
 -- a space in which each range has a number, and the lows, which only variables of a graph have, are no more faults than it allows
-pub record IsRoomOf (g : Graph) (room : Space) : Type 0 where
-  pub lows : length room.low ≡ 256
-  pub highs : length room.high ≡ 256
-  pub opens : (v : ℕ) → v < 256 → get_or room.low v 0 ≤ get_or room.high v 0
-  pub tops : (v : ℕ) → v < 256 → get_or room.high v 0 ≤ top g.faults v
-  pub budget : sum_by (λ p. get_or room.low p 0) (numbers_below 128) + room.left ≤ g.faults
-  pub known : (v : ℕ) → (IsVariable g v → ⊥) → get_or room.low v 0 ≡ 0
+pub record IsOpenSpaceOf (g : Graph) (space : Space) : Type 0 where
+  pub lows : length space.low ≡ 256
+  pub highs : length space.high ≡ 256
+  pub opens : (v : ℕ) → v < 256 → get_or space.low v 0 ≤ get_or space.high v 0
+  pub tops : (v : ℕ) → v < 256 → get_or space.high v 0 ≤ top g.faults v
+  pub budget : sum_by (λ p. get_or space.low p 0) (numbers_below 128) + space.left ≤ g.faults
+  pub known : (v : ℕ) → (IsVariable g v → ⊥) → get_or space.low v 0 ≡ 0
 
 -- a graph whose variables are those of two trees
 pub record AreForksOf {T U : Type 0} (g : Graph) (a : TreeNode T) (b : TreeNode U) : Type 0 where
@@ -69,15 +69,15 @@ pub record AreForksOf {T U : Type 0} (g : Graph) (a : TreeNode T) (b : TreeNode 
 
 -- if the variables of a tree and of another one are a graph's, a scenario of it in a space has a fact
 abbrev pub IsMetIn : {T U : Type 0} → Space → TreeNode T → TreeNode U → (Scenario → Type 0) → Type 0
-IsMetIn room a b fact = (g : Graph) → AreForksOf g a b → IsRoomOf g room → (s : Scenario) × IsScenario g s × Lies room s × fact s
+IsMetIn space a b fact = (g : Graph) → AreForksOf g a b → IsOpenSpaceOf g space → (s : Scenario) × IsScenario g s × IsInSpace space s × fact s
 
 -- a number of the tree that a scenario of the space comes to where the other one is true
 abbrev pub IsFoundIn : Space → TreeNode (Option ℕ) → TreeNode Bool → Option ℕ → Type 0
-IsFoundIn room node wanted None = ⊥
-IsFoundIn room node wanted (Some number) = IsMetIn room node wanted (ComesTo node wanted number)
+IsFoundIn space node wanted None = ⊥
+IsFoundIn space node wanted (Some number) = IsMetIn space node wanted (ComesTo node wanted number)
 
 -- the greatest of a number and of those that scenarios of a space come to where the other tree is true
-pub record IsMostIn (room : Space) (node : TreeNode (Option ℕ)) (wanted : TreeNode Bool) (best most : Option ℕ) : Type 0 where
-  pub above : (s : Scenario) (number : ℕ) → Lies room s → ComesTo node wanted number s → IsUpTo most number
+pub record IsMostInSpace (space : Space) (node : TreeNode (Option ℕ)) (wanted : TreeNode Bool) (best most : Option ℕ) : Type 0 where
+  pub above : (s : Scenario) (number : ℕ) → IsInSpace space s → ComesTo node wanted number s → IsUpTo most number
   pub from : (number : ℕ) → IsUpTo best number → IsUpTo most number
-  pub found : (most ≡ best) ⊎ IsFoundIn room node wanted most
+  pub found : (most ≡ best) ⊎ IsFoundIn space node wanted most

@@ -6,7 +6,7 @@ ghost use Rattle.cpg_base.specs.Numbers.{numbers_below};
 ghost use Rattle.cpg_cube.specs.Keys.{AreByLows};
 ghost use Rattle.cpg_tree.specs.Flat.{IsFlat, flat};
 ghost use Rattle.cpg_tree.specs.TreeNode.{TreeNode};
-ghost use Rattle.cpg_tree_columns.specs.Along.{IsAlong};
+ghost use Rattle.cpg_tree_columns.specs.Along.{AreForksAlong};
 ghost use Rattle.cpg_tree_columns.specs.Columns.{columns_of_paths};
 
 use cpg_base::{Order, OutOfMemory, Problem};
@@ -24,7 +24,7 @@ fn leaves_along<T: Copy>(
     left: u16,
 ) -> Option<usize>
     requires { IsFlat items.now }
-    ensures { IfSome result (λ _. (n : TreeNode T) → items.now ≡ flat n → IsAlong places.now left n) }
+    ensures { IfSome result (λ _. (n : TreeNode T) → items.now ≡ flat n → AreForksAlong places.now left n) }
 {
     match top_of(items) {
         Top::Value(_) => Some(1),

@@ -2,11 +2,11 @@
 ghost use Rattle.std.specs.Prelude.{◌≡◌, ℕ, Bool, Option, Some, false, true, IfNone, IfSome};
 ghost use Rattle.std.specs.Bool.{OnFalse, OnTrue};
 ghost use Rattle.cpg_base.specs.Scenario.{Scenario};
-ghost use Rattle.cpg_tree.specs.Space.{Lies};
+ghost use Rattle.cpg_tree.specs.Space.{IsInSpace};
 ghost use Rattle.cpg_tree.specs.Decision.{value_at};
 ghost use Rattle.cpg_tree.specs.Flat.{IsFlat, flat};
 ghost use Rattle.cpg_tree.specs.TreeNode.{TreeNode};
-ghost use Rattle.cpg_tree_columns.specs.Meeting.{IsMetIn, IsMostIn, IsUpTo, IsMostWhere, IsNowhere};
+ghost use Rattle.cpg_tree_columns.specs.Meeting.{IsMetIn, IsMostInSpace, IsUpTo, IsMostWhere, IsNowhere};
 
 use cpg_tree::{Space, Top, Tree, TreeItem, top_of};
 
@@ -15,7 +15,7 @@ fn holds_in(items: &[TreeItem<bool>], space: &mut Space) -> bool
     requires { IsFlat items.now }
     ensures back { space.new ≡ space.old }
     ensures met { OnTrue result ((n : TreeNode Bool) → items.now ≡ flat n → IsMetIn space.old n n (λ s. value_at n s ≡ true)) }
-    ensures never { OnFalse result ((n : TreeNode Bool) → items.now ≡ flat n → (s : Scenario) → Lies space.old s → value_at n s ≡ false) }
+    ensures never { OnFalse result ((n : TreeNode Bool) → items.now ≡ flat n → (s : Scenario) → IsInSpace space.old s → value_at n s ≡ false) }
 {
     match top_of(items) {
         Top::Value(is) => is,
@@ -60,7 +60,7 @@ fn is_greater(number: Option<u64>, best: Option<u64>) -> bool
 }
 
 /// The greatest of a number and of those in a space where another tree is true.
-fn most_in(
+fn most_in_space(
     items: &[TreeItem<Option<u64>>],
     space: &mut Space,
     wanted: &[TreeItem<bool>],
@@ -69,7 +69,7 @@ fn most_in(
     requires flat { IsFlat items.now }
     requires wanted { IsFlat wanted.now }
     ensures back { space.new ≡ space.old }
-    ensures most { (n : TreeNode (Option ℕ)) (w : TreeNode Bool) → items.now ≡ flat n → wanted.now ≡ flat w → IsMostIn space.old n w best result }
+    ensures most { (n : TreeNode (Option ℕ)) (w : TreeNode Bool) → items.now ≡ flat n → wanted.now ≡ flat w → IsMostInSpace space.old n w best result }
 {
     match top_of(items) {
         Top::Value(number) => {
@@ -89,16 +89,16 @@ fn most_in(
             above,
         } => {
             if !space.is_open_below(variable, cut) {
-                return most_in(above, space, wanted, best);
+                return most_in_space(above, space, wanted, best);
             }
             if !space.is_open_above(variable, cut) {
-                return most_in(below, space, wanted, best);
+                return most_in_space(below, space, wanted, best);
             }
             let most = space.close_above(variable, cut);
-            let low = most_in(below, space, wanted, best);
+            let low = most_in_space(below, space, wanted, best);
             space.reopen_above(variable, most);
             let least = space.close_below(variable, cut);
-            let high = most_in(above, space, wanted, low);
+            let high = most_in_space(above, space, wanted, low);
             space.reopen_below(variable, least);
             high
         }
@@ -112,5 +112,5 @@ pub fn most_where(tree: &Tree<Option<u64>>, wanted: &Tree<bool>) -> Option<u64>
     ensures some { IfSome result (IsMostWhere tree.now wanted.now) }
 {
     let mut space = Space::whole(tree.faults());
-    most_in(tree.items(), &mut space, wanted.items(), None)
+    most_in_space(tree.items(), &mut space, wanted.items(), None)
 }

@@ -7,7 +7,7 @@ ghost use Rattle.cpg_base.specs.Numbers.{numbers_below};
 ghost use Rattle.cpg_cube.specs.Fit.{IsKnown, lows};
 ghost use Rattle.cpg_base.specs.Scenario.{IsLeast};
 ghost use Rattle.cpg_tree_columns.specs.Columns.{columns_from, columns_of_paths, first_with};
-ghost use Rattle.cpg_tree_columns.specs.Greatest.{HasNumber, HasValue, IsGreatestOf, IsLeastWhereSorted, IsMost, greater, kept, most_of};
+ghost use Rattle.cpg_tree_columns.specs.Greatest.{HasNumberAt, HasValueAt, IsGreatestOf, IsLeastWhereSorted, IsGreatestNumber, greater, if_wanted, most_of};
 ghost use Rattle.cpg_tree.specs.Decision.{HasCuts};
 ghost use Rattle.cpg_tree.specs.Flat.{IsFlat, flat};
 ghost use Rattle.cpg_tree.specs.TreeNode.{TreeNode};
@@ -33,8 +33,8 @@ fn greater(first: Option<u64>, second: Option<u64>) -> Option<u64>
 }
 
 /// A time, if it is this one.
-fn kept(wanted: u64, time: Option<u64>) -> Option<u64>
-    ensures { result ≡ kept wanted time }
+fn if_wanted(wanted: u64, time: Option<u64>) -> Option<u64>
+    ensures { result ≡ if_wanted wanted time }
 {
     let time = time?;
     if time == wanted { Some(time) } else { None }
@@ -52,12 +52,12 @@ fn most_of(items: &[TreeItem<Option<u64>>]) -> Option<u64>
 }
 
 /// The tree of one number alone.
-fn with_alone(tree: &Tree<Option<u64>>, wanted: u64) -> Result<Tree<Option<u64>>, OutOfMemory>
-    ensures is { IfOk result (IsMap (λ x z. z ≡ kept wanted x) tree.now) }
+fn only_wanted(tree: &Tree<Option<u64>>, wanted: u64) -> Result<Tree<Option<u64>>, OutOfMemory>
+    ensures is { IfOk result (IsMap (λ x z. z ≡ if_wanted wanted x) tree.now) }
     ensures each { IfOk result (λ t. HasOnePathEach t.faults t.paths) }
     ensures pass { IfOk result (λ t. (test : ℕ → Bool) → DoPathsPass test tree.now.paths → DoPathsPass test t.paths) }
 {
-    tree.map(&|time: Option<u64>| kept(wanted, time))
+    tree.map(&|time: Option<u64>| if_wanted(wanted, time))
 }
 
 /// The least scenario that has a number; `None` exactly if no scenario has one.
@@ -70,7 +70,7 @@ fn first_with_number(
     requires known { All (λ p. IsKnown problem.now p.0) tree.now.paths }
     requires order { IsPermutation (numbers_below (process_count problem.now)) order.now }
     ensures none { IfOk result (λ r. IfNone r (All (λ p. p.1 ≡ None) tree.now.paths)) }
-    ensures some { IfOk result (λ r. IfSome r (IsLeast problem.now order.now (HasNumber tree.now.paths))) }
+    ensures some { IfOk result (λ r. IfSome r (IsLeast problem.now order.now (HasNumberAt tree.now.paths))) }
 {
     // its clause tells that the graph is within its limits
     let _processes = problem.processes();
@@ -96,14 +96,14 @@ fn least_listed(
     requires known { All (λ p. IsKnown problem.now p.0) tree.now.paths }
     requires order { IsPermutation (numbers_below (process_count problem.now)) order.now }
     ensures none { IfOk result (λ r. IfNone r (All (λ p. p.1 ≢ Some wanted) tree.now.paths)) }
-    ensures some { IfOk result (λ r. IfSome r (IsLeast problem.now order.now (HasValue tree.now.paths (Some wanted)))) }
+    ensures some { IfOk result (λ r. IfSome r (IsLeast problem.now order.now (HasValueAt tree.now.paths (Some wanted)))) }
 {
     // its clause tells that the graph is within its limits
     let _processes = problem.processes();
     // and this one's that the tree fits, so that each scenario has its path
     let _items = tree.items();
     // a tree of this number alone has few columns
-    let alone = with_alone(tree, wanted)?;
+    let alone = only_wanted(tree, wanted)?;
     first_with_number(&alone, problem, order)
 }
 
@@ -122,7 +122,7 @@ fn narrow_to_first(
     ensures same { IfOk result (λ r. OnFalse r (cube.new ≡ cube.old)) }
 {
     match top_of(items) {
-        Top::Value(time) => Ok(kept(wanted, time).is_some()),
+        Top::Value(time) => Ok(if_wanted(wanted, time).is_some()),
         Top::Cut {
             variable,
             cut,
@@ -199,7 +199,7 @@ fn least_with(
     requires known { All (λ p. IsKnown problem.now p.0) tree.now.paths }
     requires order { IsPermutation (numbers_below (process_count problem.now)) order.now }
     ensures none { IfOk result (λ r. IfNone r (All (λ p. p.1 ≢ Some wanted) tree.now.paths)) }
-    ensures some { IfOk result (λ r. IfSome r (IsLeast problem.now order.now (HasValue tree.now.paths (Some wanted)))) }
+    ensures some { IfOk result (λ r. IfSome r (IsLeast problem.now order.now (HasValueAt tree.now.paths (Some wanted)))) }
 {
     // then the first from the left has the least scenario, and neither a tree of this number alone nor a list is needed
     if stand_along(tree, problem, order)? {
@@ -211,7 +211,7 @@ fn least_with(
 /// The greatest number of a path; `None` exactly if no path has one.
 pub fn most(tree: &Tree<Option<u64>>) -> Option<u64>
     ensures none { IfNone result (All (λ p. p.1 ≡ None) tree.now.paths) }
-    ensures some { IfSome result (IsMost tree.now) }
+    ensures some { IfSome result (IsGreatestNumber tree.now) }
 {
     most_of(tree.items())
 }

@@ -12,7 +12,7 @@ use Rattle.cpg_rules.specs.Guards.{Guards, tree_of}
 use Rattle.cpg_cube.specs.Cube.{holds}
 use Rattle.cpg_rules.specs.Admission.{IsAdmitted}
 use Rattle.cpg_tree.specs.declared.space.Space.{Space}
-use Rattle.cpg_tree.specs.Space.{Lies}
+use Rattle.cpg_tree.specs.Space.{IsInSpace}
 use Rattle.cpg_tree.proofs.Passes.{of_true}
 use Rattle.cpg_violation.specs.Activity.{comes_to, value_literal}
 use Rattle.cpg_violation.specs.Sources.{is_active_by}
@@ -35,18 +35,18 @@ module _ (wanted : Bool) (c : ℕ) (off on : Guard) (s : Scenario) where
   both_arms low high = arms (get_or s.values c false) refl (λ e. low) (λ e. high)
 
 -- the same in all scenarios of a space
-module _ (wanted : Bool) (tree : Guard) (c : ℕ) (off on : Guard) (is : tree ≡ Test c off on) (room : Space) where
-  pub step_on : (b : Bool) → OnTrue b ((s : Scenario) → Lies room s → comes_to on wanted s ≡ false) → ((s : Scenario) → Lies room s → holds s (value_literal c true) ≡ true)
-      → OnTrue b ((s : Scenario) → Lies room s → comes_to tree wanted s ≡ false)
-  step_on b high some = of_true b high (λ h. subst (λ t. (s : Scenario) → Lies room s → comes_to t wanted s ≡ false) (sym is) (λ s lies. only_on wanted c off on s (some s lies) (h s lies)))
+module _ (wanted : Bool) (tree : Guard) (c : ℕ) (off on : Guard) (is : tree ≡ Test c off on) (space : Space) where
+  pub step_on : (b : Bool) → OnTrue b ((s : Scenario) → IsInSpace space s → comes_to on wanted s ≡ false) → ((s : Scenario) → IsInSpace space s → holds s (value_literal c true) ≡ true)
+      → OnTrue b ((s : Scenario) → IsInSpace space s → comes_to tree wanted s ≡ false)
+  step_on b high some = of_true b high (λ h. subst (λ t. (s : Scenario) → IsInSpace space s → comes_to t wanted s ≡ false) (sym is) (λ s lies. only_on wanted c off on s (some s lies) (h s lies)))
 
-  pub step_off : ((s : Scenario) → Lies room s → comes_to off wanted s ≡ false) → ((s : Scenario) → Lies room s → holds s (value_literal c false) ≡ true)
-      → (s : Scenario) → Lies room s → comes_to tree wanted s ≡ false
-  step_off low none = subst (λ t. (s : Scenario) → Lies room s → comes_to t wanted s ≡ false) (sym is) (λ s lies. only_off wanted c off on s (none s lies) (low s lies))
+  pub step_off : ((s : Scenario) → IsInSpace space s → comes_to off wanted s ≡ false) → ((s : Scenario) → IsInSpace space s → holds s (value_literal c false) ≡ true)
+      → (s : Scenario) → IsInSpace space s → comes_to tree wanted s ≡ false
+  step_off low none = subst (λ t. (s : Scenario) → IsInSpace space s → comes_to t wanted s ≡ false) (sym is) (λ s lies. only_off wanted c off on s (none s lies) (low s lies))
 
-  pub step_both : (b : Bool) → ((s : Scenario) → Lies room s → comes_to off wanted s ≡ false) → OnTrue b ((s : Scenario) → Lies room s → comes_to on wanted s ≡ false)
-      → OnTrue b ((s : Scenario) → Lies room s → comes_to tree wanted s ≡ false)
-  step_both b low high = of_true b high (λ h. subst (λ t. (s : Scenario) → Lies room s → comes_to t wanted s ≡ false) (sym is) (λ s lies. both_arms wanted c off on s (low s lies) (h s lies)))
+  pub step_both : (b : Bool) → ((s : Scenario) → IsInSpace space s → comes_to off wanted s ≡ false) → OnTrue b ((s : Scenario) → IsInSpace space s → comes_to on wanted s ≡ false)
+      → OnTrue b ((s : Scenario) → IsInSpace space s → comes_to tree wanted s ≡ false)
+  step_both b low high = of_true b high (λ h. subst (λ t. (s : Scenario) → IsInSpace space s → comes_to t wanted s ≡ false) (sym is) (λ s lies. both_arms wanted c off on s (low s lies) (h s lies)))
 
 -- a process by its tree
 module _ {g : Graph} {order : List ℕ} {guards : Guards} (admitted : IsAdmitted g order guards) (p : ℕ) (l : p < process_count g) (s : Scenario) (law : IsScenario g s) where

@@ -8,22 +8,22 @@ use Rattle.cpg_base.specs.Scenario.{Scenario, IsScenario}
 use Rattle.cpg_cube.specs.Cube.{matches}
 use Rattle.cpg_cube.specs.declared.literal.Literal.{Literal}
 use Rattle.cpg_tree.specs.declared.space.Space.{Space}
-use Rattle.cpg_tree.specs.Space.{HasFew, Lies}
+use Rattle.cpg_tree.specs.Space.{HasAtMostFaults, IsInSpace}
 use Rattle.cpg_tree.proofs.OnePath.{scenario_few}
 
 module _ (g : Graph) (k : ℕ) (faults : k ≡ g.faults) (s : Scenario) (law : IsScenario g s) where
-  pub few_of : HasFew k s
-  few_of = subst (λ k. HasFew k s) (sym faults) (scenario_few g s law)
+  pub few_of : HasAtMostFaults k s
+  few_of = subst (λ k. HasAtMostFaults k s) (sym faults) (scenario_few g s law)
 
   module _ (cube literals : List Literal) (same : literals ≡ cube) (m : matches cube s ≡ true) (o : Option Space) where
     -- there is one if a scenario matches
-    pub not_none : o ≡ None → IfNone o ((s : Scenario) → HasFew k s → matches literals s ≡ false) → ⊥
+    pub not_none : o ≡ None → IfNone o ((s : Scenario) → HasAtMostFaults k s → matches literals s ≡ false) → ⊥
     not_none e none = go o e none
       where
-        go : (o : Option Space) → o ≡ None → IfNone o ((s : Scenario) → HasFew k s → matches literals s ≡ false) → ⊥
-        go (Some room) e none = none-some room (sym e)
+        go : (o : Option Space) → o ≡ None → IfNone o ((s : Scenario) → HasAtMostFaults k s → matches literals s ≡ false) → ⊥
+        go (Some space) e none = none-some space (sym e)
         go None e none = both_ways (matches literals s) (none s few_of) (ap (λ c. matches c s) same ∙ m)
 
     -- and the scenario lies in it
-    pub lies_in : (room : Space) → o ≡ Some room → IfSome o (λ r. (s : Scenario) → HasFew k s → matches literals s ≡ true → Lies r s) → Lies room s
-    lies_in room e some = subst (λ o. IfSome o (λ r. (s : Scenario) → HasFew k s → matches literals s ≡ true → Lies r s)) e some s few_of (ap (λ c. matches c s) same ∙ m)
+    pub lies_in : (space : Space) → o ≡ Some space → IfSome o (λ r. (s : Scenario) → HasAtMostFaults k s → matches literals s ≡ true → IsInSpace r s) → IsInSpace space s
+    lies_in space e some = subst (λ o. IfSome o (λ r. (s : Scenario) → HasAtMostFaults k s → matches literals s ≡ true → IsInSpace r s)) e some s few_of (ap (λ c. matches c s) same ∙ m)

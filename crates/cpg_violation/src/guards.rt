@@ -8,7 +8,7 @@ ghost use Rattle.cpg_base.specs.Graph.{edge_at, edge_count, item_at, item_count,
 ghost use Rattle.cpg_base.specs.Limits.{IsWithinLimits};
 ghost use Rattle.cpg_base.specs.Scenario.{Scenario, IsScenario};
 ghost use Rattle.cpg_rules.specs.Trees.{TestsBelow};
-ghost use Rattle.cpg_tree.specs.Space.{Lies};
+ghost use Rattle.cpg_tree.specs.Space.{IsInSpace};
 ghost use Rattle.cpg_violation.specs.Activity.{comes_to};
 ghost use Rattle.cpg_violation.specs.Always.{AreAlways};
 
@@ -22,20 +22,20 @@ use std::alloc::Global;
 /// Whether a tree comes to an activation, or else to none, as wanted, in no scenario of a space.
 fn is_never(tree: &GuardTree, wanted: bool, space: &Space) -> bool
     requires { (n : ℕ) × (n ≤ MOST_CONDITIONS) × TestsBelow n tree.now }
-    ensures { OnTrue result ((s : Scenario) → Lies space.now s → comes_to tree.now wanted s ≡ false) }
+    ensures { OnTrue result ((s : Scenario) → IsInSpace space.now s → comes_to tree.now wanted s ≡ false) }
 {
     match tree.top() {
         GuardTop::Leaf(activation) => activation.is_active() != wanted,
         GuardTop::Test { condition, no, yes } => {
             let on = value_literal(condition, true);
-            if space.tells(&on) {
+            if space.implies(&on) {
                 return is_never(yes, wanted, space);
             }
             if !is_never(no, wanted, space) {
                 return false;
             }
             let off = value_literal(condition, false);
-            if space.tells(&off) {
+            if space.implies(&off) {
                 return true;
             }
             is_never(yes, wanted, space)
@@ -46,7 +46,7 @@ fn is_never(tree: &GuardTree, wanted: bool, space: &Space) -> bool
 /// Whether a process is active in no scenario of a space.
 fn is_idle(admitted: &Admitted, process: u32, space: &Space) -> bool
     requires { process < process_count admitted.now.graph }
-    ensures { OnTrue result ((s : Scenario) → IsScenario admitted.now.graph s → Lies space.now s → active admitted.now.graph s.values process ≡ false) }
+    ensures { OnTrue result ((s : Scenario) → IsScenario admitted.now.graph s → IsInSpace space.now s → active admitted.now.graph s.values process ≡ false) }
 {
     is_never(admitted.guards().guard_of(process), true, space)
 }
@@ -54,7 +54,7 @@ fn is_idle(admitted: &Admitted, process: u32, space: &Space) -> bool
 /// Whether a process is active in each scenario of a space. A no tells nothing.
 pub fn is_running(admitted: &Admitted, process: u32, space: &Space) -> bool
     requires { process < process_count admitted.now.graph }
-    ensures { OnTrue result ((s : Scenario) → IsScenario admitted.now.graph s → Lies space.now s → active admitted.now.graph s.values process ≡ true) }
+    ensures { OnTrue result ((s : Scenario) → IsScenario admitted.now.graph s → IsInSpace space.now s → active admitted.now.graph s.values process ≡ true) }
 {
     is_never(admitted.guards().guard_of(process), false, space)
 }
@@ -87,7 +87,7 @@ fn edge_of(problem: &Problem, edge: u32) -> Edge
 /// Whether the source of an edge has the value that the edge asks for in no scenario of a space. A no tells nothing.
 pub fn is_refused(problem: &Problem, edge: u32, space: &Space) -> bool
     requires { edge < edge_count problem.now }
-    ensures { OnTrue result ((s : Scenario) → Lies space.now s →
+    ensures { OnTrue result ((s : Scenario) → IsInSpace space.now s →
         takes (edge_at problem.now edge).when (value_of problem.now s.values (source problem.now edge)) ≡ false) }
 {
     let edge = edge_of(problem, edge);
@@ -97,13 +97,13 @@ pub fn is_refused(problem: &Problem, edge: u32, space: &Space) -> bool
     let Some(condition) = problem.condition_of(edge.from) else {
         return false;
     };
-    space.tells(&value_literal(condition, !value))
+    space.implies(&value_literal(condition, !value))
 }
 
 /// Whether the source of an edge has the value that the edge asks for in each scenario of a space.
 fn is_taken(problem: &Problem, edge: u32, space: &Space) -> bool
     requires { edge < edge_count problem.now }
-    ensures { OnTrue result ((s : Scenario) → Lies space.now s →
+    ensures { OnTrue result ((s : Scenario) → IsInSpace space.now s →
         takes (edge_at problem.now edge).when (value_of problem.now s.values (source problem.now edge)) ≡ true) }
 {
     let edge = edge_of(problem, edge);
@@ -113,13 +113,13 @@ fn is_taken(problem: &Problem, edge: u32, space: &Space) -> bool
     let Some(condition) = problem.condition_of(edge.from) else {
         return false;
     };
-    space.tells(&value_literal(condition, value))
+    space.implies(&value_literal(condition, value))
 }
 
 /// Whether an edge is live in no scenario of a space.
 fn is_edge_idle(admitted: &Admitted, edge: u32, space: &Space) -> bool
     requires { edge < edge_count admitted.now.graph }
-    ensures { OnTrue result ((s : Scenario) → IsScenario admitted.now.graph s → Lies space.now s → live admitted.now.graph s.values edge ≡ false) }
+    ensures { OnTrue result ((s : Scenario) → IsScenario admitted.now.graph s → IsInSpace space.now s → live admitted.now.graph s.values edge ≡ false) }
 {
     let problem = admitted.problem();
     if is_refused(problem, edge, space) {
@@ -131,7 +131,7 @@ fn is_edge_idle(admitted: &Admitted, edge: u32, space: &Space) -> bool
 /// Whether an edge is live in each scenario of a space.
 fn is_edge_running(admitted: &Admitted, edge: u32, space: &Space) -> bool
     requires { edge < edge_count admitted.now.graph }
-    ensures { OnTrue result ((s : Scenario) → IsScenario admitted.now.graph s → Lies space.now s → live admitted.now.graph s.values edge ≡ true) }
+    ensures { OnTrue result ((s : Scenario) → IsScenario admitted.now.graph s → IsInSpace space.now s → live admitted.now.graph s.values edge ≡ true) }
 {
     let problem = admitted.problem();
     if !is_taken(problem, edge, space) {
@@ -143,7 +143,7 @@ fn is_edge_running(admitted: &Admitted, edge: u32, space: &Space) -> bool
 /// Whether an item is active in no scenario of a space. A no tells nothing.
 pub fn is_item_idle(admitted: &Admitted, item: u32, space: &Space) -> bool
     requires { item < item_count admitted.now.graph }
-    ensures { OnTrue result ((s : Scenario) → IsScenario admitted.now.graph s → Lies space.now s →
+    ensures { OnTrue result ((s : Scenario) → IsScenario admitted.now.graph s → IsInSpace space.now s →
         item_active admitted.now.graph s.values (item_at admitted.now.graph item) ≡ false) }
 {
     match item_source(admitted.problem(), item) {
@@ -156,7 +156,7 @@ pub fn is_item_idle(admitted: &Admitted, item: u32, space: &Space) -> bool
 /// Whether an item is active in each scenario of a space. A no tells nothing.
 pub fn is_item_running(admitted: &Admitted, item: u32, space: &Space) -> bool
     requires { item < item_count admitted.now.graph }
-    ensures { OnTrue result ((s : Scenario) → IsScenario admitted.now.graph s → Lies space.now s →
+    ensures { OnTrue result ((s : Scenario) → IsScenario admitted.now.graph s → IsInSpace space.now s →
         item_active admitted.now.graph s.values (item_at admitted.now.graph item) ≡ true) }
 {
     match item_source(admitted.problem(), item) {

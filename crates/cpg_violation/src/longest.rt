@@ -3,7 +3,7 @@ ghost use Rattle.std.specs.Prelude.{◌≤◌, ◌<◌, ◌^◌};
 ghost use Rattle.cpg_base.specs.Duration.{duration};
 ghost use Rattle.cpg_base.specs.Graph.{process_count};
 ghost use Rattle.cpg_base.specs.Scenario.{Scenario, IsScenario, fault_of};
-ghost use Rattle.cpg_tree.specs.Space.{Lies};
+ghost use Rattle.cpg_tree.specs.Space.{IsInSpace};
 
 use cpg_base::Problem;
 use cpg_tree::Space;
@@ -11,7 +11,7 @@ use cpg_tree::Space;
 /// How long an execution takes at most in the scenarios of a space.
 pub(crate) fn longest(problem: &Problem, process: u32, space: &Space) -> u64
     requires { process < process_count problem.now }
-    ensures most { (s : Scenario) → IsScenario problem.now s → Lies space.now s → duration problem.now process (fault_of s process) ≤ result }
+    ensures most { (s : Scenario) → IsScenario problem.now s → IsInSpace space.now s → duration problem.now process (fault_of s process) ≤ result }
     ensures short { result < 2 ^ 40 }
 {
     let faults = problem.faults();

@@ -2,11 +2,11 @@ use Rattle.std.proofs.Common.{◌≡◌, true, take}
 use Rattle.std.specs.Prelude.{IfNone, IfSome}
 use Rattle.cpg_base.specs.Scenario.{Scenario}
 use Rattle.cpg_cube.specs.Cube.{holds, matches}
-use Rattle.cpg_tree.specs.Space.{Lies}
+use Rattle.cpg_tree.specs.Space.{IsInSpace}
 use Rattle.cpg_audit.proofs.narrowing.extent_of.Given as goal
 
 abbrev pub invariant-loop-literal : goal.invariant-loop-literal
 invariant-loop-literal l = record {
-  none : IfNone l.open ((s : Scenario) → Lies l.space s → matches (take l.literal-index l.literals) s ≡ true);
-  some : IfSome l.open (λ o. (s : Scenario) → Lies l.space s → matches (take l.literal-index l.literals) s ≡ holds s o);
+  none : IfNone l.open ((s : Scenario) → IsInSpace l.space s → matches (take l.literal-index l.literals) s ≡ true);
+  some : IfSome l.open (λ o. (s : Scenario) → IsInSpace l.space s → matches (take l.literal-index l.literals) s ≡ holds s o);
 }

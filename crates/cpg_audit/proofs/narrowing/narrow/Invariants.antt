@@ -2,13 +2,13 @@ use Rattle.std.proofs.Common.{◌≡◌, ◌≤◌, false, drop, length}
 use Rattle.std.specs.List.{list_any}
 use Rattle.cpg_base.specs.Scenario.{Scenario}
 use Rattle.cpg_cube.specs.Cube.{matches}
-use Rattle.cpg_tree.specs.Space.{Lies}
+use Rattle.cpg_tree.specs.Space.{IsInSpace}
 use Rattle.cpg_audit.proofs.narrowing.narrow.Given as goal
 
 abbrev pub invariant-loop-place : goal.invariant-loop-place
 invariant-loop-place l = record {
   within : l.place ≤ length l.by;
-  left : (s : Scenario) → list_any (λ b. matches b.now s) (drop l.place l.by) ≡ false → Lies l.fn.space s → Lies l.space s;
+  left : (s : Scenario) → list_any (λ b. matches b.now s) (drop l.place l.by) ≡ false → IsInSpace l.fn.space s → IsInSpace l.space s;
 }
 
 abbrev pub decreases-loop-place : goal.decreases-loop-place

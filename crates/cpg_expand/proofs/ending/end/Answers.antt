@@ -2,7 +2,7 @@ use Rattle.std.proofs.Common.{ℕ, List, ◌≡◌, ◌∙◌, subst}
 use Rattle.cpg_tree.specs.Tree.{IsJoin, IsNumber}
 use Rattle.cpg_tree.specs.Variables.{is_variable}
 use Rattle.cpg_expand.specs.Values.{ended}
-use Rattle.cpg_expand.proofs.TreesTold.{end_told, same_tree, count_passes}
+use Rattle.cpg_expand.proofs.GuardTrees.{end_valued, same_tree, count_passes}
 use Rattle.cpg_expand.proofs.ending.end.Goals as goal
 
 pub returns-clause-tree : goal.returns-clause-tree
@@ -11,6 +11,6 @@ returns-clause-tree c = same_tree c.args.problem.now c.args.start.now c.in_ok-en
     (c.in_ok-faults.ensures.pass (is_variable c.args.problem.now) (count_passes c.args.problem.now c.args.process c.requires.process)))
 
 pub returns-clause-end : goal.returns-clause-end
-returns-clause-end c = end_told c.args.problem.now c.args.process c.args.start.now c.in_ok-end.end c.in_ok-faults.faults c.requires.start
+returns-clause-end c = end_valued c.args.problem.now c.args.process c.args.start.now c.in_ok-end.end c.in_ok-faults.faults c.requires.start
     (subst (λ k. IsNumber c.args.process k (λ n. n) c.in_ok-faults.faults) c.faults.ensures.faults c.in_ok-faults.ensures.is) c.in_ok-faults.ensures.each
     (subst (λ (ds : List ℕ). IsJoin (λ x n z. z ≡ ended ds n x) c.args.start.now c.in_ok-faults.faults c.in_ok-end.end) (c.as_slice.ensures.value ∙ c.in_ok-durations.ensures) c.in_ok-end.ensures.is)

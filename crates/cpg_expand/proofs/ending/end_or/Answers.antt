@@ -1,7 +1,7 @@
 use Rattle.cpg_tree.proofs.Readings.{later_pass, later_each, later_map}
 use Rattle.cpg_tree.specs.Read.{later_by}
 use Rattle.cpg_tree.specs.Variables.{is_variable}
-use Rattle.cpg_expand.proofs.TreesTold.{each_of, ready_told, same_tree}
+use Rattle.cpg_expand.proofs.GuardTrees.{each_of, ready_valued, same_tree}
 use Rattle.cpg_expand.proofs.ending.end_or.Goals as goal
 
 pub returns-clause-tree : goal.returns-clause-tree
@@ -13,5 +13,5 @@ returns-clause-ready c =
     let g = c.args.problem.now in
     let end = c.args.end.now in
     let each = each_of g end.faults end c.requires.end.faults c.requires.end in
-    ready_told g c.args.active.now end c.args.wait.now (later_by 0 end) c.in_ok-ready.ready c.requires.active c.requires.end c.requires.wait (later_map 0 end each) (later_each 0 end each)
+    ready_valued g c.args.active.now end c.args.wait.now (later_by 0 end) c.in_ok-ready.ready c.requires.active c.requires.end c.requires.wait (later_map 0 end each) (later_each 0 end each)
     (later_pass 0 end (is_variable g) c.requires.end.known) c.in_ok-ready.ensures.is

@@ -1,5 +1,5 @@
 use Rattle.cpg_expand.specs.Forest.{ready_by}
-use Rattle.cpg_expand.proofs.TreesTold.{ready_always}
+use Rattle.cpg_expand.proofs.GuardTrees.{ready_always}
 use Rattle.cpg_expand.proofs.ending.ready.Goals as goal
 
 pub returns-then-is_true-clause-ready : goal.returns-then-is_true-clause-ready

@@ -2,7 +2,7 @@ use Rattle.std.proofs.Common.{sym, subst}
 use Rattle.cpg_expand.specs.Ending.{IsReadyTree}
 use Rattle.cpg_expand.specs.Forest.{IsWait, ends_of, later_tree, ready_by}
 use Rattle.cpg_expand.specs.declared.forest.Ready.{Ready}
-use Rattle.cpg_expand.proofs.TreesTold.{ready_after}
+use Rattle.cpg_expand.proofs.GuardTrees.{ready_after}
 use Rattle.cpg_expand.proofs.ending.ready_at.Goals as goal
 
 pub end_there-requires-clause-process : goal.end_there-requires-clause-process

@@ -4,8 +4,8 @@ use Rattle.cpg_tree.specs.Tree.{TreeState}
 use Rattle.cpg_expand.specs.declared.growing.GrownForest.{GrownForest}
 use Rattle.cpg_expand.specs.Forest.{ForestState}
 use Rattle.cpg_expand.specs.Grown.{IsGrown}
-use Rattle.cpg_expand.specs.Peaks.{TellEnds, IsWorstOfTrees, IsExcessOfTrees}
-use Rattle.cpg_expand.proofs.GrownRows.{grown_frozen, grown_tells_ends, said_of}
+use Rattle.cpg_expand.specs.Peaks.{GiveEnds, IsWorstOfTrees, IsExcessOfTrees}
+use Rattle.cpg_expand.proofs.GrownRows.{grown_frozen, grown_gives_ends, said_of}
 use Rattle.cpg_expand.proofs.expanding.measured.Goals as goal
 
 pub returns : goal.returns
@@ -18,7 +18,7 @@ returns c =
     let frozen : List (Option ℕ) = c.args.trees.frozen in
     let forest : ForestState = c.args.trees.forest in
     let grown : IsGrown g order (process_count g) frozen forest = c.requires.grown in
-    let tells : TellEnds g order frozen forest.ends = grown_tells_ends g urgency guards a order c.requires.topological frozen forest grown in
+    let has_value : GiveEnds g order frozen forest.ends = grown_gives_ends g urgency guards a order c.requires.topological frozen forest grown in
     let worst : IsWorstOfTrees g urgency forest.ends c.in_ok-worst.worst = said_of (λ h us ts. IsWorstOfTrees h us ts c.in_ok-worst.worst) g c.problem-problem.result.now urgency
     c.order-urgency.result.now forest.ends c.as_slice-ends.result.now
     c.problem-problem.ensures.problem c.order-urgency.ensures.order (c.as_slice-ends.ensures.value ∙ ap (λ (m : GrownForest). m.forest.ends) c.trees.view_is) c.in_ok-worst.ensures.worst in
@@ -30,6 +30,6 @@ returns c =
       wide = c.requires.wide;
       trees = grown;
       frozen = grown_frozen g urgency guards a order c.requires.topological frozen forest grown;
-      worst = worst order frozen c.requires.topological tells;
-      excess = excess order frozen c.requires.topological tells;
+      worst = worst order frozen c.requires.topological has_value;
+      excess = excess order frozen c.requires.topological has_value;
     }

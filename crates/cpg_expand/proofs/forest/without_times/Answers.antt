@@ -2,7 +2,7 @@ use Rattle.std.proofs.Common.{None, subst}
 use Rattle.cpg_tree.specs.Tree.{IsConstant}
 use Rattle.cpg_tree.specs.Variables.{is_variable}
 use Rattle.cpg_expand.proofs.ForestMade.{trees_pushed, constants_pushed}
-use Rattle.cpg_expand.proofs.TreesTold.{constant_tree}
+use Rattle.cpg_expand.proofs.GuardTrees.{constant_tree}
 use Rattle.cpg_expand.proofs.forest.without_times.Goals as goal
 
 pub loop-preserved : goal.loop-preserved

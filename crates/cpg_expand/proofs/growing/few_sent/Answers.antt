@@ -6,7 +6,7 @@ use Rattle.cpg_tree.specs.Tree.{TreeState}
 use Rattle.cpg_expand.specs.Forest.{ForestState, times_of}
 use Rattle.cpg_expand.specs.Large.{HasLargeSend, IsLarge}
 use Rattle.cpg_expand.proofs.LargeShown.{handed_as, named_as}
-use Rattle.cpg_expand.proofs.TreesTold.{times_read}
+use Rattle.cpg_expand.proofs.GuardTrees.{times_read}
 use Rattle.cpg_expand.proofs.growing.few_sent.Goals as goal
 
 -- the item that is looked at is one of those that the process sends

@@ -4,7 +4,7 @@ use Rattle.std.proofs.lemmas.List.Elements.{All-cons, All-nil}
 use Rattle.std.proofs.lemmas.Option.{MatchOption-at_none}
 use Rattle.cpg_base.specs.Graph.{edge_count, is_message}
 use Rattle.cpg_tree.proofs.Passes.{of_true}
-use Rattle.cpg_expand.proofs.TreesTold.{all_parts}
+use Rattle.cpg_expand.proofs.GuardTrees.{all_parts}
 use Rattle.cpg_expand.proofs.guarded.+are_own.Goals as goal
 
 pub returns-in_default : goal.returns-in_default

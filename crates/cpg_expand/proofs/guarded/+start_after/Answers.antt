@@ -7,7 +7,7 @@ use Rattle.cpg_tree.proofs.Forks.{from_true}
 use Rattle.cpg_expand.specs.Large.{IsLarge}
 use Rattle.cpg_expand.specs.Forest.{ForestState, input_delay, input_tree, ready_by}
 use Rattle.cpg_expand.specs.Guarded.{IsStartAfter}
-use Rattle.cpg_expand.proofs.TreesTold.{all_parts, last_input, later_is, one_input, own_input}
+use Rattle.cpg_expand.proofs.GuardTrees.{all_parts, last_input, later_is, one_input, own_input}
 use Rattle.cpg_expand.proofs.LargeParts.{large_both, large_later, large_own}
 use Rattle.cpg_expand.proofs.LargeShown.{handed_on, named_as}
 use Rattle.cpg_expand.proofs.guarded.+start_after.Goals as goal

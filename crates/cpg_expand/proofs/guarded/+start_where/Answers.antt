@@ -8,7 +8,7 @@ use Rattle.cpg_expand.specs.Large.{IsLarge}
 use Rattle.cpg_expand.specs.Forest.{ForestState, input_delay, input_tree, ready_by}
 use Rattle.cpg_expand.specs.Guarded.{IsStartWhere}
 use Rattle.cpg_expand.proofs.StartsWhere.{last_where, one_where, own_where}
-use Rattle.cpg_expand.proofs.TreesTold.{all_parts, later_is}
+use Rattle.cpg_expand.proofs.GuardTrees.{all_parts, later_is}
 use Rattle.cpg_expand.proofs.LargeParts.{large_both, large_later, large_own}
 use Rattle.cpg_expand.proofs.LargeShown.{handed_on, named_as}
 use Rattle.cpg_expand.proofs.guarded.+start_where.Goals as goal

@@ -2,7 +2,7 @@ use Rattle.std.proofs.Common.{◌+◌, ◌∙◌, subst}
 use Rattle.cpg_base.specs.Scenario.{number_of_value}
 use Rattle.cpg_tree.specs.Tree.{IsNumber}
 use Rattle.cpg_tree.specs.Variables.{is_variable}
-use Rattle.cpg_expand.proofs.TreesTold.{value_picks, same_tree, value_passes}
+use Rattle.cpg_expand.proofs.GuardTrees.{value_picks, same_tree, value_passes}
 use Rattle.cpg_expand.proofs.guarded.by_value.Goals as goal
 
 pub returns-clause-tree : goal.returns-clause-tree

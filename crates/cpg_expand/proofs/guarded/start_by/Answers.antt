@@ -5,7 +5,7 @@ use Rattle.cpg_tree.specs.Tree.{IsConstant}
 use Rattle.cpg_tree.specs.Variables.{is_variable}
 use Rattle.cpg_expand.specs.Forest.{ready_by}
 use Rattle.cpg_expand.specs.Guarded.{IsStartBy}
-use Rattle.cpg_expand.proofs.TreesTold.{start_active, no_start, constant_tree}
+use Rattle.cpg_expand.proofs.GuardTrees.{start_active, no_start, constant_tree}
 use Rattle.cpg_expand.proofs.guarded.start_by.Goals as goal
 
 pub returns-in_ok-start-in-Plain-clause-start : goal.returns-in_ok-start-in-Plain-clause-start

@@ -2,7 +2,7 @@ use Rattle.std.proofs.Common.{ℕ, ◌≡◌, Option, refl, sym, subst}
 use Rattle.cpg_expand.specs.Forest.{ForestState, ends_of}
 use Rattle.cpg_expand.specs.Latest.{HasLater, IsRaised, or_later}
 use Rattle.cpg_expand.proofs.LatestFound.{later_raised}
-use Rattle.cpg_expand.proofs.TreesTold.{ends_read}
+use Rattle.cpg_expand.proofs.GuardTrees.{ends_read}
 use Rattle.cpg_tree.specs.Tree.{TreeState}
 use Rattle.cpg_expand.proofs.latest.after_end.Goals as goal
 

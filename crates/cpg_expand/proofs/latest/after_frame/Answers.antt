@@ -4,7 +4,7 @@ use Rattle.cpg_base.specs.Graph.{home}
 use Rattle.cpg_expand.specs.Forest.{ForestState, times_of}
 use Rattle.cpg_expand.specs.Latest.{HasLater, IsRaised, or_later}
 use Rattle.cpg_expand.proofs.LatestFound.{later_raised}
-use Rattle.cpg_expand.proofs.TreesTold.{times_read}
+use Rattle.cpg_expand.proofs.GuardTrees.{times_read}
 use Rattle.cpg_tree.specs.Tree.{TreeState}
 use Rattle.cpg_expand.proofs.latest.after_frame.Goals as goal
 

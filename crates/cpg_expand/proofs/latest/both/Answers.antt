@@ -2,7 +2,7 @@ use Rattle.std.proofs.Common.{false, subst}
 use Rattle.cpg_tree.specs.Tree.{IsConstant}
 use Rattle.cpg_tree.specs.Variables.{is_variable}
 use Rattle.cpg_expand.proofs.EarlierFound.{both_true}
-use Rattle.cpg_expand.proofs.TreesTold.{constant_tree, same_tree}
+use Rattle.cpg_expand.proofs.GuardTrees.{constant_tree, same_tree}
 use Rattle.cpg_expand.proofs.latest.both.Goals as goal
 
 pub returns-clause-tree : goal.returns-clause-tree

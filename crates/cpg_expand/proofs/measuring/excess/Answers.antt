@@ -66,5 +66,5 @@ pub returns-clause-peak : goal.returns-clause-peak
 returns-clause-peak c = peak_of c
 
 pub returns-clause-excess : goal.returns-clause-excess
-returns-clause-excess c = λ order frozen topological tell. peak_is_excess c.args.problem.now order topological frozen c.args.ends.now c.requires.trees c.requires.count tell c.args.urgency.now
+returns-clause-excess c = λ order frozen topological support. peak_is_excess c.args.problem.now order topological frozen c.args.ends.now c.requires.trees c.requires.count support c.args.urgency.now
     c.loop-process.peak (peak_of c)

@@ -52,5 +52,5 @@ pub returns-clause-peak : goal.returns-clause-peak
 returns-clause-peak c = peak_of c
 
 pub returns-clause-worst : goal.returns-clause-worst
-returns-clause-worst c = λ order frozen topological tell. peak_is_worst c.args.problem.now order topological frozen c.args.ends.now c.requires.trees c.requires.count tell c.args.urgency.now
+returns-clause-worst c = λ order frozen topological support. peak_is_worst c.args.problem.now order topological frozen c.args.ends.now c.requires.trees c.requires.count support c.args.urgency.now
     c.loop-process.peak (peak_of c)

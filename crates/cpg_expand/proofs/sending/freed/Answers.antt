@@ -2,7 +2,7 @@ use Rattle.std.proofs.Common.{◌≡◌, ◌∙◌, true, false, sym}
 use Rattle.cpg_tree.proofs.Readings.{later_pass, later_each, later_map}
 use Rattle.cpg_tree.specs.Read.{later_by}
 use Rattle.cpg_tree.specs.Variables.{is_variable}
-use Rattle.cpg_expand.proofs.TreesTold.{each_of, free_told, free_always, same_tree}
+use Rattle.cpg_expand.proofs.GuardTrees.{each_of, free_valued, free_always, same_tree}
 use Rattle.cpg_expand.proofs.sending.freed.Goals as goal
 
 pub returns-clause-tree : goal.returns-clause-tree
@@ -14,7 +14,7 @@ returns-clause-free c waited =
     let g = c.args.problem.now in
     let sent = c.args.sent.now in
     let each = each_of g sent.faults sent c.requires.sent.faults c.requires.sent in
-    free_told g c.args.round c.args.goes.now sent c.args.free.now (later_by c.args.round sent) c.in_ok-freed.freed c.requires.goes c.requires.sent c.requires.free (later_map c.args.round sent each)
+    free_valued g c.args.round c.args.goes.now sent c.args.free.now (later_by c.args.round sent) c.in_ok-freed.freed c.requires.goes c.requires.sent c.requires.free (later_map c.args.round sent each)
     (later_each c.args.round sent each)
     (later_pass c.args.round sent (is_variable g) c.requires.sent.known) c.in_ok-freed.ensures.is
 

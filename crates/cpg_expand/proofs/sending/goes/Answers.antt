@@ -1,6 +1,6 @@
 use Rattle.std.proofs.Common.{◌∙◌, sym}
 use Rattle.cpg_tree.specs.Variables.{is_variable}
-use Rattle.cpg_expand.proofs.TreesTold.{same_tree}
+use Rattle.cpg_expand.proofs.GuardTrees.{same_tree}
 use Rattle.cpg_expand.proofs.Goes.{goes_message, goes_other}
 use Rattle.cpg_expand.proofs.sending.goes.Goals as goal
 

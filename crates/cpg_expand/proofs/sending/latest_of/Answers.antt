@@ -3,7 +3,7 @@ use Rattle.cpg_base.specs.Graph.{home, producer}
 use Rattle.cpg_bus.specs.Share.{share_of}
 use Rattle.cpg_expand.specs.Forest.{ForestState, ends_of}
 use Rattle.cpg_expand.proofs.SentTrees.{latest_read}
-use Rattle.cpg_expand.proofs.TreesTold.{ends_read}
+use Rattle.cpg_expand.proofs.GuardTrees.{ends_read}
 use Rattle.cpg_expand.proofs.sending.latest_of.Goals as goal
 
 pub returns : goal.returns

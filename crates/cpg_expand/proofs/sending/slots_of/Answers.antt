@@ -5,7 +5,7 @@ use Rattle.cpg_expand.specs.Forest.{ForestState, ends_of}
 use Rattle.cpg_expand.specs.Waiting.{free_of}
 use Rattle.cpg_expand.proofs.FreeRead.{free_read}
 use Rattle.cpg_expand.proofs.SentTrees.{slots_read}
-use Rattle.cpg_expand.proofs.TreesTold.{ends_read}
+use Rattle.cpg_expand.proofs.GuardTrees.{ends_read}
 use Rattle.cpg_expand.proofs.sending.slots_of.Goals as goal
 
 pub returns-clause-slots : goal.returns-clause-slots

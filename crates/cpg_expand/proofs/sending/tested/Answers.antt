@@ -2,7 +2,7 @@ use Rattle.std.proofs.Common.{◌+◌, false, subst}
 use Rattle.cpg_base.specs.Scenario.{number_of_value}
 use Rattle.cpg_tree.specs.Tree.{IsConstant, IsNumber}
 use Rattle.cpg_tree.specs.Variables.{is_variable}
-use Rattle.cpg_expand.proofs.TreesTold.{tested_told, same_tree, value_passes}
+use Rattle.cpg_expand.proofs.GuardTrees.{tested_valued, same_tree, value_passes}
 use Rattle.cpg_expand.proofs.sending.tested.Goals as goal
 
 pub returns-clause-tree : goal.returns-clause-tree
@@ -13,7 +13,7 @@ returns-clause-tree c = same_tree c.args.problem.now c.args.active.now c.in_ok-b
     (c.in_ok-never.ensures.pass (is_variable c.args.problem.now)))
 
 pub returns-clause-tested : goal.returns-clause-tested
-returns-clause-tested c = tested_told c.args.problem.now c.args.condition c.args.wanted c.args.active.now c.in_ok-value.value c.in_ok-alike.alike c.in_ok-never.never c.in_ok-both.both
+returns-clause-tested c = tested_valued c.args.problem.now c.args.condition c.args.wanted c.args.active.now c.in_ok-value.value c.in_ok-alike.alike c.in_ok-never.never c.in_ok-both.both
     c.requires.active
     (subst (λ k. IsNumber (128 + c.args.condition) k number_of_value c.in_ok-value.value) c.faults-2.ensures.faults c.in_ok-value.ensures.is) c.in_ok-value.ensures.each
     c.in_ok-alike.ensures.is c.in_ok-alike.ensures.each

@@ -1,7 +1,7 @@
 use Rattle.std.proofs.Common.{None, subst}
 use Rattle.cpg_tree.specs.Tree.{IsConstant}
 use Rattle.cpg_tree.specs.Variables.{is_variable}
-use Rattle.cpg_expand.proofs.TreesTold.{sent_told, sent_always, same_tree}
+use Rattle.cpg_expand.proofs.GuardTrees.{sent_valued, sent_always, same_tree}
 use Rattle.cpg_expand.proofs.sending.unfrozen_sent.Goals as goal
 
 pub returns-clause-tree : goal.returns-clause-tree
@@ -10,7 +10,7 @@ returns-clause-tree c = same_tree c.args.problem.now c.args.goes.now c.in_ok-sen
     (c.in_ok-never.ensures.pass (is_variable c.args.problem.now)))
 
 pub returns-clause-sent : goal.returns-clause-sent
-returns-clause-sent c = sent_told c.args.problem.now c.args.share c.args.goes.now c.args.end.now c.args.free.now c.in_ok-slots.slots c.in_ok-never.never c.in_ok-sent.sent c.requires.goes
+returns-clause-sent c = sent_valued c.args.problem.now c.args.share c.args.goes.now c.args.end.now c.args.free.now c.in_ok-slots.slots c.in_ok-never.never c.in_ok-sent.sent c.requires.goes
     c.requires.end c.requires.free
     c.in_ok-slots.ensures.is c.in_ok-slots.ensures.each (c.in_ok-slots.ensures.pass (is_variable c.args.problem.now) c.requires.end.known c.requires.free.known)
     (subst (λ k. IsConstant None k c.in_ok-never.never) c.faults.ensures.faults c.in_ok-never.ensures.is) c.in_ok-never.ensures.each

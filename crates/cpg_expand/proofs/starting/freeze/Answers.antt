@@ -1,5 +1,5 @@
 use Rattle.cpg_tree.specs.Variables.{is_variable}
-use Rattle.cpg_expand.proofs.TreesTold.{same_tree}
+use Rattle.cpg_expand.proofs.GuardTrees.{same_tree}
 use Rattle.cpg_expand.proofs.starting.freeze.Goals as goal
 
 pub returns-clause-tree : goal.returns-clause-tree

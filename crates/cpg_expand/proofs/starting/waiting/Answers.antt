@@ -2,7 +2,7 @@ use Rattle.std.proofs.Common.{◌≡◌, refl, ap, subst, inl, inr}
 use Rattle.cpg_expand.specs.Forest.{ForestState, ready_at, ready_by}
 use Rattle.cpg_expand.specs.Later.{IsLatest}
 use Rattle.cpg_expand.specs.declared.forest.Ready.{Ready}
-use Rattle.cpg_expand.proofs.TreesTold.{wait_told, ready_read}
+use Rattle.cpg_expand.proofs.GuardTrees.{wait_valued, ready_read}
 use Rattle.cpg_expand.specs.Large.{IsLarge, IsLargeHeard, IsLargeWait}
 use Rattle.cpg_expand.specs.Waiting.{ready_of}
 use Rattle.cpg_expand.proofs.LargeShown.{handed_as, named_as}
@@ -24,7 +24,7 @@ returns-in_ok-few-in-Test-clause-wait c =
           c.forest.inside.wide;
     } in
     let same : c.index.result.now ≡ ready_at g f node = ready_read g f c.requires.forest inside c.forest.view_is c.index.result.now node node c.index.ensures refl c.requires.node in
-    wait_told g f node c.args.guard.now heard wait c.in_ok-heard-in-Test.ensures.heard (subst (λ (r : Ready). IsLatest g.faults (ready_by g f r) heard wait) same c.in_ok-wait-in-Test.ensures.both)
+    wait_valued g f node c.args.guard.now heard wait c.in_ok-heard-in-Test.ensures.heard (subst (λ (r : Ready). IsLatest g.faults (ready_by g f r) heard wait) same c.in_ok-wait-in-Test.ensures.both)
 
 pub returns-in_err-few_ready-clause-fault : goal.returns-in_err-few_ready-clause-fault
 returns-in_err-few_ready-clause-fault c =
@@ -53,8 +53,8 @@ returns-in_err-few-in-Test-clause-fault c =
           c.forest.inside.wide;
     } in
     let same : c.index.result.now ≡ ready_at g f node = ready_read g f c.requires.forest inside c.forest.view_is c.index.result.now node node c.index.ensures refl c.requires.node in
-    let told = wait_told g f node c.args.guard.now heard wait c.in_ok-heard-in-Test.ensures.heard
+    let valued = wait_valued g f node c.args.guard.now heard wait c.in_ok-heard-in-Test.ensures.heard
     (subst (λ (r : Ready). IsLatest g.faults (ready_by g f r) heard wait) same c.in_ok-wait-in-Test.ensures.both) in
     handed_as (IsLarge wait) (IsLargeWait g f node c.args.guard.now) f.wide c.from_residual-in_err-few-in-Test.result c.in_err-few-in-Test.field-0.0 c.from_residual-in_err-few-in-Test.ensures.1
-    (λ x. inr (inr (wait, told, x))) (named_as (IsLarge wait) c.forest.inside.wide f.wide c.in_err-few-in-Test.field-0.0
+    (λ x. inr (inr (wait, valued, x))) (named_as (IsLarge wait) c.forest.inside.wide f.wide c.in_err-few-in-Test.field-0.0
     (ap (λ (x : ForestState). x.wide) c.forest.view_is) c.in_err-few-in-Test.ensures)

@@ -3,12 +3,12 @@ use Rattle.std.proofs.lemmas.Bool.{both_ways}
 use Rattle.cpg_base.specs.Scenario.{Scenario}
 use Rattle.cpg_cube.specs.declared.literal.Literal.{Literal}
 use Rattle.cpg_cube.specs.Cube.{matches}
-use Rattle.cpg_tree.specs.Space.{Lies}
+use Rattle.cpg_tree.specs.Space.{IsInSpace}
 use Rattle.cpg_tree.proofs.Forks.{from_false}
-use Rattle.cpg_row_trees.specs.declared.places.Spot.{Spot}
+use Rattle.cpg_row_trees.specs.declared.places.PlaceHint.{PlaceHint}
 use Rattle.cpg_row_trees.specs.Places.{IsMatched}
-use Rattle.cpg_row_trees.specs.Spots.{IsKept}
-use Rattle.cpg_row_trees.proofs.SpotLaws.{cube_here, kept_out, kept_in}
+use Rattle.cpg_row_trees.specs.PlaceHints.{KeepsPlace}
+use Rattle.cpg_row_trees.proofs.PlaceHintLaws.{cube_here, kept_out, kept_in}
 use Rattle.cpg_row_trees.proofs.places.admit.Goals as goal
 
 pub returns-then-not-affords : goal.returns-then-not-affords
@@ -16,13 +16,13 @@ returns-then-not-affords c =
     let cubes : List (List Literal) = map (λ (b : Bor (List Literal)). b.now) c.args.cubes.now in
     let look = c.in-Some.ensures.lookup in
     let at = cube_here c.args.cubes.now c.args.place c.in-Some.cube.now look.3.0 look.1 in
-    kept_out (λ s. Lies c.args.space.now s × IsMatched cubes s c.args.place) c.args.place c.args.spots.now.items (λ s h.
+    kept_out (λ s. IsInSpace c.args.space.now s × IsMatched cubes s c.args.place) c.args.place c.args.hints.now.items (λ s h.
     both_ways (matches c.literals-literals.result.now s) (from_false c.affords.result c.if-not-affords.true c.affords.ensures s h.0)
     (subst (λ xs. matches xs s ≡ true) (sym c.literals-literals.ensures.literals) (subst (λ xs. matches xs s ≡ true) at h.1.matched)))
 
 pub returns : goal.returns
 returns c =
     let cubes : List (List Literal) = map (λ (b : Bor (List Literal)). b.now) c.args.cubes.now in
-    let fits : Scenario → Type 0 = λ s. Lies c.args.space.now s × IsMatched cubes s c.args.place in
-    subst (λ (es : List Spot). IsKept fits c.args.place c.args.spots.now.items es) (sym c.in_ok-push.ensures.items)
-    (kept_in fits c.args.place c.args.spots.now.items (record { place = c.args.place; held = 0; spare = c.saturating_sub.result }) refl)
+    let fits : Scenario → Type 0 = λ s. IsInSpace c.args.space.now s × IsMatched cubes s c.args.place in
+    subst (λ (es : List PlaceHint). KeepsPlace fits c.args.place c.args.hints.now.items es) (sym c.in_ok-push.ensures.items)
+    (kept_in fits c.args.place c.args.hints.now.items (record { place = c.args.place; held = 0; spare = c.saturating_sub.result }) refl)

@@ -1,8 +1,8 @@
 use Rattle.std.proofs.Common.{◌≡◌, true, take}
 use Rattle.cpg_base.specs.Scenario.{Scenario}
 use Rattle.cpg_cube.specs.Cube.{matches}
-use Rattle.cpg_tree.specs.Space.{Lies}
+use Rattle.cpg_tree.specs.Space.{IsInSpace}
 use Rattle.cpg_row_trees.proofs.places.do_hold.Given as goal
 
 abbrev pub invariant-loop-literal : goal.invariant-loop-literal
-invariant-loop-literal l = (s : Scenario) → Lies l.space s → matches (take l.literal-index l.literals) s ≡ true
+invariant-loop-literal l = (s : Scenario) → IsInSpace l.space s → matches (take l.literal-index l.literals) s ≡ true

@@ -2,29 +2,29 @@ use Rattle.std.proofs.Common.{◌≡◌, ◌≤◌, ◌<◌, true, sym, subst, m
 use Rattle.cpg_base.specs.Scenario.{number_of}
 use Rattle.cpg_cube.specs.declared.literal.Literal.{Literal}
 use Rattle.cpg_cube.specs.Cube.{matches}
-use Rattle.cpg_tree.specs.Space.{Lies}
+use Rattle.cpg_tree.specs.Space.{IsInSpace}
 use Rattle.cpg_row_trees.specs.Places.{IsMatched}
-use Rattle.cpg_row_trees.proofs.SpotLaws.{cube_here, kept_for}
+use Rattle.cpg_row_trees.proofs.PlaceHintLaws.{cube_here, kept_for}
 use Rattle.cpg_row_trees.proofs.places.keep.Goals as goal
 
 pub returns-clause-low : goal.returns-clause-low
 returns-clause-low c =
     let cubes : List (List Literal) = map (λ (b : Bor (List Literal)). b.now) c.args.cubes.now in
     let look = c.in-Some.ensures.lookup in
-    let at = cube_here c.args.cubes.now c.args.spot.place c.in-Some.cube.now look.3.0 look.1 in
+    let at = cube_here c.args.cubes.now c.args.hint.place c.in-Some.cube.now look.3.0 look.1 in
     let v = c.args.span.cut.variable in
-    kept_for (λ s. (number_of s v ≤ c.args.span.cut.most) × (c.said_on-said.result.low ≤ number_of s v)) c.args.spot.place
-    (λ s. (number_of s v ≤ c.args.span.cut.most) × IsMatched cubes s c.args.spot.place) c.args.low.now.items c.keep_below.new.low.items
-    (λ s h. (h.0, c.said_on-said.ensures.low s (subst (λ xs. matches xs s ≡ true) (sym c.literals-literals.ensures.literals) (subst (λ xs. matches xs s ≡ true) at h.1.matched))))
+    kept_for (λ s. (number_of s v ≤ c.args.span.cut.most) × (c.variable_range-range.result.low ≤ number_of s v)) c.args.hint.place
+    (λ s. (number_of s v ≤ c.args.span.cut.most) × IsMatched cubes s c.args.hint.place) c.args.low.now.items c.keep_below.new.low.items
+    (λ s h. (h.0, c.variable_range-range.ensures.low s (subst (λ xs. matches xs s ≡ true) (sym c.literals-literals.ensures.literals) (subst (λ xs. matches xs s ≡ true) at h.1.matched))))
     c.in_ok-keep_below.ensures
 
 pub returns-clause-high : goal.returns-clause-high
 returns-clause-high c =
     let cubes : List (List Literal) = map (λ (b : Bor (List Literal)). b.now) c.args.cubes.now in
     let look = c.in-Some.ensures.lookup in
-    let at = cube_here c.args.cubes.now c.args.spot.place c.in-Some.cube.now look.3.0 look.1 in
+    let at = cube_here c.args.cubes.now c.args.hint.place c.in-Some.cube.now look.3.0 look.1 in
     let v = c.args.span.cut.variable in
-    kept_for (λ s. (Lies c.args.space.now s × (c.args.span.cut.most < number_of s v)) × (matches c.literals-literals.result.now s ≡ true)) c.args.spot.place
-    (λ s. (Lies c.args.space.now s × (c.args.span.cut.most < number_of s v)) × IsMatched cubes s c.args.spot.place) c.args.high.now.items c.keep_above.new.high.items
+    kept_for (λ s. (IsInSpace c.args.space.now s × (c.args.span.cut.most < number_of s v)) × (matches c.literals-literals.result.now s ≡ true)) c.args.hint.place
+    (λ s. (IsInSpace c.args.space.now s × (c.args.span.cut.most < number_of s v)) × IsMatched cubes s c.args.hint.place) c.args.high.now.items c.keep_above.new.high.items
     (λ s h. (h.0, subst (λ xs. matches xs s ≡ true) (sym c.literals-literals.ensures.literals) (subst (λ xs. matches xs s ≡ true) at h.1.matched)))
     c.in_ok-keep_above.ensures.kept

@@ -1,12 +1,12 @@
 use Rattle.std.proofs.Common.{map, take, ◌≤◌, ◌<◌, ◌≡◌}
 use Rattle.cpg_base.specs.Scenario.{number_of}
-use Rattle.cpg_tree.specs.Space.{Lies}
-use Rattle.cpg_row_trees.specs.Spots.{KeepsWhere, places_of}
+use Rattle.cpg_tree.specs.Space.{IsInSpace}
+use Rattle.cpg_row_trees.specs.PlaceHints.{KeepsWhere, places_of}
 use Rattle.cpg_row_trees.proofs.places.parted.Given as goal
 
-abbrev pub invariant-loop-spot : goal.invariant-loop-spot
-invariant-loop-spot l = record {
-  low : KeepsWhere (map (λ b. b.now) l.cubes) (λ s. number_of s l.span.cut.variable ≤ l.span.cut.most) (places_of (take l.spot-index l.spots)) (places_of l.low.items);
-  high : KeepsWhere (map (λ b. b.now) l.cubes) (λ s. Lies l.fn.space s × (l.span.cut.most < number_of s l.span.cut.variable)) (places_of (take l.spot-index l.spots)) (places_of l.high.items);
+abbrev pub invariant-loop-hint : goal.invariant-loop-hint
+invariant-loop-hint l = record {
+  low : KeepsWhere (map (λ b. b.now) l.cubes) (λ s. number_of s l.span.cut.variable ≤ l.span.cut.most) (places_of (take l.hint-index l.hints)) (places_of l.low.items);
+  high : KeepsWhere (map (λ b. b.now) l.cubes) (λ s. IsInSpace l.fn.space s × (l.span.cut.most < number_of s l.span.cut.variable)) (places_of (take l.hint-index l.hints)) (places_of l.high.items);
   same : l.space ≡ l.fn.space;
 }

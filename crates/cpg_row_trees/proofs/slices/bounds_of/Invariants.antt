@@ -1,6 +1,6 @@
 use Rattle.std.proofs.Common.{take}
-use Rattle.cpg_row_trees.specs.Slices.{AreBounds}
+use Rattle.cpg_row_trees.specs.Slices.{AreSpaceBounds}
 use Rattle.cpg_row_trees.proofs.slices.bounds_of.Given as goal
 
 abbrev pub invariant-loop-literal : goal.invariant-loop-literal
-invariant-loop-literal l = AreBounds l.k l.space (take l.literal-index l.literals) l.found
+invariant-loop-literal l = AreSpaceBounds l.k l.space (take l.literal-index l.literals) l.found

@@ -5,21 +5,21 @@ use Rattle.cpg_tree.specs.declared.space.Space.{Space}
 use Rattle.cpg_tree.proofs.Flats.{flat-same}
 use Rattle.cpg_tree.proofs.Forks.{from_false, from_true}
 use Rattle.cpg_tree.proofs.Passes.{of_true}
-use Rattle.cpg_row_trees.proofs.Passes.{told_leaf, told_above, told_below, told_fork}
+use Rattle.cpg_row_trees.proofs.Passes.{holds_leaf, holds_above, holds_below, holds_fork}
 use Rattle.cpg_row_trees.proofs.SliceLaws.{above_again, goes_again}
 use Rattle.cpg_row_trees.proofs.walk.+do_pass_each.Goals as goal
 
 pub returns-in-Value-clause-passed : goal.returns-in-Value-clause-passed
 returns-in-Value-clause-passed g t c =
     of_true c.passes.result c.passes.ensures
-    (λ all n are. told_leaf (λ (x : Option ℕ) (s : Scenario). g.J.Test.tells c.args.test.now x s) c.args.space.now c.in-Value.place n
+    (λ all n are. holds_leaf (λ (x : Option ℕ) (s : Scenario). g.J.Test.guarantees c.args.test.now x s) c.args.space.now c.in-Value.place n
     (flat-same n (Leaf c.in-Value.place) (sym are ∙ c.in-Value.ensures.shows)) all)
 
 pub returns-then-not-is_open_below-clause-passed : goal.returns-then-not-is_open_below-clause-passed
 returns-then-not-is_open_below-clause-passed g t c =
     let shows = c.in-Cut.ensures.shows in
     of_true c.do_pass_each.result c.do_pass_each.ensures.passed
-    (λ all n are. told_above (λ (x : Option ℕ) (s : Scenario). g.J.Test.tells c.args.test.now x s) c.args.space.now c.in-Cut.variable c.in-Cut.cut shows.0 shows.1 n
+    (λ all n are. holds_above (λ (x : Option ℕ) (s : Scenario). g.J.Test.guarantees c.args.test.now x s) c.args.space.now c.in-Cut.variable c.in-Cut.cut shows.0 shows.1 n
     (flat-same n (Fork c.in-Cut.variable c.in-Cut.cut shows.0 shows.1) (sym are ∙ shows.4)) (all shows.1 shows.3)
     (from_false c.is_open_below.result c.if-not-is_open_below.true c.is_open_below.ensures.none))
 
@@ -27,23 +27,23 @@ pub returns-then-not-is_open_above-clause-passed : goal.returns-then-not-is_open
 returns-then-not-is_open_above-clause-passed g t c =
     let shows = c.in-Cut.ensures.shows in
     of_true c.do_pass_each-then-not-is_open_above.result c.do_pass_each-then-not-is_open_above.ensures.passed
-    (λ all n are. told_below (λ (x : Option ℕ) (s : Scenario). g.J.Test.tells c.args.test.now x s) c.args.space.now c.in-Cut.variable c.in-Cut.cut shows.0 shows.1 n
+    (λ all n are. holds_below (λ (x : Option ℕ) (s : Scenario). g.J.Test.guarantees c.args.test.now x s) c.args.space.now c.in-Cut.variable c.in-Cut.cut shows.0 shows.1 n
     (flat-same n (Fork c.in-Cut.variable c.in-Cut.cut shows.0 shows.1) (sym are ∙ shows.4)) (all shows.0 shows.2)
     (from_false c.is_open_above.result c.if-not-is_open_above.true c.is_open_above.ensures.none))
 
 pub returns-else-not-do_pass_each-2-clause-passed : goal.returns-else-not-do_pass_each-2-clause-passed
 returns-else-not-do_pass_each-2-clause-passed g t c n are =
     let shows = c.in-Cut.ensures.shows in
-    let room : Space = c.args.space.now in
+    let space : Space = c.args.space.now in
     let v = c.in-Cut.variable in
     let cut = c.in-Cut.cut in
     let under : Space = c.close_above-most.new.self in
     let over : Space = c.close_below-was.new.self in
     let again : Space = c.reopen_above.new.self in
     let same : c.do_pass_each-in-Cut.new.space ≡ under = from_true c.do_pass_each-in-Cut.result c.if-not-do_pass_each.false c.do_pass_each-in-Cut.ensures.same in
-    let back : again ≡ room = above_again room under c.do_pass_each-in-Cut.new.space again v same c.close_above-most.result c.reopen_above.ensures c.close_above-most.ensures.back in
-    let goes_over = goes_again room again over v cut back c.close_below-was.ensures.lies in
+    let back : again ≡ space = above_again space under c.do_pass_each-in-Cut.new.space again v same c.close_above-most.result c.reopen_above.ensures c.close_above-most.ensures.back in
+    let goes_over = goes_again space again over v cut back c.close_below-was.ensures.lies in
     let low = from_true c.do_pass_each-in-Cut.result c.if-not-do_pass_each.false c.do_pass_each-in-Cut.ensures.passed shows.0 shows.2 in
     let high = from_true c.do_pass_each-in-Cut-2.result c.if-not-do_pass_each-2.false c.do_pass_each-in-Cut-2.ensures.passed shows.1 shows.3 in
-    told_fork (λ (x : Option ℕ) (s : Scenario). g.J.Test.tells c.args.test.now x s) room v cut shows.0 shows.1 n (flat-same n (Fork v cut shows.0 shows.1) (sym are ∙ shows.4))
+    holds_fork (λ (x : Option ℕ) (s : Scenario). g.J.Test.guarantees c.args.test.now x s) space v cut shows.0 shows.1 n (flat-same n (Fork v cut shows.0 shows.1) (sym are ∙ shows.4))
     (λ s lies h. low s (c.close_above-most.ensures.lies s lies h)) (λ s lies h. high s (goes_over s lies h))

@@ -1,5 +1,5 @@
 use Rattle.std.proofs.Common.{ℕ, max, ◌∙◌, sym, ap}
-use Rattle.cpg_tree.specs.Asked.{Rooms}
+use Rattle.cpg_tree.specs.Asked.{SpacePair}
 use Rattle.cpg_tree.specs.Flat.{flat}
 use Rattle.cpg_tree.specs.Space.{above_cut}
 use Rattle.cpg_tree.specs.TreeNode.{TreeNode, Leaf}
@@ -13,7 +13,7 @@ returns-then-not-is_open_below-clause-made g t c =
     (max (g.R.Reading.number c.args.how.now.read.now x) (g.S.Reading.number c.args.how.now.other_reading.now y), tt) z in
     let shows = c.in-Cut.ensures.shows in
     of_answer c.greater_where.result _ _ c.greater_where.ensures.made
-    (λ u made chooser n m are own others. where_side_above answers c.args.none c.args.rooms.now chooser c.args.chooser.now are n m c.args.out.now.items c.greater_where.new.out.items
+    (λ u made chooser n m are own others. where_side_above answers c.args.none c.args.spaces.now chooser c.args.chooser.now are n m c.args.out.now.items c.greater_where.new.out.items
     c.in-Cut.variable c.in-Cut.cut shows.0 shows.1 shows.4 (from_false c.is_open_below.result c.if-not-is_open_below.true c.is_open_below.ensures.none) (made shows.1 n m shows.3 own others))
 
 pub returns-then-not-is_open_above-clause-made : goal.returns-then-not-is_open_above-clause-made
@@ -22,7 +22,7 @@ returns-then-not-is_open_above-clause-made g t c =
     (max (g.R.Reading.number c.args.how.now.read.now x) (g.S.Reading.number c.args.how.now.other_reading.now y), tt) z in
     let shows = c.in-Cut.ensures.shows in
     of_answer c.greater_where-then-not-is_open_above.result _ _ c.greater_where-then-not-is_open_above.ensures.made
-    (λ u made chooser n m are own others. where_side_below answers c.args.none c.args.rooms.now chooser c.args.chooser.now are n m c.args.out.now.items
+    (λ u made chooser n m are own others. where_side_below answers c.args.none c.args.spaces.now chooser c.args.chooser.now are n m c.args.out.now.items
     c.greater_where-then-not-is_open_above.new.out.items c.in-Cut.variable c.in-Cut.cut shows.0 shows.1 shows.4
     (from_false c.is_open_above.result c.if-not-is_open_above.true c.is_open_above.ensures.none) (made shows.0 n m shows.2 own others))
 
@@ -31,31 +31,31 @@ returns-then-is_on-clause-made g t c =
     let answers : g.row.T.Denot → g.row.U.Denot → g.row.V.Denot → Type 0 = λ x y z. g.F.Fn.post c.args.how.now.made.now
     (max (g.R.Reading.number c.args.how.now.read.now x) (g.S.Reading.number c.args.how.now.other_reading.now y), tt) z in
     of_answer c.greater_by.result _ _ c.greater_by.ensures.made
-    (λ u made chooser n m are own others. where_value_on answers c.args.none c.args.rooms.now chooser c.args.chooser.now are n m c.args.out.now.items c.greater_by.new.out.items
+    (λ u made chooser n m are own others. where_value_on answers c.args.none c.args.spaces.now chooser c.args.chooser.now are n m c.args.out.now.items c.greater_by.new.out.items
     (c.in-Value.ensures.shows ∙ ap (λ b. flat (Leaf b)) c.if-is_on.true) (made n m own others))
 
 pub returns-in_ok-push-in-Value-clause-made : goal.returns-in_ok-push-in-Value-clause-made
 returns-in_ok-push-in-Value-clause-made g t c chooser n m are own others =
     let answers : g.row.T.Denot → g.row.U.Denot → g.row.V.Denot → Type 0 = λ x y z. g.F.Fn.post c.args.how.now.made.now
     (max (g.R.Reading.number c.args.how.now.read.now x) (g.S.Reading.number c.args.how.now.other_reading.now y), tt) z in
-    where_value_off answers c.args.none c.args.rooms.now chooser c.args.chooser.now are n m c.args.out.now.items c.push.new.self.items
+    where_value_off answers c.args.none c.args.spaces.now chooser c.args.chooser.now are n m c.args.out.now.items c.push.new.self.items
     (c.in-Value.ensures.shows ∙ ap (λ b. flat (Leaf b)) c.if-is_on.false) c.in_ok-push-in-Value.ensures.items
 
 pub returns-in_ok-greater_where-in-Cut-2-clause-made : goal.returns-in_ok-greater_where-in-Cut-2-clause-made
 returns-in_ok-greater_where-in-Cut-2-clause-made g t c =
     let answers : g.row.T.Denot → g.row.U.Denot → g.row.V.Denot → Type 0 = λ x y z. g.F.Fn.post c.args.how.now.made.now
     (max (g.R.Reading.number c.args.how.now.read.now x) (g.S.Reading.number c.args.how.now.other_reading.now y), tt) z in
-    let rooms : Rooms = c.args.rooms.now in
+    let spaces : SpacePair = c.args.spaces.now in
     let shows = c.in-Cut.ensures.shows in
     of_answer c.fork.result _ _ c.fork.ensures.made
-    (λ u forks chooser n m are own others. where_both_sides answers c.args.none rooms chooser c.args.chooser.now are n m c.args.out.now.items c.fork.new.out.items
+    (λ u forks chooser n m are own others. where_both_sides answers c.args.none spaces chooser c.args.chooser.now are n m c.args.out.now.items c.fork.new.out.items
     c.in-Cut.variable c.in-Cut.cut shows.0 shows.1 shows.4 c.ask_below-highs.new.self c.ask_above-lows.new.self
     (sym c.is_open_below.ensures.is ∙ c.if-not-is_open_below.false) (sym c.is_open_above.ensures.is ∙ c.if-not-is_open_above.false) c.ask_below-highs.ensures.asked
-    (c.ask_above-lows.ensures.asked ∙ ap (λ (q : Rooms). above_cut q.asked c.in-Cut.variable c.in-Cut.cut)
-    (both_opened rooms c.ask_below-highs.new.self c.greater_where-in-Cut.new.rooms c.reopen_above.new.self c.in-Cut.variable c.ask_below-highs.result c.ask_below-highs.ensures.back
+    (c.ask_above-lows.ensures.asked ∙ ap (λ (q : SpacePair). above_cut q.asked c.in-Cut.variable c.in-Cut.cut)
+    (both_opened spaces c.ask_below-highs.new.self c.greater_where-in-Cut.new.spaces c.reopen_above.new.self c.in-Cut.variable c.ask_below-highs.result c.ask_below-highs.ensures.back
     c.in_ok-greater_where-in-Cut.ensures.back c.reopen_above.ensures))
     c.ask_below-highs.ensures.lies
-    (both_reopened rooms c.ask_below-highs.new.self c.greater_where-in-Cut.new.rooms c.reopen_above.new.self c.in-Cut.variable c.ask_below-highs.result c.ask_below-highs.ensures.back
+    (both_reopened spaces c.ask_below-highs.new.self c.greater_where-in-Cut.new.spaces c.reopen_above.new.self c.in-Cut.variable c.ask_below-highs.result c.ask_below-highs.ensures.back
     c.in_ok-greater_where-in-Cut.ensures.back c.reopen_above.ensures c.ask_above-lows.new.self c.in-Cut.cut c.ask_above-lows.ensures.lies)
     c.len-start.result c.len-middle.result c.greater_where-in-Cut.new.out.items c.greater_where-in-Cut-2.new.out.items (c.len-start.ensures ∙ c.args.out.now.ok.0)
     (c.len-middle.ensures ∙ c.greater_where-in-Cut.new.out.ok.0) forks

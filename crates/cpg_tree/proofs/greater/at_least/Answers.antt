@@ -1,5 +1,5 @@
 use Rattle.std.proofs.Common.{ℕ, max, rules}
-use Rattle.cpg_tree.specs.Added.{Adds, IsFilled}
+use Rattle.cpg_tree.specs.Added.{AddsTree, IsFilled}
 use Rattle.cpg_tree.proofs.Forks.{of_answer}
 use Rattle.cpg_tree.proofs.greater.at_least.Goals as goal
 

@@ -57,24 +57,24 @@ returns-then-low-clause-met t c n are =
 pub returns-else-low-clause-met : goal.returns-else-low-clause-met
 returns-else-low-clause-met t c =
     let shows = c.in-Cut.ensures.shows in
-    let room : Space = c.args.space.now in
-    let back : c.reopen_above.new.self ≡ room = c.reopen_above.ensures ∙ ap (λ (r : Space). below_cut r c.in-Cut.variable c.close_above-most.result) c.holds_in-low.ensures.back ∙
+    let space : Space = c.args.space.now in
+    let back : c.reopen_above.new.self ≡ space = c.reopen_above.ensures ∙ ap (λ (r : Space). below_cut r c.in-Cut.variable c.close_above-most.result) c.holds_in-low.ensures.back ∙
     c.close_above-most.ensures.back in
-    let upper : c.close_below-least.new.self ≡ above_cut room c.in-Cut.variable c.in-Cut.cut = c.close_below-least.ensures.is ∙
+    let upper : c.close_below-least.new.self ≡ above_cut space c.in-Cut.variable c.in-Cut.cut = c.close_below-least.ensures.is ∙
     ap (λ (r : Space). above_cut r c.in-Cut.variable c.in-Cut.cut) back in
     of_true c.holds_in-high.result c.holds_in-high.ensures.met
-    (λ met n are. true_above c.in-Cut.variable c.in-Cut.cut c.in-Cut.ensures.variable shows.0 shows.1 n (flat-same n (Fork c.in-Cut.variable c.in-Cut.cut shows.0 shows.1) (sym are ∙ shows.4)) room
+    (λ met n are. true_above c.in-Cut.variable c.in-Cut.cut c.in-Cut.ensures.variable shows.0 shows.1 n (flat-same n (Fork c.in-Cut.variable c.in-Cut.cut shows.0 shows.1) (sym are ∙ shows.4)) space
     (sym c.is_open_below.ensures.is ∙ c.if-not-is_open_below.false) (sym c.is_open_above.ensures.is ∙ c.if-not-is_open_above.false)
     (subst (λ (r : Space). IsTrueIn r shows.1) upper (met shows.1 shows.3)))
 
 pub returns-else-low-clause-never : goal.returns-else-low-clause-never
 returns-else-low-clause-never t c =
     let shows = c.in-Cut.ensures.shows in
-    let room : Space = c.args.space.now in
+    let space : Space = c.args.space.now in
     let low = from_false c.holds_in-low.result c.if-low.false c.holds_in-low.ensures.never shows.0 shows.2 in
     of_false c.holds_in-high.result c.holds_in-high.ensures.never
-    (λ high n are. never_both c.in-Cut.variable c.in-Cut.cut c.in-Cut.ensures.variable shows.0 shows.1 n (flat-same n (Fork c.in-Cut.variable c.in-Cut.cut shows.0 shows.1) (sym are ∙ shows.4)) room
+    (λ high n are. never_both c.in-Cut.variable c.in-Cut.cut c.in-Cut.ensures.variable shows.0 shows.1 n (flat-same n (Fork c.in-Cut.variable c.in-Cut.cut shows.0 shows.1) (sym are ∙ shows.4)) space
     (λ s lies h. low s (c.close_above-most.ensures.lies s lies h))
-    (λ s lies h. high shows.1 shows.3 s (lies_reopened room c.close_above-most.new.self c.holds_in-low.new.space c.reopen_above.new.self c.close_below-least.new.self c.in-Cut.variable
+    (λ s lies h. high shows.1 shows.3 s (lies_reopened space c.close_above-most.new.self c.holds_in-low.new.space c.reopen_above.new.self c.close_below-least.new.self c.in-Cut.variable
     c.close_above-most.result c.in-Cut.cut
     c.close_above-most.ensures.back c.holds_in-low.ensures.back c.reopen_above.ensures c.close_below-least.ensures.lies s lies h)))

@@ -1,5 +1,5 @@
 use Rattle.std.proofs.Common.{ℕ, Bool, Option, sym, subst}
-use Rattle.cpg_tree.specs.Space.{HasFew, IsWhole}
+use Rattle.cpg_tree.specs.Space.{HasAtMostFaults, IsWhole}
 use Rattle.cpg_tree.specs.TreeNode.{TreeNode}
 use Rattle.cpg_tree_columns.proofs.Meetings.{none_where, some_where}
 use Rattle.cpg_tree_columns.proofs.meeting.most_where.Goals as goal
@@ -17,8 +17,8 @@ returns-clause-none c =
     none_where c.args.tree.now c.args.wanted.now root other good seen_paths good_too seen_too
     c.requires.same
     c.whole-space.result (subst (λ (k : ℕ). IsWhole k c.whole-space.result) c.faults.ensures c.whole-space.ensures.is)
-    (λ s few. c.whole-space.ensures.lies s (subst (λ (k : ℕ). HasFew k s) (sym c.faults.ensures) few))
-    c.most_in.result (c.most_in.ensures.most root other are also)
+    (λ s few. c.whole-space.ensures.lies s (subst (λ (k : ℕ). HasAtMostFaults k s) (sym c.faults.ensures) few))
+    c.most_in_space.result (c.most_in_space.ensures.most root other are also)
 
 pub returns-clause-some : goal.returns-clause-some
 returns-clause-some c =
@@ -33,5 +33,5 @@ returns-clause-some c =
     some_where c.args.tree.now c.args.wanted.now root other good seen_paths good_too seen_too
     c.requires.same
     c.whole-space.result (subst (λ (k : ℕ). IsWhole k c.whole-space.result) c.faults.ensures c.whole-space.ensures.is)
-    (λ s few. c.whole-space.ensures.lies s (subst (λ (k : ℕ). HasFew k s) (sym c.faults.ensures) few))
-    c.most_in.result (c.most_in.ensures.most root other are also)
+    (λ s few. c.whole-space.ensures.lies s (subst (λ (k : ℕ). HasAtMostFaults k s) (sym c.faults.ensures) few))
+    c.most_in_space.result (c.most_in_space.ensures.most root other are also)

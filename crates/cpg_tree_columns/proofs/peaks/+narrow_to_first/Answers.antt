@@ -34,12 +34,12 @@ narrow_to_first-requires-in-Some-high t c =
 pub returns-in-Value-clause-some : goal.returns-in-Value-clause-some
 returns-in-Value-clause-some t c = on_true c.is_some.result (λ on n are.
     leaf_first c.args.wanted c.args.k c.args.cube.now c.in-Value.time n (flat-same n (Leaf c.in-Value.time) (sym are ∙ c.in-Value.ensures.shows))
-    (sym (c.is_some.ensures ∙ ap is_some c.kept.ensures) ∙ on))
+    (sym (c.is_some.ensures ∙ ap is_some c.if_wanted.ensures) ∙ on))
 
 pub returns-in-Value-clause-none : goal.returns-in-Value-clause-none
 returns-in-Value-clause-none t c = on_false c.is_some.result (λ off n are.
     leaf_none c.args.wanted c.args.k c.args.cube.now c.in-Value.time n (flat-same n (Leaf c.in-Value.time) (sym are ∙ c.in-Value.ensures.shows))
-    (sym (c.is_some.ensures ∙ ap is_some c.kept.ensures) ∙ off))
+    (sym (c.is_some.ensures ∙ ap is_some c.if_wanted.ensures) ∙ off))
 
 pub returns-then-branch-clause-some : goal.returns-then-branch-clause-some
 returns-then-branch-clause-some t c n are =

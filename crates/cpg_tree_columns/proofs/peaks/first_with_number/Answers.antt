@@ -7,7 +7,7 @@ use Rattle.cpg_cube.specs.Fit.{lows}
 use Rattle.cpg_cube.specs.Keys.{IsFirstByLows}
 use Rattle.cpg_cube.specs.Column.{Column}
 use Rattle.cpg_tree_columns.specs.Columns.{columns_of_paths, IsTidyColumn}
-use Rattle.cpg_tree_columns.specs.Greatest.{HasNumber}
+use Rattle.cpg_tree_columns.specs.Greatest.{HasNumberAt}
 use Rattle.cpg_tree.specs.Tree.{Path}
 use Rattle.cpg_cube.proofs.KeyOrder.{permutation_of_equal}
 use Rattle.cpg_tree_columns.proofs.Leasts.{no_numbers, column_met, least_of_columns}
@@ -34,5 +34,5 @@ returns-clause-some c =
     let is : get_or columns at column ≡ column = get_or_default columns at column c.index-columns-place.result first.there in
     let least : Some c.in-Some-2.least ≡ Some (lows g column.cube) = sym c.in-Some-2.is ∙ c.in_ok-least.ensures.exact
     ∙ cond-true _ _ _ (column_met paths columns all g few order c.requires.order tidy at first column is) in
-    subst (IsLeast g order (HasNumber paths)) (sym (ap (λ (o : Option Scenario). unwrap_or o c.in-Some-2.least) least))
+    subst (IsLeast g order (HasNumberAt paths)) (sym (ap (λ (o : Option Scenario). unwrap_or o c.in-Some-2.least) least))
     (least_of_columns paths columns all g few order c.requires.order tidy at first column is)

@@ -2,7 +2,7 @@ use Rattle.std.proofs.Common.{ℕ, ◌≢◌, ◌∙◌, Option, List, Some, All
 use Rattle.std.proofs.lemmas.List.Elements.{Contains-get_or}
 use Rattle.cpg_base.specs.Scenario.{IsLeast}
 use Rattle.cpg_tree.specs.Tree.{Path}
-use Rattle.cpg_tree_columns.specs.Greatest.{HasValue, IsGreatestOf}
+use Rattle.cpg_tree_columns.specs.Greatest.{HasValueAt, IsGreatestOf}
 use Rattle.cpg_tree.specs.TreeNode.{TreeNode}
 use Rattle.cpg_tree_columns.proofs.MostLaws.{no_most, not_without, greatest_of}
 use Rattle.cpg_tree_columns.proofs.peaks.greatest.Goals as goal
@@ -36,4 +36,4 @@ returns-clause-some c =
     let order = c.args.order.now in
     subst (λ (paths : List (Path (Option ℕ))). IsGreatestOf g order paths c.in-Some.most c.in-Some-2.least) (sym seen_paths)
     (greatest_of g order c.args.tree.now.faults root c.in-Some.most (sym most ∙ c.in-Some.is) c.in-Some-2.least
-    (subst (λ (paths : List (Path (Option ℕ))). IsLeast g order (HasValue paths (Some c.in-Some.most)) c.in-Some-2.least) seen_paths (rw c.in-Some-2.is at c.in_ok-least.ensures.some)))
+    (subst (λ (paths : List (Path (Option ℕ))). IsLeast g order (HasValueAt paths (Some c.in-Some.most)) c.in-Some-2.least) seen_paths (rw c.in-Some-2.is at c.in_ok-least.ensures.some)))

@@ -10,7 +10,7 @@ use Rattle.cpg_tree.specs.Variables.{is_variable}
 use Rattle.cpg_tree.proofs.Forks.{of_answer}
 use Rattle.cpg_tree.proofs.Passing.{known_from, known_passes}
 use Rattle.cpg_tree.proofs.Publics.{state_seen}
-use Rattle.cpg_tree_columns.specs.Greatest.{HasNumber, HasValue}
+use Rattle.cpg_tree_columns.specs.Greatest.{HasNumberAt, HasValueAt}
 use Rattle.cpg_tree_columns.proofs.MostLaws.{listed_none, listed_some}
 use Rattle.cpg_tree_columns.proofs.peaks.least_listed.Goals as goal
 
@@ -51,7 +51,7 @@ returns-clause-some c =
     let same : c.args.tree.now.faults ≡ g.faults = c.requires.faults in
     let is : record { faults = g.faults; paths = paths_of g.faults root } ≡ all = subst (λ (n : ℕ). record { faults = n; paths = paths_of n root } ≡ all) same
     (state_seen c.args.tree.now root seen_paths) in
-    of_answer c.first_with_number.result (λ (r : Option Scenario). IfSome r (IsLeast g order (HasNumber only.paths)))
-    (λ (r : Option Scenario). IfSome r (IsLeast g order (HasValue all.paths (Some c.args.wanted)))) c.first_with_number.ensures.some
+    of_answer c.first_with_number.result (λ (r : Option Scenario). IfSome r (IsLeast g order (HasNumberAt only.paths)))
+    (λ (r : Option Scenario). IfSome r (IsLeast g order (HasValueAt all.paths (Some c.args.wanted)))) c.first_with_number.ensures.some
     (listed_some g root (subst (λ (n : ℕ). IsGood n root) same good) c.args.wanted all only is
     (subst (λ (n : ℕ). HasOnePathEach n only.paths) (c.in_ok-alone.ensures.is.faults ∙ c.requires.faults) c.in_ok-alone.ensures.each) c.in_ok-alone.ensures.is order)

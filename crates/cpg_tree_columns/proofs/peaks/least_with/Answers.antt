@@ -5,7 +5,7 @@ use Rattle.cpg_cube.specs.Fit.{lows}
 use Rattle.cpg_tree.specs.Tree.{Path}
 use Rattle.cpg_tree.proofs.Forks.{from_true, of_answer}
 use Rattle.cpg_tree_columns.specs.Columns.{columns_of_paths, first_with}
-use Rattle.cpg_tree_columns.specs.Greatest.{HasValue, IsLeastWhereSorted}
+use Rattle.cpg_tree_columns.specs.Greatest.{HasValueAt, IsLeastWhereSorted}
 use Rattle.cpg_tree_columns.proofs.FirstColumns.{none_first, some_sorted}
 use Rattle.cpg_tree_columns.proofs.peaks.least_with.Goals as goal
 
@@ -23,5 +23,5 @@ returns-then-branch-clause-some c =
     let order = c.args.order.now in
     let paths : List (Path (Option ℕ)) = c.args.tree.now.paths in
     of_answer c.least_found.result (λ (r : Option Scenario). IfSome r (IsLeastWhereSorted g paths c.args.wanted))
-    (λ (r : Option Scenario). IfSome r (IsLeast g order (HasValue paths (Some c.args.wanted))))
+    (λ (r : Option Scenario). IfSome r (IsLeast g order (HasValueAt paths (Some c.args.wanted))))
     c.least_found.ensures.least (some_sorted g paths c.args.wanted order c.requires.order (from_true c.in_ok-stand_along.field-0 c.if-branch.true c.in_ok-stand_along.ensures))

@@ -1,6 +1,6 @@
 use Rattle.std.proofs.Common.{ℕ, List, Option, None, All, ◌≡◌, sym, subst}
 use Rattle.std.specs.Option.{IfNone, IfSome}
-use Rattle.cpg_tree_columns.specs.Greatest.{IsMost}
+use Rattle.cpg_tree_columns.specs.Greatest.{IsGreatestNumber}
 use Rattle.cpg_tree.specs.Tree.{Path, TreeState}
 use Rattle.cpg_tree.proofs.Publics.{state_seen}
 use Rattle.cpg_tree.specs.TreeNode.{TreeNode}
@@ -23,5 +23,5 @@ returns-clause-some c =
     let good = c.items.ensures.good root are in
     let seen_paths = c.items.ensures.paths root are in
     let most = c.most_of.ensures root are in
-    subst (λ (t : TreeState (Option ℕ)). IfSome c.most_of.result (IsMost t)) (state_seen c.args.tree.now root seen_paths)
+    subst (λ (t : TreeState (Option ℕ)). IfSome c.most_of.result (IsGreatestNumber t)) (state_seen c.args.tree.now root seen_paths)
     (most_some c.args.tree.now.faults root good c.most_of.result most)

@@ -2,11 +2,11 @@ use Rattle.std.proofs.Common.{ℕ, List, All, take}
 use Rattle.cpg_base.specs.Graph.{Graph}
 use Rattle.cpg_base.specs.Scenario.{Scenario, IsScenario}
 use Rattle.cpg_table.specs.Table.{NodeTable}
-use Rattle.cpg_tree.specs.Space.{Lies}
+use Rattle.cpg_tree.specs.Space.{IsInSpace}
 use Rattle.cpg_check_quick.specs.Courses.{AreCourses}
 use Rattle.cpg_check_quick.specs.Order.{IsOverBy}
 use Rattle.cpg_check_quick.proofs.course.Courses.are_over.Given as goal
 
 abbrev pub invariant-loop-item : goal.invariant-loop-item
-invariant-loop-item l = (g : Graph) (tables : List NodeTable) (lasts : ℕ → Scenario → ℕ) (s : Scenario) → AreCourses lasts g tables l.self → IsScenario g s → Lies l.space s →
+invariant-loop-item l = (g : Graph) (tables : List NodeTable) (lasts : ℕ → Scenario → ℕ) (s : Scenario) → AreCourses lasts g tables l.self → IsScenario g s → IsInSpace l.space s →
     All (λ y. IsOverBy tables (lasts y s) y l.time s) (take l.item-index l.items)

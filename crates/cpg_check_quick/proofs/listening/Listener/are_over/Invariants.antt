@@ -2,7 +2,7 @@ use Rattle.std.proofs.Common.{List, All, take}
 use Rattle.cpg_base.specs.Scenario.{Scenario, IsScenario}
 use Rattle.cpg_cube.specs.declared.literal.Literal.{Literal}
 use Rattle.cpg_table.specs.Table.{NodeTable}
-use Rattle.cpg_tree.specs.Space.{Lies}
+use Rattle.cpg_tree.specs.Space.{IsInSpace}
 use Rattle.cpg_check_quick.specs.Hearing.{IsOwnOver}
 use Rattle.cpg_check_quick.specs.Order.{execution}
 use Rattle.cpg_check_quick.specs.Turns.{AreTurns}
@@ -10,5 +10,5 @@ use Rattle.cpg_check_quick.proofs.listening.Listener.are_over.Given as goal
 
 abbrev pub invariant-loop-literal : goal.invariant-loop-literal
 invariant-loop-literal l = (tables : List NodeTable) (s : Scenario) → AreTurns (execution l.self.admitted.now.graph) l.self.admitted.now.graph tables l.self.turns.now →
-    IsScenario l.self.admitted.now.graph s → Lies l.space s →
+    IsScenario l.self.admitted.now.graph s → IsInSpace l.space s →
     All (λ (m : Literal). IsOwnOver l.self.admitted.now.graph tables l.self.node m.variable l.time s) (take l.literal-index l.literals)

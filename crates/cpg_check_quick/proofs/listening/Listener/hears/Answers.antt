@@ -3,7 +3,7 @@ use Rattle.cpg_cube.specs.Cube.{matches}
 use Rattle.cpg_cube.specs.declared.literal.Literal.{Literal}
 use Rattle.cpg_base.specs.Graph.{home}
 use Rattle.cpg_base.specs.Scenario.{Scenario, IsScenario}
-use Rattle.cpg_tree.specs.Space.{Lies}
+use Rattle.cpg_tree.specs.Space.{IsInSpace}
 use Rattle.cpg_tree.proofs.Forks.{from_false, from_true}
 use Rattle.cpg_tree.proofs.Passes.{of_true}
 use Rattle.cpg_check_quick.specs.Bounds.{unknown_bounds}
@@ -26,7 +26,7 @@ returns c = of_true c.are_over.result c.are_over.ensures (λ over tables x is ru
     let known = c.args.self.now.known in
     let few = c.problem-problem.ensures.admitted.limits.few_processes in
     let fits = rw c.literals-literals.ensures.literals at (from_true c.narrow_to.result c.if-not-narrow_to.false c.narrow_to.ensures.lies) in
-    let lies : (s : Scenario) → IsScenario g s → matches column.cube s ≡ true → Lies c.narrow_to.new.self s = λ s law m. fits s (is.turns.courses.everywhere.lies s law) m in
+    let lies : (s : Scenario) → IsScenario g s → matches column.cube s ≡ true → IsInSpace c.narrow_to.new.self s = λ s law m. fits s (is.turns.courses.everywhere.lies s law) m in
     let wanted : List Literal = c.list_unknown.new.bounds.items in
     let left : List Literal = c.listen.new.wanted.items in
     let listed : wanted ≡ flat_map (unknown_bounds g.faults known) column.cube = rw (c.literals-literals.ensures.literals, c.faults.ensures.faults, c.problem-problem.ensures.problem) at

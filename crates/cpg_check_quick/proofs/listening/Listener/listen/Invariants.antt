@@ -3,12 +3,12 @@ use Rattle.cpg_base.specs.Graph.{Graph}
 use Rattle.cpg_base.specs.Scenario.{Scenario, IsScenario}
 use Rattle.cpg_cube.specs.Cube.{matches}
 use Rattle.cpg_table.specs.Table.{NodeTable}
-use Rattle.cpg_tree.specs.Space.{Lies}
+use Rattle.cpg_tree.specs.Space.{IsInSpace}
 use Rattle.cpg_check_quick.specs.Hearing.{AreLeft}
 use Rattle.cpg_check_quick.specs.Speakers.{AreToldIn, IsSpeaker}
 use Rattle.cpg_check_quick.proofs.listening.Listener.listen.Given as goal
 
 abbrev pub invariant-loop-speaker : goal.invariant-loop-speaker
 invariant-loop-speaker l = (g : Graph) (tables : List NodeTable) → All (IsSpeaker g tables l.self.node) l.self.speakers.items → AreToldIn l.column.cube l.fn.wanted.items →
-    ((s : Scenario) → IsScenario g s → matches l.column.cube s ≡ true → Lies l.space s) →
+    ((s : Scenario) → IsScenario g s → matches l.column.cube s ≡ true → IsInSpace l.space s) →
     AreLeft g tables l.self.node l.column l.fn.wanted.items l.wanted.items

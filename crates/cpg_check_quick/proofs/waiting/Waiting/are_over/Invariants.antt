@@ -2,10 +2,10 @@ use Rattle.std.proofs.Common.{◌≡◌, List, All, take, true}
 use Rattle.cpg_base.specs.Activity.{live}
 use Rattle.cpg_base.specs.Scenario.{Scenario, IsScenario}
 use Rattle.cpg_table.specs.Table.{NodeTable}
-use Rattle.cpg_tree.specs.Space.{Lies}
+use Rattle.cpg_tree.specs.Space.{IsInSpace}
 use Rattle.cpg_check_quick.specs.Inputs.{IsInputOver, IsWaiting}
 use Rattle.cpg_check_quick.proofs.waiting.Waiting.are_over.Given as goal
 
 abbrev pub invariant-loop-edge : goal.invariant-loop-edge
-invariant-loop-edge l = (tables : List NodeTable) (s : Scenario) → IsWaiting l.self.admitted.now.graph tables l.self → IsScenario l.self.admitted.now.graph s → Lies l.space s →
+invariant-loop-edge l = (tables : List NodeTable) (s : Scenario) → IsWaiting l.self.admitted.now.graph tables l.self → IsScenario l.self.admitted.now.graph s → IsInSpace l.space s →
     All (λ e. live l.self.admitted.now.graph s.values e ≡ true → IsInputOver l.self.admitted.now.graph tables e l.time s) (take l.edge-index l.edges)

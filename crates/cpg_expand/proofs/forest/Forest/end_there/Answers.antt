@@ -1,6 +1,6 @@
 use Rattle.std.proofs.Common.{refl}
 use Rattle.cpg_expand.specs.Forest.{ForestState, ends_of}
-use Rattle.cpg_expand.proofs.TreesTold.{ends_read, ends_tree, read_end}
+use Rattle.cpg_expand.proofs.GuardTrees.{ends_read, ends_tree, read_end}
 use Rattle.cpg_expand.proofs.forest.Forest.end_there.Goals as goal
 
 pub returns : goal.returns

@@ -6,7 +6,7 @@ use Rattle.cpg_expand.specs.Agreeing.{IsTree}
 use Rattle.cpg_expand.specs.Forest.{ForestState, IsWait, ends_of, later_tree, ready_by}
 use Rattle.cpg_expand.specs.Later.{IsLatest}
 use Rattle.cpg_expand.specs.declared.forest.Ready.{Ready}
-use Rattle.cpg_expand.proofs.TreesTold.{ends_read, ends_tree, latest_told, latest_ends, same_tree}
+use Rattle.cpg_expand.proofs.GuardTrees.{ends_read, ends_tree, latest_valued, latest_ends, same_tree}
 use Rattle.cpg_expand.proofs.forest.Forest.ready_and.Goals as goal
 
 pub returns-in_ok-both-in-After : goal.returns-in_ok-both-in-After
@@ -48,4 +48,4 @@ returns-in_ok-both-in-At-clause-both c =
     let f = c.args.self.now in
     let of : IsTree g c.in-At.tree = subst (IsWait g) c.in-At.is c.requires.ready in
     subst (λ (r : Ready). IsLatest g.faults (ready_by g f r) c.args.there.now c.in_ok-both-in-At.both) (sym c.in-At.is)
-    (latest_told g c.in-At.tree c.args.there.now c.in_ok-both-in-At.both of c.requires.there c.in_ok-both-in-At.ensures.is)
+    (latest_valued g c.in-At.tree c.args.there.now c.in_ok-both-in-At.both of c.requires.there c.in_ok-both-in-At.ensures.is)

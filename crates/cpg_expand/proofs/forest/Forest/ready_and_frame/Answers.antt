@@ -7,7 +7,7 @@ use Rattle.cpg_expand.specs.Agreeing.{IsTree}
 use Rattle.cpg_expand.specs.Forest.{ForestState, IsWait, ends_of, ready_by, times_of}
 use Rattle.cpg_expand.specs.Later.{IsLatest}
 use Rattle.cpg_expand.specs.declared.forest.Ready.{Ready}
-use Rattle.cpg_expand.proofs.TreesTold.{ends_and_read, ends_read, ends_tree, same_tree, times_read, times_tree, told_and_read}
+use Rattle.cpg_expand.proofs.GuardTrees.{ends_and_read, ends_read, ends_tree, same_tree, times_read, times_tree, valued_and_read}
 use Rattle.cpg_expand.proofs.forest.Forest.ready_and_frame.Goals as goal
 
 pub returns-in_ok-both-in-After : goal.returns-in_ok-both-in-After
@@ -64,6 +64,6 @@ returns-in_ok-both-in-At c =
     record {
       tree = same_tree g ready both of.faults c.in_ok-both-in-At.ensures.is.faults c.in_ok-both-in-At.ensures.each (c.in_ok-both-in-At.ensures.pass (is_variable g) of.known of_times.known);
       both = subst (λ (r : Ready). IsLatest g.faults (ready_by g f r) (later_by (slot_length g (home g x)) (times_of g f x)) both) (sym c.in-At.is)
-          (told_and_read g (λ n. n) delay (slot_length g (home g x)) (c.slot_length-delay.ensures ∙ ap (slot_length g) c.home.ensures.home) times
+          (valued_and_read g (λ n. n) delay (slot_length g (home g x)) (c.slot_length-delay.ensures ∙ ap (slot_length g) c.home.ensures.home) times
           (times_of g f x) same of_times ready both of c.in_ok-both-in-At.ensures.is);
     }

@@ -4,7 +4,7 @@ use Rattle.cpg_base.specs.Graph.{home}
 use Rattle.cpg_tree.specs.Read.{later_by}
 use Rattle.cpg_expand.specs.Forest.{ready_by, times_of}
 use Rattle.cpg_expand.specs.Later.{IsLatest}
-use Rattle.cpg_expand.proofs.TreesTold.{latest_input}
+use Rattle.cpg_expand.proofs.GuardTrees.{latest_input}
 use Rattle.cpg_expand.proofs.forest.Forest.ready_and_input.Goals as goal
 
 pub returns-clause-both : goal.returns-clause-both

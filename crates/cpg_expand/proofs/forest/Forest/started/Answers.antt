@@ -6,7 +6,7 @@ use Rattle.cpg_expand.specs.Agreeing.{IsTree}
 use Rattle.cpg_expand.specs.Forest.{ForestState, IsWait, ends_of, ready_by, later_tree}
 use Rattle.cpg_expand.specs.Guarded.{IsStartAfter}
 use Rattle.cpg_expand.specs.declared.forest.Ready.{Ready}
-use Rattle.cpg_expand.proofs.TreesTold.{ends_read, ends_tree, start_told, start_after_ends, same_tree}
+use Rattle.cpg_expand.proofs.GuardTrees.{ends_read, ends_tree, start_valued, start_after_ends, same_tree}
 use Rattle.cpg_expand.proofs.forest.Forest.started.Goals as goal
 
 pub returns-in_ok-start-in-After : goal.returns-in_ok-start-in-After
@@ -42,5 +42,5 @@ returns-in_ok-start-in-At c =
     let of : IsTree g wait = subst (IsWait g) c.in-At.is c.requires.ready in
     record {
       tree = same_tree g wait t of.faults c.in_ok-start-in-At.ensures.is.faults c.in_ok-start-in-At.ensures.each (c.in_ok-start-in-At.ensures.pass (is_variable g) of.known);
-      start = subst (λ (r : Ready). IsStartAfter g f (ready_by g f r) c.args.release [] t) (sym c.in-At.is) (start_told g f wait t c.args.release of c.in_ok-start-in-At.ensures.is);
+      start = subst (λ (r : Ready). IsStartAfter g f (ready_by g f r) c.args.release [] t) (sym c.in-At.is) (start_valued g f wait t c.args.release of c.in_ok-start-in-At.ensures.is);
     }

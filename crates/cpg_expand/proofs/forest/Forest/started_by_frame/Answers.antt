@@ -7,7 +7,7 @@ use Rattle.cpg_expand.specs.Agreeing.{IsTree}
 use Rattle.cpg_expand.specs.Forest.{ForestState, IsWait, ends_of, ready_by, times_of}
 use Rattle.cpg_expand.specs.Later.{IsReleased}
 use Rattle.cpg_expand.specs.declared.forest.Ready.{Ready}
-use Rattle.cpg_expand.proofs.TreesTold.{ends_and_read, ends_read, ends_tree, same_tree, times_read, times_tree, told_and_read}
+use Rattle.cpg_expand.proofs.GuardTrees.{ends_and_read, ends_read, ends_tree, same_tree, times_read, times_tree, valued_and_read}
 use Rattle.cpg_expand.proofs.forest.Forest.started_by_frame.Goals as goal
 
 pub returns-in_ok-start-in-After : goal.returns-in_ok-start-in-After
@@ -64,6 +64,6 @@ returns-in_ok-start-in-At c =
     record {
       tree = same_tree g ready start of.faults c.in_ok-start-in-At.ensures.is.faults c.in_ok-start-in-At.ensures.each (c.in_ok-start-in-At.ensures.pass (is_variable g) of.known of_times.known);
       start = subst (λ (r : Ready). IsReleased g.faults (ready_by g f r) (later_by (slot_length g (home g x)) (times_of g f x)) c.args.release start) (sym c.in-At.is)
-          (told_and_read g (λ n. Some (max n c.args.release)) delay (slot_length g (home g x)) (c.slot_length-delay.ensures ∙ ap (slot_length g) c.home.ensures.home) times
+          (valued_and_read g (λ n. Some (max n c.args.release)) delay (slot_length g (home g x)) (c.slot_length-delay.ensures ∙ ap (slot_length g) c.home.ensures.home) times
           (times_of g f x) same of_times ready start of c.in_ok-start-in-At.ensures.is);
     }

@@ -8,7 +8,7 @@ use Rattle.cpg_expand.specs.Forest.{ForestState, IsWait, ends_of, ready_by, time
 use Rattle.cpg_expand.specs.Later.{IsReleasedWhere}
 use Rattle.cpg_expand.specs.declared.forest.Ready.{Ready}
 use Rattle.cpg_expand.proofs.StartsWhere.{ends_where, read_where}
-use Rattle.cpg_expand.proofs.TreesTold.{ends_read, ends_tree, same_tree, times_read, times_tree}
+use Rattle.cpg_expand.proofs.GuardTrees.{ends_read, ends_tree, same_tree, times_read, times_tree}
 use Rattle.cpg_expand.proofs.forest.Forest.started_by_frame_where.Goals as goal
 
 pub returns-in_ok-start-in-After : goal.returns-in_ok-start-in-After

@@ -4,7 +4,7 @@ use Rattle.cpg_base.specs.Graph.{home}
 use Rattle.cpg_tree.specs.Read.{later_by}
 use Rattle.cpg_expand.specs.Forest.{ready_by, times_of}
 use Rattle.cpg_expand.specs.Later.{IsReleased}
-use Rattle.cpg_expand.proofs.TreesTold.{released_input}
+use Rattle.cpg_expand.proofs.GuardTrees.{released_input}
 use Rattle.cpg_expand.proofs.forest.Forest.started_by_input.Goals as goal
 
 pub returns-clause-start : goal.returns-clause-start

@@ -4,7 +4,7 @@ use Rattle.cpg_tree.specs.Variables.{is_variable}
 use Rattle.cpg_expand.specs.Agreeing.{IsTree}
 use Rattle.cpg_expand.specs.Forest.{ready_by}
 use Rattle.cpg_expand.proofs.StartsWhere.{picked_where}
-use Rattle.cpg_expand.proofs.TreesTold.{constant_tree, same_tree}
+use Rattle.cpg_expand.proofs.GuardTrees.{constant_tree, same_tree}
 use Rattle.cpg_expand.proofs.forest.Forest.started_where.Goals as goal
 
 pub returns : goal.returns

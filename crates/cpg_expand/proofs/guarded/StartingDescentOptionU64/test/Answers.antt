@@ -1,10 +1,10 @@
 use Rattle.cpg_tree.proofs.Forks.{of_answer}
 use Rattle.cpg_expand.specs.Forest.{ready_by}
-use Rattle.cpg_expand.proofs.TreesTold.{start_test}
+use Rattle.cpg_expand.proofs.GuardTrees.{start_test}
 use Rattle.cpg_expand.proofs.guarded.StartingDescentOptionU64.test.Goals as goal
 
-pub returns-clause-told : goal.returns-clause-told
-returns-clause-told c = of_answer c.by_value.result _ _ c.by_value.ensures.picks
+pub returns-clause-fits : goal.returns-clause-fits
+returns-clause-fits c = of_answer c.by_value.result _ _ c.by_value.ensures.picks
     (λ t picks off on of_off of_on. start_test c.args.self.now.problem.now c.args.self.now.forest.now
     (ready_by c.args.self.now.problem.now c.args.self.now.forest.now c.args.self.now.wait.now) c.args.self.now.release c.args.self.now.inputs.now
     c.args.condition off on c.args.no.now c.args.yes.now t of_off of_on picks)

@@ -3,7 +3,7 @@ use Rattle.cpg_tree.specs.Tree.{IsMap}
 use Rattle.cpg_tree.specs.Variables.{is_variable}
 use Rattle.cpg_expand.specs.Agreeing.{IsTree}
 use Rattle.cpg_expand.specs.Values.{time_past}
-use Rattle.cpg_expand.proofs.TreesTold.{same_tree}
+use Rattle.cpg_expand.proofs.GuardTrees.{same_tree}
 use Rattle.cpg_expand.proofs.measuring.Peak.or_past.Goals as goal
 
 pub or-requires-clause-tree : goal.or-requires-clause-tree

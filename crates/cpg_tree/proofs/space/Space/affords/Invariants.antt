@@ -1,8 +1,8 @@
 use Rattle.std.proofs.Common.{◌≡◌, ◌≤◌, true, sum_by, drop}
 use Rattle.cpg_base.specs.Scenario.{Scenario}
 use Rattle.cpg_cube.specs.Cube.{matches}
-use Rattle.cpg_tree.specs.Space.{Lies, more_asked}
+use Rattle.cpg_tree.specs.Space.{IsInSpace, asked_beyond}
 use Rattle.cpg_tree.proofs.space.Space.affords.Given as goal
 
 abbrev pub invariant-loop-at : goal.invariant-loop-at
-invariant-loop-at l = (s : Scenario) → Lies l.self s → matches l.literals s ≡ true → sum_by (more_asked l.self) (drop l.at l.literals) ≤ l.left
+invariant-loop-at l = (s : Scenario) → IsInSpace l.self s → matches l.literals s ≡ true → sum_by (asked_beyond l.self) (drop l.at l.literals) ≤ l.left

@@ -5,9 +5,9 @@ use Rattle.cpg_tree.proofs.space.Space.close_above.Goals as goal
 
 pub returns-clause-back : goal.returns-clause-back
 returns-clause-back c =
-    let room : Space = c.args.self.now in
-    let with_highs : List ℕ → Space = λ xs. record { low = room.low; high = xs; left = room.left } in
-    ap with_highs (set-set room.high c.args.variable c.args.cut c.highest-high.result) ∙ c.highest-high.ensures
+    let space : Space = c.args.self.now in
+    let with_highs : List ℕ → Space = λ xs. record { low = space.low; high = xs; left = space.left } in
+    ap with_highs (set-set space.high c.args.variable c.args.cut c.highest-high.result) ∙ c.highest-high.ensures
 
 pub returns-clause-lies : goal.returns-clause-lies
 returns-clause-lies c s lies h = lies_below c.args.self.now s lies c.args.variable c.args.cut (search rules) (search rules) h

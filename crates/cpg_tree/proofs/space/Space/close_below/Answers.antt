@@ -5,8 +5,8 @@ use Rattle.cpg_tree.proofs.space.Space.close_below.Goals as goal
 
 pub returns-clause-back : goal.returns-clause-back
 returns-clause-back c =
-    let room : Space = c.args.self.now in
+    let space : Space = c.args.self.now in
     let was : Lifted = c.lowest-was.result in
-    let with_lows : List ℕ → Space = λ xs. record { low = xs; high = room.high; left = was.left } in
+    let with_lows : List ℕ → Space = λ xs. record { low = xs; high = space.high; left = was.left } in
     ap (λ (r : Space). reopened_below r c.args.variable was) c.raise.ensures.is
-    ∙ ap with_lows (set-set room.low c.args.variable (c.args.cut + 1) was.low) ∙ c.lowest-was.ensures
+    ∙ ap with_lows (set-set space.low c.args.variable (c.args.cut + 1) was.low) ∙ c.lowest-was.ensures

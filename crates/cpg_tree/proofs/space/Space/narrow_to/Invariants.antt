@@ -1,8 +1,8 @@
 use Rattle.std.proofs.Common.{◌≡◌, true}
 use Rattle.cpg_base.specs.Scenario.{Scenario}
 use Rattle.cpg_cube.specs.Cube.{matches}
-use Rattle.cpg_tree.specs.Space.{Lies}
+use Rattle.cpg_tree.specs.Space.{IsInSpace}
 use Rattle.cpg_tree.proofs.space.Space.narrow_to.Given as goal
 
 abbrev pub invariant-loop-literal : goal.invariant-loop-literal
-invariant-loop-literal l = (s : Scenario) → Lies l.fn.self s → matches l.literals s ≡ true → Lies l.self s
+invariant-loop-literal l = (s : Scenario) → IsInSpace l.fn.self s → matches l.literals s ≡ true → IsInSpace l.self s

@@ -1,0 +1,62 @@
+-- Some places of cubes, sorted out by a tree.
+use Rattle.std.specs.Prelude.{ℕ, ◌≡◌, ◌≤◌, ◌<◌, true, List, Option, None, Some, Contains, map}
+use Rattle.cpg_base.specs.Scenario.{Scenario, number_of}
+use Rattle.cpg_cube.specs.Cube.{holds, matches}
+use Rattle.cpg_cube.specs.declared.literal.Literal.{Literal}
+use Rattle.cpg_row_trees.specs.declared.places.VariableRange.{VariableRange}
+use Rattle.cpg_row_trees.specs.declared.places.PlaceHint.{PlaceHint}
+use Rattle.cpg_row_trees.specs.declared.places.PlacesTop.{PlacesTop}
+use Rattle.cpg_row_trees.specs.declared.places.PlacesTop.TheVariants.{Leaf, Fork, Unknown}
+use Rattle.cpg_row_trees.specs.declared.places.TreeGrowth.{TreeGrowth}
+use Rattle.cpg_tree.specs.declared.space.Space.{Space}
+use Rattle.cpg_tree.specs.Space.{IsInSpace, is_open_below, is_open_above}
+use Rattle.cpg_tree.specs.Added.{AddsTree}
+use Rattle.cpg_row_trees.specs.Places.{IsMatched, HoldsInSpace}
+
+-- the places
+abbrev pub places_of : List PlaceHint → List ℕ
+places_of hints = map (λ (e : PlaceHint). e.place) hints
+
+-- a literal holds wherever these match
+abbrev pub IsImpliedBy : List Literal → Literal → Type 0
+IsImpliedBy literals l = (s : Scenario) → matches literals s ≡ true → holds s l ≡ true
+
+-- this is the only one of some places whose cube the scenario matches
+pub record IsOnlyMatch (cubes : List (List Literal)) (places : List ℕ) (s : Scenario) (i : ℕ) : Type 0 where
+  pub is : IsMatched cubes s i
+  pub only : (j : ℕ) → Contains places j → IsMatched cubes s j → j ≡ i
+
+-- what is told by a place, or by none
+abbrev pub IsMatchAmong : List (List Literal) → List ℕ → Option ℕ → Scenario → Type 0
+IsMatchAmong cubes places None s = (j : ℕ) → Contains places j → IsMatched cubes s j → ⊥
+IsMatchAmong cubes places (Some i) s = IsOnlyMatch cubes places s i
+
+-- those of a list of places that such scenarios match are in another list, too
+abbrev pub KeepsWhere : List (List Literal) → (Scenario → Type 0) → List ℕ → List ℕ → Type 0
+KeepsWhere cubes fits places kept = (s : Scenario) (i : ℕ) → fits s → Contains places i → IsMatched cubes s i → Contains kept i
+
+-- a place is among others, if there is such a scenario, with all that were there before
+pub record KeepsPlace (fits : Scenario → Type 0) (place : ℕ) (before now : List PlaceHint) : Type 0 where
+  pub earlier : (i : ℕ) → Contains (places_of before) i → Contains (places_of now) i
+  pub this : (s : Scenario) → fits s → Contains (places_of now) place
+
+-- if literals match, the number of a variable is in what they say of it: a high of 255 says nothing
+pub record IsVariableRange (literals : List Literal) (v : ℕ) (range : VariableRange) : Type 0 where
+  pub low : (s : Scenario) → matches literals s ≡ true → range.low ≤ number_of s v
+  pub high : (s : Scenario) → matches literals s ≡ true → range.high < 255 → number_of s v ≤ range.high
+
+-- a cut has numbers of the space on both sides
+pub record IsOpenCut (space : Space) (v cut : ℕ) : Type 0 where
+  pub below : is_open_below space v cut ≡ true
+  pub above : is_open_above space v cut ≡ true
+
+-- a leaf tells of the places, and a fork is open on both sides
+abbrev pub IsPlacesTop : List (List Literal) → Space → List ℕ → PlacesTop → Type 0
+IsPlacesTop cubes space places (Leaf x) = (s : Scenario) → IsInSpace space s → IsMatchAmong cubes places x s
+IsPlacesTop cubes space places (Fork c) = IsOpenCut space c.variable c.most
+IsPlacesTop cubes space places Unknown = Unit {0}
+
+-- a tree that tells of the places is added, with no more items left than there were
+pub record AddsPlaceTree (cubes : List (List Literal)) (space : Space) (places : List ℕ) (old new : TreeGrowth) : Type 0 where
+  pub found : AddsTree (HoldsInSpace (IsMatchAmong cubes places) space) old.items.items new.items.items
+  pub fewer : new.left ≤ old.left

@@ -1,0 +1,4 @@
+use Rattle.cpg_tree.proofs.asked.SpacePair.close_below.Goals as goal
+
+pub returns-clause-lies : goal.returns-clause-lies
+returns-clause-lies c = λ s d h. (c.close_below.ensures.lies s d.0 h, c.close_below-2.ensures.lies s d.1 h)

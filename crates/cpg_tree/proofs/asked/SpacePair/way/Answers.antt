@@ -1,0 +1,48 @@
+use Rattle.std.proofs.Common.{ap₂, refl}
+use Rattle.cpg_tree.specs.Asked.{SpacePair}
+use Rattle.cpg_tree.specs.Space.{Space}
+use Rattle.cpg_tree.proofs.Forks.{from_false}
+use Rattle.cpg_tree.proofs.asked.SpacePair.way.Goals as goal
+
+abbrev pair_of : Space → Space → SpacePair
+pair_of asked walked = record { asked = asked; walked = walked }
+
+pub returns-then-not-is_open_below : goal.returns-then-not-is_open_below
+returns-then-not-is_open_below c = (
+  record {
+    asked = refl;
+    goes = λ s d. from_false c.is_open_below.result c.if-not-is_open_below.true c.is_open_below.ensures.none s d.1;
+    lies = λ s d. d;
+  },
+  ap₂ pair_of c.lowest.ensures c.lowest-then-not-is_open_below.ensures,
+)
+
+pub returns-then-not-is_open_above : goal.returns-then-not-is_open_above
+returns-then-not-is_open_above c = (
+  record {
+    asked = refl;
+    goes = λ s d. from_false c.is_open_above.result c.if-not-is_open_above.true c.is_open_above.ensures.none s d.1;
+    lies = λ s d. d;
+  },
+  ap₂ pair_of c.highest.ensures c.highest-then-not-is_open_above.ensures,
+)
+
+pub returns-then-not-is_open_below-2 : goal.returns-then-not-is_open_below-2
+returns-then-not-is_open_below-2 c = (
+  record {
+    asked = c.walk_above.ensures.asked;
+    goes = λ s d. from_false c.is_open_below-2.result c.if-not-is_open_below-2.true c.is_open_below-2.ensures.none s d.0;
+    lies = λ s d. c.walk_above.ensures.lies s d (from_false c.is_open_below-2.result c.if-not-is_open_below-2.true c.is_open_below-2.ensures.none s d.0);
+  },
+  c.walk_above.ensures.back,
+)
+
+pub returns-then-not-is_open_above-2 : goal.returns-then-not-is_open_above-2
+returns-then-not-is_open_above-2 c = (
+  record {
+    asked = c.walk_below.ensures.asked;
+    goes = λ s d. from_false c.is_open_above-2.result c.if-not-is_open_above-2.true c.is_open_above-2.ensures.none s d.0;
+    lies = λ s d. c.walk_below.ensures.lies s d (from_false c.is_open_above-2.result c.if-not-is_open_above-2.true c.is_open_above-2.ensures.none s d.0);
+  },
+  c.walk_below.ensures.back,
+)

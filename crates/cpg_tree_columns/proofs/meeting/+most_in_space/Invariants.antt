@@ -1,0 +1,5 @@
+use Rattle.std.proofs.Common.{length}
+use Rattle.cpg_tree_columns.proofs.meeting.+most_in_space.Given as goal
+
+abbrev pub decreases-most_in_space : goal.decreases-most_in_space
+decreases-most_in_space l = length l.items.now
