@@ -29,7 +29,8 @@ module _ (g : Graph) (urgency : List ℕ) (guards : Guards) (a : IsAdmitted g ur
       record {
         writable = writable;
         compilation = λ tables w.
-            let built : IsBuiltFor g urgency r.order (built_of r tables) = subst (λ o. IsBuiltFor g urgency o (built_of r tables)) (sym are.same) (built_tables g urgency guards a t.order top r are tables w) in
+            let built : IsBuiltFor g urgency r.order (built_of r tables) = subst (λ o. IsBuiltFor g urgency o (built_of r tables)) (sym are.same)
+            (built_tables g urgency guards a t.order top r are tables w) in
             compilation g a.well_formed urgency a.topological first_top narrow a.joins a.urgency r.order own (built_of r tables) built
             (built_fit g urgency guards a t.order top r are tables w) (ap (λ (p : Peak). p.time) same ∙ zero);
         tables = written g a.limits a.well_formed r.rows.items writable;

@@ -171,24 +171,24 @@ fn keeps_a_report(node: &mut Node) -> bool {
 
 /// What is so of the node after its first two turns.
 #[derive(Clone, Copy)]
-enum Claim {
+enum NodeClaim {
     Idle,
     Strange,
     Start,
     Report,
 }
 
-fn is_so(node: &mut Node, claim: Claim) -> bool {
+fn is_so(node: &mut Node, claim: NodeClaim) -> bool {
     match claim {
-        Claim::Idle => is_idle(node),
-        Claim::Strange => has_strange(node),
-        Claim::Start => hears_and_starts(node),
-        Claim::Report => keeps_a_report(node),
+        NodeClaim::Idle => is_idle(node),
+        NodeClaim::Strange => has_strange(node),
+        NodeClaim::Start => hears_and_starts(node),
+        NodeClaim::Report => keeps_a_report(node),
     }
 }
 
 /// Whether this is so.
-fn holds(alloc: Global, claim: Claim) -> bool {
+fn holds(alloc: Global, claim: NodeClaim) -> bool {
     match after_two_turns(alloc) {
         Some(mut node) => is_so(&mut node, claim),
         None => false,
@@ -197,20 +197,20 @@ fn holds(alloc: Global, claim: Claim) -> bool {
 
 #[test]
 fn turns_without_frames(rt: HostRuntime) {
-    assert!(rt; holds(rt.alloc(), Claim::Idle));
+    assert!(rt; holds(rt.alloc(), NodeClaim::Idle));
 }
 
 #[test]
 fn strange_frames(rt: HostRuntime) {
-    assert!(rt; holds(rt.alloc(), Claim::Strange));
+    assert!(rt; holds(rt.alloc(), NodeClaim::Strange));
 }
 
 #[test]
 fn a_frame_and_a_start(rt: HostRuntime) {
-    assert!(rt; holds(rt.alloc(), Claim::Start));
+    assert!(rt; holds(rt.alloc(), NodeClaim::Start));
 }
 
 #[test]
 fn a_kept_report(rt: HostRuntime) {
-    assert!(rt; holds(rt.alloc(), Claim::Report));
+    assert!(rt; holds(rt.alloc(), NodeClaim::Report));
 }

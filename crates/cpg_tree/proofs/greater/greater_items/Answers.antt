@@ -30,7 +30,8 @@ returns-then-is_at_least-clause-made g c =
     let other_number : g.row.U.Denot → ℕ = g.S.Reading.number c.args.how.now.other_reading.now in
     let makes : ℕ → g.row.V.Denot → Type 0 = λ k z. g.F.Fn.post c.args.how.now.made.now (k, tt) z in
     of_answer c.at_least_everywhere-then-is_at_least.result _ _ c.at_least_everywhere-then-is_at_least.ensures.made
-    (λ u made n m are others. first_whole number other_number makes c.args.space.now n m c.args.out.now.items c.at_least_everywhere-then-is_at_least.new.out.items (from_true c.is_at_least.result c.if-is_at_least.true c.is_at_least.ensures n m are others)
+    (λ u made n m are others. first_whole number other_number makes c.args.space.now n m c.args.out.now.items c.at_least_everywhere-then-is_at_least.new.out.items
+    (from_true c.is_at_least.result c.if-is_at_least.true c.is_at_least.ensures n m are others)
     (c.requires.fit n are) (made n are))
 
 pub returns-then-is_at_least-2-clause-made : goal.returns-then-is_at_least-2-clause-made
@@ -39,5 +40,6 @@ returns-then-is_at_least-2-clause-made g c =
     let other_number : g.row.U.Denot → ℕ = g.S.Reading.number c.args.how.now.other_reading.now in
     let makes : ℕ → g.row.V.Denot → Type 0 = λ k z. g.F.Fn.post c.args.how.now.made.now (k, tt) z in
     of_answer c.at_least_everywhere-then-is_at_least-2.result _ _ c.at_least_everywhere-then-is_at_least-2.ensures.made
-    (λ u made n m are others. second_whole number other_number makes c.args.space.now n m c.args.out.now.items c.at_least_everywhere-then-is_at_least-2.new.out.items (from_true c.is_at_least-2.result c.if-is_at_least-2.true c.is_at_least-2.ensures m n others are)
+    (λ u made n m are others. second_whole number other_number makes c.args.space.now n m c.args.out.now.items c.at_least_everywhere-then-is_at_least-2.new.out.items
+    (from_true c.is_at_least-2.result c.if-is_at_least-2.true c.is_at_least-2.ensures m n others are)
     (c.requires.other_fit m others) (made m others))
