@@ -35,8 +35,7 @@ fn late_narrow(admitted: &Admitted, first: Grown) -> CompileFault
     requires helpless { IsHelpless admitted.now.graph admitted.now.order }
     ensures { ShowsNoFinish admitted.now.graph admitted.now.order result }
 {
-    let fault = late(admitted, first);
-    fault
+    late(admitted, first)
 }
 
 /// That a process ends past its due, of a late graph in which no item is too wide.
