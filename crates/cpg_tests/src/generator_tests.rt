@@ -34,13 +34,21 @@ fn has_join(problem: &Problem) -> bool {
     has_edge(problem, (39, 10, 40, Some(true))) && has_edge(problem, (40, 10, 40, Some(false)))
 }
 
-fn are_counts(problem: &Problem) -> bool {
+fn are_counts(problem: &Problem, conditions: u32) -> bool {
     problem.nodes().len() == 4
         && problem.slots().len() == 4
         && problem.processes().len() == 60
         && problem.edges().len() == 60
         && problem.faults() == 2
         && problem.deadline() == 1_000_000_000
+        && problem.conditions() == conditions
+}
+
+/// Whether a graph has the join, and these processes and edges.
+fn has_drawn(problem: &Problem, costs: &[DrawnCosts], edges: &[DrawnEnds]) -> bool {
+    has_join(problem)
+        && costs.iter().all(|costs| has_costs(problem, *costs))
+        && edges.iter().all(|ends| has_edge(problem, *ends))
 }
 
 /// Whether the graph of a number has these processes and edges, and so many conditions.
@@ -52,13 +60,7 @@ fn is_generated(
     conditions: u32,
 ) -> bool {
     match generate(alloc, number) {
-        Ok(problem) => {
-            are_counts(&problem)
-                && has_join(&problem)
-                && costs.iter().all(|costs| has_costs(&problem, *costs))
-                && edges.iter().all(|ends| has_edge(&problem, *ends))
-                && problem.conditions() == conditions
-        }
+        Ok(problem) => { are_counts(&problem, conditions) && has_drawn(&problem, costs, edges) }
         Err(_) => false,
     }
 }
