@@ -179,7 +179,11 @@ fn compile_untracked(alloc: Global, admitted: &Admitted) -> Result<BuiltRows, Co
 }
 
 /// The rows of a track order that is taken, if nothing is late under it.
-fn compile_tracks(alloc: Global, admitted: &Admitted, order: Order) -> Result<BuiltRows, OutOfMemory>
+fn compile_tracks(
+    alloc: Global,
+    admitted: &Admitted,
+    order: Order,
+) -> Result<BuiltRows, OutOfMemory>
     requires first { admitted.now.graph.order ≡ None → IsNarrow admitted.now.graph (first_order admitted.now.graph admitted.now.order) }
     requires topological { IsTopological admitted.now.graph order }
     requires narrow { IsNarrow admitted.now.graph order }
