@@ -11,7 +11,7 @@ fn nodes_are_named(names: &[Name])
     ensures { All IsName names.now }
 {
     for name in names {
-        // its clause tells that a name is lawful
+        // called for its contract: a name is lawful
         let _text = name.as_str();
     }
 }
@@ -21,7 +21,7 @@ fn processes_are_named(processes: &[Process])
     ensures { All (λ p. IsName p.name) processes.now }
 {
     for process in processes {
-        // its clause tells that a name is lawful
+        // called for its contract: a name is lawful
         let _text = process.name.as_str();
     }
 }

@@ -36,7 +36,7 @@ fn admit_again(alloc: Global, problem: &Problem) -> Result<Admitted, OutOfMemory
 fn compile_answer(alloc: Global, admitted: &Admitted) -> Result<Judged, OutOfMemory>
     ensures { IfOk result (IsCompileAnswer admitted.now.graph admitted.now.order) }
 {
-    // its clause tells that the graph is admitted
+    // called for its contract: the graph is admitted
     let _order = admitted.first_order();
     match greatest_finish(alloc, admitted) {
         Ok(finish) => Ok(Judged::Worst(finish)),

@@ -108,7 +108,7 @@ pub fn audit(
 {
     let problem = admitted.problem();
     let order = admitted.order();
-    // its clause tells that the tables are lawful under their head
+    // called for its contract: the tables are lawful under their head
     let _head = tables.head();
     let idle = all_idle(alloc, admitted, log.acts())?;
     let mut space = Space::whole(problem.faults());

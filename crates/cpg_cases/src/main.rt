@@ -6,11 +6,11 @@
 //! | item | what it does |
 //! |---|---|
 //! | `case TITLE` | prints a title |
-//! | `feeds NAME COUNT` | makes a file of so many line feeds |
+//! | `feeds NAME COUNT` | makes a file of COUNT line feeds |
 //! | `edit NAME FROM OLD => NEW` | makes a text of another file's, with NEW in place of its first OLD |
 //! | `set NAME FROM PLACE BYTE ..` | makes bytes of another file's, with others from a place on |
 //! | `keep NAME` | makes a file of the last output |
-//! | `room OUT ERR` | the sinks of the next run take so many bytes |
+//! | `room OUT ERR` | the sinks of the next run take OUT and ERR bytes |
 //! | `fail CALL` | a call of the shelf in the next run fails, counted from 0 |
 //! | `first LINES` | of the next output only the first lines are printed |
 //! | `run WORD ..` | runs the program on these words over the files that they name |

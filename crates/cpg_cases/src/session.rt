@@ -141,7 +141,7 @@ impl Session {
         self.take_words(rt, item, words.as_slice())
     }
 
-    /// Runs words with so many beginnings of a pack.
+    /// Runs words with this number of beginnings of a pack.
     fn take_parts(
         &mut self,
         rt: &HostRuntime,

@@ -140,7 +140,7 @@ pub(crate) fn shown_late(alloc: Global, admitted: &Admitted) -> CompileFault
     requires helpless { IsHelpless admitted.now.graph admitted.now.order }
     ensures { ShowsCompileFault admitted.now.graph admitted.now.order result }
 {
-    // its clause tells that the graph is admitted
+    // called for its contract: the graph is admitted
     let _order = admitted.first_order();
     match grow_first(alloc, admitted) {
         Ok(first) => late(admitted, first),
@@ -155,7 +155,7 @@ fn compile_first(alloc: Global, admitted: &Admitted) -> Result<BuiltRows, Compil
     ensures rows { IfOk result (AreCompiledRows admitted.now.graph admitted.now.order) }
     ensures fault { IfErr result (ShowsCompileFault admitted.now.graph admitted.now.order) }
 {
-    // its clause tells that the graph is admitted
+    // called for its contract: the graph is admitted
     let _order = admitted.first_order();
     let first = grow_first(alloc, admitted)?;
     let rows = rows_of_first(alloc, admitted, first)?;
@@ -168,7 +168,7 @@ fn compile_untracked(alloc: Global, admitted: &Admitted) -> Result<BuiltRows, Co
     ensures rows { IfOk result (AreCompiledRows admitted.now.graph admitted.now.order) }
     ensures fault { IfErr result (ShowsCompileFault admitted.now.graph admitted.now.order) }
 {
-    // its clause tells that the graph is admitted
+    // called for its contract: the graph is admitted
     let _order = admitted.first_order();
     let first = grow_first(alloc, admitted)?;
     if first.excess.time > 0 {
@@ -191,7 +191,7 @@ fn compile_tracks(
     requires in_time { IsInTimeUnder admitted.now.graph admitted.now.order order }
     ensures { IfOk result (AreCompiledRows admitted.now.graph admitted.now.order) }
 {
-    // its clause tells that the graph is admitted
+    // called for its contract: the graph is admitted
     let _order = admitted.first_order();
     let grown = grow_tracks(alloc, admitted, order)?;
     let rows = grown.build(alloc, admitted)?;

@@ -45,7 +45,7 @@ fn shown_late_narrow(alloc: Global, admitted: &Admitted) -> CompileFault
     requires helpless { IsHelpless admitted.now.graph admitted.now.order }
     ensures { ShowsNoFinish admitted.now.graph admitted.now.order result }
 {
-    // its clause tells that the graph is admitted
+    // called for its contract: the graph is admitted
     let _order = admitted.first_order();
     match grow_narrow_first(alloc, admitted) {
         Ok(first) => late_narrow(admitted, first),
@@ -60,7 +60,7 @@ fn grown_finish(alloc: Global, admitted: &Admitted) -> Result<u64, CompileFault>
     ensures accepted { IfOk result (IsAccepted admitted.now.graph admitted.now.order) }
     ensures fault { IfErr result (ShowsNoFinish admitted.now.graph admitted.now.order) }
 {
-    // its clause tells that the graph is admitted
+    // called for its contract: the graph is admitted
     let _order = admitted.first_order();
     let first = grow_narrow_first(alloc, admitted)?;
     if first.excess.time > 0 {

@@ -94,7 +94,7 @@ module _ (s : Scenario) where
             });
       }
 
-  -- what is told of a tree that is made where a chooser is true, if the chooser is
+  -- the value of a tree that is made where a chooser is true, if the chooser is
   pub agrees_where : {T U V : Type 0} (answers : T → U → V → Type 0) (none : V) (chooser : TreeState Bool) (a : TreeState T) (b : TreeState U) (r : TreeState V) (given first second : List Literal)
       (fact_a : T → Type 0) (fact_b : U → Type 0) (fact : V → Type 0) →
       HasAtMostFaults chooser.faults s → a.faults ≡ chooser.faults → b.faults ≡ chooser.faults → HasOnePathEach chooser.faults chooser.paths → HasOnePathEach chooser.faults a.paths →
@@ -119,7 +119,7 @@ module _ (s : Scenario) where
             });
       }
 
-  -- what is told of a tree that is made where a chooser is true, if the chooser is false
+  -- the value of a tree that is made where a chooser is true, if the chooser is false
   pub agrees_elsewhere : {T U V : Type 0} (answers : T → U → V → Type 0) (none : V) (chooser : TreeState Bool) (a : TreeState T) (b : TreeState U) (r : TreeState V) (given : List Literal) →
       HasAtMostFaults chooser.faults s → HasOnePathEach chooser.faults chooser.paths → IsJoinWhere answers none chooser a b r → Agrees s given (λ c. c ≡ false) chooser
       → Agrees s given (λ z. z ≡ none) r

@@ -1,4 +1,4 @@
--- What the trees down guards tell.
+-- The values of the trees down guards.
 use Rattle.std.proofs.Common.{ℕ, ◌+◌, ◌-◌, ◌<◌, ◌≡◌, ◌==◌, ◌&&◌, ◌||◌, nat_lt, max, length, Bool, true, false, if◌then◌else◌, List, [], ◌∷◌, ◌++◌, map, flat_map, get_or, Option, Some, None, All}
 use Rattle.std.proofs.Common.{Contains, ◌⊎◌, arith, le-ltb, lt-ltb, eq-eqb, refl, sym, ap, ap₂, ◌∙◌, subst, inl, inr}
 use Rattle.std.proofs.lemmas.Bool.{cond-false, ne_eqb, and_from, or_right, le-leb}
@@ -139,13 +139,13 @@ pub latest_ends : (g : Graph) (end : TreeState (Option ℕ)) (there t : TreeStat
 latest_ends g end there t of_end of_there made s few first second x y has_value other =
     made_turned g (λ n. n) (time_later 0) (λ n. n) there end t of_there of_end made s few second first y x other (from_ends s end first x has_value)
 
--- what is told of a tree that is read of a forest
+-- the value of a tree that is read of a forest
 module _ {V : Type 0} (g : Graph) (makes : ℕ → V) (delay d : ℕ) (same_delay : delay ≡ d) (times read : TreeState (Option ℕ)) (is : times ≡ read) (of_times : IsTree g times) where
   pub as_read : (s : Scenario) (ls : List Literal) (n : ℕ) → HasValueFrom s ls n (later_by d read) → Agrees s ls (λ v. time_later delay v ≡ n) times
   as_read s ls n h = from_times delay s times ls n (subst (λ (m : ℕ). HasValueFrom s ls n (later_by m times)) (sym same_delay)
       (subst (λ (u : TreeState (Option ℕ)). HasValueFrom s ls n (later_by d u)) (sym is) h))
 
-  -- what is told of a tree that is read of a forest and of another tree
+  -- the value of a tree that is read of a forest and of another tree
   pub valued_and_read : (other : TreeState ℕ) (t : TreeState V) → IsTree g other → IsJoin (λ x y z. z ≡ makes (max x (time_later delay y))) other times t →
       (s : Scenario) → HasAtMostFaults g.faults s → (first second : List Literal) (x y : ℕ) → HasValueFrom s first x other → HasValueFrom s second y (later_by d read)
       → HasValueFrom s (first ++ second) (makes (max x y)) t
@@ -158,7 +158,7 @@ module _ {V : Type 0} (g : Graph) (makes : ℕ → V) (delay d : ℕ) (same_dela
   read_and_valued other t of_other made s few first second x y there has_value =
       made_valued g (time_later delay) (λ n. n) makes times other t of_times of_other made s few first second x y (as_read s first x there) has_value
 
-  -- what is told of a tree that is read of a forest and of ends
+  -- the value of a tree that is read of a forest and of ends
   pub ends_and_read : (end read_end : TreeState (Option ℕ)) (t : TreeState V) → end ≡ read_end → IsTree g end → IsJoin (λ x y z. z ≡ makes (max (time_later delay x) (time_later 0 y))) times end t →
       (s : Scenario) → HasAtMostFaults g.faults s → (first second : List Literal) (x y : ℕ) → HasValueFrom s first x (later_tree read_end) → HasValueFrom s second y (later_by d read) →
       HasValueFrom s (first ++ second) (makes (max x y)) t
@@ -206,7 +206,7 @@ active_test k c off on f y t of_off of_on picks s few = go (get_or s.values c fa
 pub heard_leaf : (g : Graph) (f : ForestState) (node : ℕ) (a : Activation) (t : TreeState ℕ) → IsConstant 0 g.faults t → IsHeardTree g f node (Leaf a) t
 heard_leaf g f node a t is s few support time valued = agrees_constant s 0 g.faults t (λ y. y ≡ 0) refl is
 
--- what is told first, and then what a value is and what more is told
+-- the literals of the first value, and then its own and those of the others
 support_first : (s : Scenario) (support : ℕ → List Literal) (c : ℕ) (ws : List ℕ) (l : Literal) → Contains (support c ++ value_known s c ∷ support_of s support ws) l
     → Contains (support_of s support (c ∷ ws)) l
 support_first s support c ws l j = elim (Contains-append_cases (support c) (value_known s c ∷ support_of s support ws) l j) [
@@ -267,7 +267,7 @@ own_latest g time x (e ∷ es) own there =
     let parts = all_parts (λ d. is_message g d ≡ false) (e ∷ es) e es refl own in
     omega (arith, own_early g time x e es parts.0 there, own_latest g time x es parts.1 (λ d j. there d (Contains-rest e es d j)), latest-cons (input_delay g) time e es)
 
--- what is told first stays so
+-- literals that stand first stay there
 pub support_as_first : (first some more : List Literal) → ((l : Literal) → Contains some l → Contains more l) → (l : Literal) → Contains (first ++ some) l → Contains (first ++ more) l
 support_as_first first some more within l j = elim (Contains-append_cases first some l j) [
   | inl i ↦ Contains-append_left first more l i
@@ -501,7 +501,7 @@ ready_waits g f has node l = All-get_or (IsWait g) f.ready node (At (no_tree g.f
 
 module _ (g : Graph) (active : TreeState Bool) (of_active : IsTree g active) (s : Scenario) (few : HasAtMostFaults g.faults s) (b : Bool) (first : List Literal)
     (of_b : HasValueFrom s first b active) where
-  -- a value of one of two trees, and what is told where the chooser is true
+  -- a value of one of two trees, and its literals where the chooser is true
   picked_has_value : {T : Type 0} (yes_tree off_tree t : TreeState T) (second : List Literal) (x y : T) → IsTree g yes_tree → IsTree g off_tree → IsPick active yes_tree off_tree t →
       (b ≡ true → HasValueFrom s second x yes_tree) → HasValueFrom s [] y off_tree → HasValueFrom s (first ++ (if b then second else [])) (if b then x else y) t
   picked_has_value {T} y_tree f t second x y of_y of_f made valued other =

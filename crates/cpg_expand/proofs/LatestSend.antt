@@ -41,7 +41,7 @@ next_slot_later g node first second l = elim (cases_lt 0 (round g)) [
   | inr z ↦ no_turn (first_from g node first) (first_from g node second) (round g) (offset g node) (let e : round g ≡ 0 = omega (arith, z) in e)
 ]
 
--- what the trees tell of a send in one scenario with its run
+-- a send in one scenario with its run, by the values of the trees
 pub record IsSendByTrees (g : Graph) (order : List ℕ) (f : ForestState) (goes : TreeState Bool) (end : TreeState (Option ℕ)) (x : ℕ) (s : Scenario) (t : Times) : Type 0 where
   pub acts : (c : Path Bool) → IsOnPath goes.paths s c → c.1 ≡ item_active g s.values (item_at g x)
   pub ends : (e : Path (Option ℕ)) → IsOnPath end.paths s e → e.1 ≡ get_or t.ends (producer g x) None

@@ -41,7 +41,7 @@ pub record IsHeardAt (g : Graph) (order : List ℕ) (guards : Guards) (f : Fores
   pub has : HasValueAt (heard_tree g f (node_of g p) c).paths (Some time) s
   pub is : heard_there g t (node_of g p) c ≡ time_later (heard_delay g (node_of g p) c) (Some time)
 
--- what the trees tell of a start in one scenario with its run
+-- a start in one scenario with its run, by the values of the trees
 pub record IsStartByTrees (g : Graph) (order : List ℕ) (guards : Guards) (f : ForestState) (chooser : TreeState Bool) (from p : ℕ) (s : Scenario) (t : Times) : Type 0 where
   pub acts : (x : Path Bool) → IsOnPath chooser.paths s x → x.1 ≡ active g s.values p
   pub value : unfrozen_time g order s t p ≡ greatest (start_bounds g order s t p)

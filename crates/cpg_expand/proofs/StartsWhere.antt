@@ -48,13 +48,13 @@ module _ {T U V : Type 0} (g : Graph) (number : T → ℕ) (other_number : U →
   made_elsewhere off = agrees_elsewhere s (λ v w z. z ≡ makes (max (number v) (other_number w))) none chooser a b t given
       (few_of g.faults chooser.faults s of_chooser.faults few) (each_of g chooser.faults chooser of_chooser.faults of_chooser) made off
 
--- what is told of a tree that is read of a forest
+-- the value of a tree that is read of a forest
 module _ (g : Graph) (release delay d : ℕ) (same_delay : delay ≡ d) (times read : TreeState (Option ℕ)) (is : times ≡ read) (of_times : IsTree g times) (chooser : TreeState Bool)
     (of_chooser : IsTree g chooser) where
   abbrev start_of : ℕ → Option ℕ
   start_of n = Some (max n release)
 
-  -- what is told of a tree that is read of a forest and of another tree
+  -- the value of a tree that is read of a forest and of another tree
   pub read_where : (wait : TreeState ℕ) (t : TreeState (Option ℕ)) → IsTree g wait → IsJoinWhere (λ x y z. z ≡ Some (max (max x (time_later delay y)) release)) None chooser wait times t →
       IsReleasedWhere g.faults chooser wait (later_by d read) release t
   read_where wait t of_wait made = record {
@@ -64,7 +64,7 @@ module _ (g : Graph) (release delay d : ℕ) (same_delay : delay ≡ d) (times r
     off = λ s few given off. made_elsewhere g (λ n. n) (time_later delay) start_of None chooser wait times t of_chooser of_wait of_times made s few given off;
   }
 
-  -- what is told of a tree that is read of a forest and of ends
+  -- the value of a tree that is read of a forest and of ends
   pub ends_where : (end read_end t : TreeState (Option ℕ)) → end ≡ read_end → IsTree g end →
       IsJoinWhere (λ x y z. z ≡ Some (max (max (time_later delay x) (time_later 0 y)) release)) None chooser times end t →
       IsReleasedWhere g.faults chooser (later_tree read_end) (later_by d read) release t

@@ -13,7 +13,7 @@ abbrev pub AreLeaves : (Activation → Type 0) → Guard → Type 0
 AreLeaves fact (Leaf a) = fact a
 AreLeaves fact (Test c off on) = AreLeaves fact off × AreLeaves fact on
 
--- each tree is made, and tells of its guard
+-- each tree is made, and fits its guard
 abbrev pub AreKnown : {T : Type 0} → (TreeState T → Type 0) → (Guard → TreeState T → Type 0) → List (KnownGuard T) → Type 0
 AreKnown {T} made fits known = All (λ (k : KnownGuard T). made k.tree × fits k.guard.now k.tree) known
 

@@ -41,7 +41,7 @@ is_tested guard o c = list_any (λ d. d == c) (way guard o)
 abbrev pub IsTestedOn : ℕ → Guard → ℕ → TreeState Bool → Type 0
 IsTestedOn k guard c t = (s : Scenario) → HasAtMostFaults k s → HasValueFrom s (values_known s (way guard s.values)) (is_tested guard s.values c) t
 
--- what is told of these conditions when their values are heard
+-- the literals by which these conditions are heard, and their values
 abbrev pub support_of : Scenario → (ℕ → List Literal) → List ℕ → List Literal
 support_of s support cs = flat_map (λ c. support c ++ value_known s c ∷ []) cs
 
@@ -59,7 +59,7 @@ IsHeardTree g f node guard t = (s : Scenario) → HasAtMostFaults g.faults s →
 abbrev pub AreThere : Graph → (ℕ → Option ℕ) → ℕ → List ℕ → Type 0
 AreThere g time ready edges = (e : ℕ) → Contains edges e → is_message g e ≡ false → time_later 0 (time e) ≤ ready
 
--- the starts of a scenario after a release and after these inputs are there, too, if something is told first
+-- the starts of a scenario after a release and after these inputs are there, too, with other literals first
 abbrev pub StartsAfter : Graph → ForestState → Scenario → List Literal → TreeState ℕ → ℕ → List ℕ → TreeState (Option ℕ) → Type 0
 StartsAfter g f s first wait release edges t = (base : List Literal) (x : ℕ) → HasValueFrom s base x wait → (support : ℕ → List Literal) (time : ℕ → Option ℕ) →
     AreThere g time x edges → ((e : ℕ) → Contains edges e → HasValueFrom s (support e) (time e) (input_tree g f e)) →

@@ -11,7 +11,7 @@ abbrev pub IsLaterTree : ℕ → ℕ → TreeState (Option ℕ) → TreeState �
 IsLaterTree k delay tree t = (s : Scenario) → HasAtMostFaults k s → (literals : List Literal) (x : Option ℕ) → HasValueFrom s literals x tree →
     HasValueFrom s literals (time_later delay x) t
 
--- a tree tells what another one does
+-- a tree has the values of another one
 abbrev pub IsNoMore : ℕ → TreeState ℕ → TreeState ℕ → Type 0
 IsNoMore k tree t = (s : Scenario) → HasAtMostFaults k s → (literals : List Literal) (x : ℕ) → HasValueFrom s literals x tree → HasValueFrom s literals x t
 

@@ -1,4 +1,4 @@
--- What the trees so far tell in one scenario: the run's times, and no more than is carried beside them.
+-- The values of the trees so far in one scenario: the run's times, and no more than is carried beside them.
 use Rattle.std.specs.Prelude.{ℕ, ◌≡◌, ◌<◌, ◌≤◌, true, List, None, get_or}
 use Rattle.cpg_base.specs.Graph.{Graph, process_count, item_count, item_at, producer}
 use Rattle.cpg_base.specs.Activity.{active, item_active}

@@ -7,7 +7,7 @@ pub use Rattle.cpg_tree.specs.Later.{time_later}
 abbrev pub time_if : ℕ → Bool → Option ℕ
 time_if time is = if is then Some time else None
 
--- the end of an execution with so many faults
+-- the end of an execution with this number of faults
 abbrev pub ended : List ℕ → ℕ → Option ℕ → Option ℕ
 ended durations faults None = None
 ended durations faults (Some start) = Some (min (start + get_or durations faults 0) (2 ^ 64 - 1))

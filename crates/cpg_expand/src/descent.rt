@@ -18,7 +18,7 @@ use std::alloc::Global;
 /// The trees of at most this many parts of a guard are kept, in case that an equal part comes again.
 const KEPT: usize = 64;
 
-/// What the tree of a guard tells, and how it is made of those of its sides.
+/// What holds of the tree of a guard, and how it is made of those of its sides.
 pub(crate) trait Descent<T> {
     ghost begun: { Self → Type 0 };
 

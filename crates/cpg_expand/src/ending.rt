@@ -38,7 +38,7 @@ pub(crate) fn end(
     ensures tree { IfOk result (IsTree problem.now) }
     ensures end { IfOk result (IsEndTree problem.now process start.now) }
 {
-    // its clause tells that the graph is within its limits
+    // called for its contract: the graph is within its limits
     let _processes = problem.processes();
     let durations = durations(alloc, problem, process)?;
     let faults = fault(alloc, process, problem.faults())?;

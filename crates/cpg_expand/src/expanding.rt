@@ -180,7 +180,7 @@ pub fn expand(alloc: Global, admitted: &Admitted, order: &Order) -> Result<Built
     ensures narrow { IfOk result (λ _. IsNarrow admitted.now.graph order.now) }
     ensures fault { IfErr result (ShowsBuildFault (IsLeastWide admitted.now.graph order.now)) }
 {
-    // its clause tells that the graph is admitted
+    // called for its contract: the graph is admitted
     let _problem = admitted.problem();
     let grown = grow(alloc, admitted, order.copy()?)?;
     let rows = grown.build(alloc, admitted)?;

@@ -179,7 +179,7 @@ impl Forest {
     {
         match ready {
             Ready::After(process) => {
-                // its clause tells that the graph is within its limits
+                // called for its contract: the graph is within its limits
                 let _processes = problem.processes();
                 let both = there.max_later(&self.ends[*process as usize], 0)?;
                 Ok(both)
@@ -358,7 +358,7 @@ impl Forest {
     {
         match ready {
             Ready::After(process) => {
-                // its clause tells that the graph is within its limits
+                // called for its contract: the graph is within its limits
                 let _processes = problem.processes();
                 let start = self.ends[*process as usize].no_earlier(release)?;
                 Ok(start)

@@ -26,7 +26,7 @@ fn most_where(problem: &Problem, tree: &Tree<Option<u64>>, wanted: &Tree<bool>) 
     requires wanted { IsTree problem.now wanted.now }
     ensures { IsTop problem.now (HasWhere tree.now wanted.now) result }
 {
-    // its clause tells that the graph is within its limits
+    // called for its contract: the graph is within its limits
     let _processes = problem.processes();
     cpg_tree_columns::most_where(tree, wanted)
 }

@@ -30,7 +30,7 @@ fn start_entries(
     requires tree { IsTree problem.now tree.now }
     ensures { IfOk result (λ entries. AreMergedOf problem.now urgency.now tree.now entries.items) }
 {
-    // its clause tells that the graph is within its limits
+    // called for its contract: the graph is within its limits
     let _processes = problem.processes();
     let listing = listing_along(tree, problem, urgency)?;
     let columns = merged_tidy(alloc, problem, urgency, listing)?;

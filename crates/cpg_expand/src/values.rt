@@ -185,7 +185,7 @@ pub(crate) fn fixed(tree: &Tree<bool>, time: u64) -> Result<Tree<Option<u64>>, O
     tree.map(&|is: bool| time_if(is, time))
 }
 
-/// The end of an execution with so many faults, if there is a start.
+/// The end of an execution with this number of faults, if there is a start.
 fn ended(start: Option<u64>, durations: &[u64], faults: u8) -> Option<u64>
     ensures { result ≡ ended durations.now faults start }
 {
@@ -197,7 +197,7 @@ fn ended(start: Option<u64>, durations: &[u64], faults: u8) -> Option<u64>
     Some(start.saturating_add(duration))
 }
 
-/// The ends of executions that start at the times of a tree, if one with so many faults lasts so long.
+/// The ends of executions that start at the times of a tree, if one with this number of faults lasts that long.
 pub(crate) fn ends(
     start: &Tree<Option<u64>>,
     faults: &Tree<u8>,
@@ -222,7 +222,7 @@ pub(crate) fn slot_at(share: Share, time: Option<u64>) -> u64
         return 0;
     };
     if time < LATE {
-        // its clause tells that the share is lawful
+        // called for its contract: the share is lawful
         let _length = share.length();
         share.next_slot(time)
     } else {

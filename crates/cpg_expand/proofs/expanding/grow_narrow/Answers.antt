@@ -1,4 +1,3 @@
-use Rattle.std.proofs.Common.{subst, ⊥}
 use Rattle.cpg_expand.specs.Large.{HasLargeTree}
 use Rattle.cpg_expand.proofs.LargeShown.{none_named}
 use Rattle.cpg_expand.proofs.expanding.grow_narrow.Goals as goal
