@@ -12,7 +12,11 @@ ghost use Rattle.cpg_run.specs.Setting.{IsSetting};
 use cpg_base::{OutOfMemory, Problem, Scenario};
 use cpg_rules::GuardTrees;
 use cpg_run::Setting;
+use smallvec::SmallVec;
 use std::alloc::Global;
+
+/// How many live inputs need no memory of their own.
+const FEW: usize = 4;
 
 /// What a track says of a process.
 #[derive(Drop)]
@@ -24,7 +28,7 @@ pub(crate) struct Asked<'a> {
     /// The conditions that decide it.
     pub(crate) conditions: Vec<u32>,
     /// Its live inputs.
-    pub(crate) inputs: Vec<u32>,
+    pub(crate) inputs: SmallVec<u32, FEW>,
 }
 
 /// Whether a process is active.
@@ -95,13 +99,13 @@ fn live_inputs(
     setting: &Setting<'_>,
     scenario: &Scenario,
     process: u32,
-) -> Result<Vec<u32>, OutOfMemory>
+) -> Result<SmallVec<u32, FEW>, OutOfMemory>
     requires setting { IsSetting setting.now }
     requires values { length scenario.now.values ≡ condition_count setting.now.problem.now }
     requires process { process < process_count setting.now.problem.now }
     ensures { IfOk result (λ edges. edges.items ≡ filter (live setting.now.problem.now scenario.now.values) (inputs setting.now.problem.now process)) }
 {
-    let mut edges = Vec::new(alloc);
+    let mut edges = SmallVec::new(alloc);
     for edge in setting.plan.inputs(setting.problem, process) {
         if is_live(setting.problem, setting.guards, scenario, *edge) {
             edges.push(*edge)?;
