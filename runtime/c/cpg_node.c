@@ -694,21 +694,25 @@ static bool take_act(cpg_node *node, uint32_t i, uint64_t now, cpg_event *event)
     uint16_t row = node->table->due[i].row;
     //@ for table: assert row == t_row(i);
     //@ for table: assert t_is_column(t_at(i));
+    //@ for table: assert rows: row < t_rows;
+    //@ for table: assert now: now < 1152921504606846976;
     if (!follows(node, node->table->due[i].at)) {
         return false;
     }
     if (is_start(node, row)) {
+        //@ for table: assert own: row < t_own;
         start(node, row, now);
+        //@ for table: assert holds: d_holds(node);
         //@ for table: assert ranges: d_same_ranges{Pre,Here}(node);
         //@ for table: assert others: \forall integer r; 0 <= r < CPG_MAX_OWN && r != row ==> d_same_execution{Pre,Here}(node, r);
         //@ ghost Started: ;
         tell(node, event, CPG_START, now, row, node->table->due[i].column, 0U);
+        //@ for table: assert same: d_same_executions{Started,Here}(node);
+        //@ for table: assert others: \forall integer r; 0 <= r < CPG_MAX_OWN && r != row ==> d_same_execution{Pre,Here}(node, r);
         //@ for table: assert ranges: d_same_ranges{Started,Here}(node);
         //@ for table: assert ranges: d_same_ranges{Pre,Here}(node);
         //@ for table: assert timed: d_are_timed(node);
-        //@ for table: assert same: d_same_executions{Started,Here}(node);
         //@ for table: assert started: d_is_started(node, row, now);
-        //@ for table: assert others: \forall integer r; 0 <= r < CPG_MAX_OWN && r != row ==> d_same_execution{Pre,Here}(node, r);
     } else {
         tell(node, event, CPG_SEND, now, row, node->table->due[i].column, value_of(node, node->table->item[row]));
     }
