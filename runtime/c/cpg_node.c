@@ -752,6 +752,59 @@ static bool take_due(cpg_node *node, uint32_t i, uint64_t now, cpg_event *event)
     return is_heard(node, row) ? take_heard(node, i, now, event) : take_act(node, i, now, event);
 }
 
+/* What a column leads to that has just been passed, in the turn of its instant. Answers whether that is an event. */
+/*@ requires cpg_is_node(node);
+    requires cpg_is_event(node, event);
+    requires i < node->table->dues;
+    terminates \true;
+    assigns node->sure[0 .. CPG_VARIABLES - 1], node->execution[0 .. CPG_MAX_OWN - 1], event->time, event->kind, event->item,
+        event->column, event->value;
+    ensures cpg_is_node(node);
+    behavior table:
+      assumes d_holds(node) && d_is_told(node, now);
+      assumes d_is_event(node, event);
+      assumes node->next == i + 1 && d_time(i) == now;
+      ensures holds: d_holds(node);
+      ensures where: node->from == \old(node->from) && node->next == \old(node->next);
+      ensures same: d_same_ranges{Pre,Post}(node);
+      ensures same: d_same_flags{Pre,Post}(node);
+      ensures told: d_is_told(node, now);
+      ensures past: !\result ==> !d_acts(node, i);
+      ensures kind: \result ==> event->kind != CPG_OVERRUN;
+      ensures act: \result && t_row(i) < t_acting ==> d_acts(node, i);
+      ensures act: \result && t_row(i) < t_acting ==> d_is_act(node, i, now, event);
+      ensures act: \result && t_row(i) >= t_acting ==> d_is_missing(node, i, now, event);
+      ensures start: \result && event->kind == CPG_START ==> d_is_started(node, t_row(i), now);
+      ensures others: \forall integer row; 0 <= row < t_own && !(\result && event->kind == CPG_START && row == t_row(i)) ==>
+          d_same_execution{Pre,Post}(node, row); */
+static bool take_column(cpg_node *node, uint32_t i, uint64_t now, cpg_event *event)
+{
+    bool found;
+    //@ for table: assert kept: d_is_kept(node);
+    //@ for table: assert before: d_nothing_before(node, now);
+    //@ for table: assert over: d_columns_over(node);
+    //@ for table: assert ahead: d_reports_ahead(node);
+    //@ for table: assert starts: d_starts_over(node);
+    //@ for table: assert dues: i < t_dues;
+    found = take_due(node, i, now, event);
+    //@ for table: assert ranges: d_same_ranges{Pre,Here}(node);
+    /*@ for table: assert others: \forall integer row; 0 <= row < CPG_MAX_OWN && !(found && row == t_row(i)) ==>
+        d_same_execution{Pre,Here}(node, row); */
+    //@ for table: assert started: found && t_row(i) < t_own ==> d_is_started(node, t_row(i), now);
+    //@ for table: assert kind: found && t_row(i) < t_own ==> event->kind == CPG_START;
+    //@ for table: assert numbers: d_has_numbers(node);
+    //@ for table: assert kept: d_is_kept(node);
+    //@ for table: assert before: d_nothing_before(node, now);
+    //@ for table: assert over: d_columns_over(node);
+    //@ for table: assert ahead: d_reports_ahead(node);
+    //@ for table: assert starts: d_starts_over(node);
+    /*@ for table: assert heard: \forall integer j; 0 <= j < d_literals(t_at(i)) ==>
+        d_same_range{Pre,Here}(node, d_place(d_variable(d_literal(t_at(i), j)))); */
+    //@ for table: assert heard: d_all_heard{Pre}(node, t_at(i)) ==> d_all_heard(node, t_at(i));
+    //@ for table: assert heard: d_all_heard(node, t_at(i)) ==> d_all_heard{Pre}(node, t_at(i));
+    return found;
+}
+
 /* Takes the next column, which stands at this instant. Answers whether that is an event. */
 /*@ requires cpg_is_node(node);
     requires cpg_is_event(node, event);
@@ -782,11 +835,24 @@ static bool take_due(cpg_node *node, uint32_t i, uint64_t now, cpg_event *event)
 static bool take_next(cpg_node *node, uint64_t now, cpg_event *event)
 {
     const uint32_t i = node->next;
+    bool found;
     node->next = i + 1U;
     //@ for table: assert holds: d_holds(node);
     //@ for table: assert same: d_same_executions{Pre,Here}(node);
     //@ for table: assert kept: d_is_kept(node);
-    return take_due(node, i, now, event);
+    //@ for table: assert before: d_nothing_before(node, now);
+    //@ for table: assert over: d_columns_over(node);
+    //@ for table: assert ahead: d_reports_ahead(node);
+    //@ for table: assert starts: d_starts_over(node);
+    //@ for table: assert told: d_is_told(node, now);
+    //@ for table: assert next: node->next == i + 1;
+    //@ ghost Passed: ;
+    found = take_column(node, i, now, event);
+    /*@ for table: assert others: \forall integer row; 0 <= row < t_own && !(found && event->kind == CPG_START && row == t_row(i)) ==>
+        d_same_execution{Passed,Here}(node, row); */
+    /*@ for table: assert others: \forall integer row; 0 <= row < t_own && !(found && event->kind == CPG_START && row == t_row(i)) ==>
+        d_same_execution{Pre,Here}(node, row); */
+    return found;
 }
 
 /* What the columns of an instant lead to, as far as the next event. */
@@ -857,7 +923,22 @@ static bool take_dues(cpg_node *node, uint64_t now, cpg_event *event)
       ensures others: d_rest_others{Pre,Post}(node, \result ? 1 : 0, event); */
 static bool take_rest(cpg_node *node, uint64_t now, cpg_event *event)
 {
-    return tell_overrun(node, now, event) || take_dues(node, now, event);
+    bool found;
+    if (tell_overrun(node, now, event)) {
+        return true;
+    }
+    //@ for table: assert holds: d_holds(node);
+    //@ for table: assert told: d_is_told(node, now);
+    //@ for table: assert same: d_same_executions{Pre,Here}(node);
+    //@ for table: assert none: d_none_overruns(node, now);
+    //@ ghost None: ;
+    found = take_dues(node, now, event);
+    //@ for table: assert ranges: d_same_ranges{None,Here}(node);
+    //@ for table: assert ranges: d_same_ranges{Pre,Here}(node);
+    //@ for table: assert others: d_dues_others{None,Here}(node, found ? 1 : 0, event);
+    //@ for table: assert others: d_dues_others{Pre,Here}(node, found ? 1 : 0, event);
+    //@ for table: assert none: !found ==> d_none_overruns(node, now);
+    return found;
 }
 
 /* The turn of an instant, or what is left of it, as far as the next event. */
