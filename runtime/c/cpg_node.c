@@ -769,39 +769,39 @@ static bool take_due(cpg_node *node, uint32_t i, uint64_t now, cpg_event *event)
       ensures same: d_same_ranges{Pre,Post}(node);
       ensures same: d_same_flags{Pre,Post}(node);
       ensures told: d_is_told(node, now);
-      ensures past: !\result ==> !d_acts(node, i);
+      ensures past: !\result ==> !d_acts(node, node->next - 1);
       ensures kind: \result ==> event->kind != CPG_OVERRUN;
-      ensures act: \result && t_row(i) < t_acting ==> d_acts(node, i);
-      ensures act: \result && t_row(i) < t_acting ==> d_is_act(node, i, now, event);
-      ensures act: \result && t_row(i) >= t_acting ==> d_is_missing(node, i, now, event);
-      ensures start: \result && event->kind == CPG_START ==> d_is_started(node, t_row(i), now);
-      ensures others: \forall integer row; 0 <= row < t_own && !(\result && event->kind == CPG_START && row == t_row(i)) ==>
-          d_same_execution{Pre,Post}(node, row); */
+      ensures act: \result ==> d_tells_last(node, now, event);
+      ensures start: d_turn_start(node, now, \result ? 1 : 0, event);
+      ensures others: d_dues_others{Pre,Post}(node, \result ? 1 : 0, event); */
 static bool take_column(cpg_node *node, uint32_t i, uint64_t now, cpg_event *event)
 {
     bool found;
     //@ for table: assert kept: d_is_kept(node);
-    //@ for table: assert before: d_nothing_before(node, now);
-    //@ for table: assert over: d_columns_over(node);
-    //@ for table: assert ahead: d_reports_ahead(node);
-    //@ for table: assert starts: d_starts_over(node);
     //@ for table: assert dues: i < t_dues;
     found = take_due(node, i, now, event);
-    //@ for table: assert ranges: d_same_ranges{Pre,Here}(node);
-    /*@ for table: assert others: \forall integer row; 0 <= row < CPG_MAX_OWN && !(found && row == t_row(i)) ==>
-        d_same_execution{Pre,Here}(node, row); */
+    //@ for table: assert at: d_is_at(node, now + 1, i + 1);
+    //@ for table: assert last: d_is_last(node, i);
     //@ for table: assert started: found && t_row(i) < t_own ==> d_is_started(node, t_row(i), now);
     //@ for table: assert kind: found && t_row(i) < t_own ==> event->kind == CPG_START;
+    //@ for table: assert start: d_turn_start(node, now, found ? 1 : 0, event);
+    /*@ for table: assert rows: \forall integer row; 0 <= row < CPG_MAX_OWN && !(found && row == t_row(i)) ==>
+        d_same_execution{Pre,Here}(node, row); */
+    /*@ for table: assert rows: \forall integer row; 0 <= row < t_own && !(found && event->kind == CPG_START && row == t_row(i)) ==>
+        d_same_execution{Pre,Here}(node, row); */
+    //@ for table: assert others: d_dues_others{Pre,Here}(node, found ? 1 : 0, event);
+    /*@ for table: assert heard: \forall integer j; 0 <= j < d_literals(t_at(i)) ==>
+        d_same_range{Pre,Here}(node, d_place(d_variable(d_literal(t_at(i), j)))); */
+    //@ for table: assert heard: d_all_heard{Pre}(node, t_at(i)) ==> d_all_heard(node, t_at(i));
+    //@ for table: assert heard: d_all_heard(node, t_at(i)) ==> d_all_heard{Pre}(node, t_at(i));
+    //@ for table: assert acts: found && t_row(i) < t_acting ==> d_acts(node, i);
+    //@ for table: assert act: found ==> d_tells_last(node, now, event);
     //@ for table: assert numbers: d_has_numbers(node);
     //@ for table: assert kept: d_is_kept(node);
     //@ for table: assert before: d_nothing_before(node, now);
     //@ for table: assert over: d_columns_over(node);
     //@ for table: assert ahead: d_reports_ahead(node);
     //@ for table: assert starts: d_starts_over(node);
-    /*@ for table: assert heard: \forall integer j; 0 <= j < d_literals(t_at(i)) ==>
-        d_same_range{Pre,Here}(node, d_place(d_variable(d_literal(t_at(i), j)))); */
-    //@ for table: assert heard: d_all_heard{Pre}(node, t_at(i)) ==> d_all_heard(node, t_at(i));
-    //@ for table: assert heard: d_all_heard(node, t_at(i)) ==> d_all_heard{Pre}(node, t_at(i));
     return found;
 }
 
@@ -846,12 +846,13 @@ static bool take_next(cpg_node *node, uint64_t now, cpg_event *event)
     //@ for table: assert starts: d_starts_over(node);
     //@ for table: assert told: d_is_told(node, now);
     //@ for table: assert next: node->next == i + 1;
+    //@ for table: assert time: d_time(i) == now;
     //@ ghost Passed: ;
     found = take_column(node, i, now, event);
-    /*@ for table: assert others: \forall integer row; 0 <= row < t_own && !(found && event->kind == CPG_START && row == t_row(i)) ==>
-        d_same_execution{Passed,Here}(node, row); */
-    /*@ for table: assert others: \forall integer row; 0 <= row < t_own && !(found && event->kind == CPG_START && row == t_row(i)) ==>
-        d_same_execution{Pre,Here}(node, row); */
+    //@ for table: assert at: d_is_at(node, now + 1, i + 1);
+    //@ for table: assert act: d_turn_act{Pre,Here}(node, now, found ? 1 : 0, event);
+    //@ for table: assert others: d_dues_others{Passed,Here}(node, found ? 1 : 0, event);
+    //@ for table: assert others: d_dues_others{Pre,Here}(node, found ? 1 : 0, event);
     return found;
 }
 
