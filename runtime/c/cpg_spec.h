@@ -244,18 +244,22 @@
         \forall integer row; 0 <= row < t_own ==> (d_overruns{L1}(n, row, now) <==> d_overruns{L2}(n, row, now));
     predicate d_nothing_at{L}(cpg_node *n, integer now) = \forall integer i; n->next <= i < t_dues ==> now < d_time(i);
 
+    // the last column that was passed is this one of the index
+    predicate d_is_last{L}(cpg_node *n, integer i) =
+        t_row(n->next - 1) == t_row(i) && t_column(n->next - 1) == t_column(i) && t_at(n->next - 1) == t_at(i);
+
     // A call takes a turn as far as an event: where `found` is 1 there is one, and the rest of the turn is that of the next call.
     // The columns that it passed are those of its instant, and none is one of an act, but for the last one where there is an event.
     predicate d_turn_columns{L1,L2}(cpg_node *n, integer now) =
         \at(n->next,L1) <= \at(n->next,L2) && (\forall integer i; \at(n->next,L1) <= i < \at(n->next,L2) ==> d_time(i) <= now);
     predicate d_turn_past{L1,L2}(cpg_node *n, integer found) =
         \forall integer i; \at(n->next,L1) <= i < \at(n->next,L2) - found ==> !d_acts{L2}(n, i);
-    // the event
+    // the event: that of the last column that was passed, or an overrun
+    predicate d_tells_last{L}(cpg_node *n, integer now, cpg_event *e) =
+        t_row(n->next - 1) < t_acting ? d_acts(n, n->next - 1) && d_is_act(n, n->next - 1, now, e)
+                                      : d_is_missing(n, n->next - 1, now, e);
     predicate d_turn_act{L1,L2}(cpg_node *n, integer now, integer found, cpg_event *e) =
-        found == 1 && \at(e->kind,L2) != CPG_OVERRUN ==> \at(n->next,L1) < \at(n->next,L2)
-            && (t_row(\at(n->next,L2) - 1) < t_acting
-                    ? d_acts{L2}(n, \at(n->next,L2) - 1) && d_is_act{L2}(n, \at(n->next,L2) - 1, now, e)
-                    : d_is_missing{L2}(n, \at(n->next,L2) - 1, now, e));
+        found == 1 && \at(e->kind,L2) != CPG_OVERRUN ==> \at(n->next,L1) < \at(n->next,L2) && d_tells_last{L2}(n, now, e);
     predicate d_turn_overrun{L1,L2}(cpg_node *n, integer now, integer found, cpg_event *e) =
         found == 1 && \at(e->kind,L2) == CPG_OVERRUN ==> \at(n->next,L1) == \at(n->next,L2)
             && \at(e->time,L2) == now && \at(e->column,L2) == 0 && \at(e->value,L2) == 0
