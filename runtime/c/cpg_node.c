@@ -824,12 +824,14 @@ static bool take_dues(cpg_node *node, uint64_t now, cpg_event *event)
     while ((node->next < node->table->dues) && (due_time(node, node->next) <= now)) {
         //@ for table: assert now: d_time(node->next) == now;
         //@ for table: assert dues: d_dues{Pre,Here}(node, now, 0, event);
+        //@ for table: assert from: node->from == now + 1 && now < 2305843009213693952;
         if (take_next(node, now, event)) {
+            //@ for table: assert told: d_is_told(node, now);
             //@ for table: assert due: d_due{LoopCurrent,Here}(node, now, 1, event);
             //@ for table: assert dues: d_dues{Pre,Here}(node, now, 1, event);
-            //@ for table: assert told: d_is_told(node, now);
             return true;
         }
+        //@ for table: assert told: d_is_told(node, now);
         //@ for table: assert due: d_due{LoopCurrent,Here}(node, now, 0, event);
         //@ for table: assert dues: d_dues{Pre,Here}(node, now, 0, event);
     }

@@ -313,8 +313,6 @@
         d_turn_columns{L1,L3}(n, now);
       lemma act_one{L1,L2,L3}: \forall cpg_node *n, integer now, found, cpg_event *e;
         d_turn_columns{L1,L2}(n, now) ==> d_due{L2,L3}(n, now, found, e) ==> d_turn_act{L1,L3}(n, now, found, e);
-      lemma ranges_one{L1,L2,L3}: \forall cpg_node *n;
-        d_same_ranges{L1,L2}(n) ==> d_same_ranges{L2,L3}(n) ==> d_same_ranges{L1,L3}(n);
       lemma others_one{L1,L2,L3}: \forall cpg_node *n, integer found, cpg_event *e;
         d_dues_others{L1,L2}(n, 0, e) ==> d_dues_others{L2,L3}(n, found, e) ==> d_dues_others{L1,L3}(n, found, e);
       lemma dues_one{L1,L2,L3}: \forall cpg_node *n, integer now, found, cpg_event *e; 0 <= \at(n->next,L1) ==> 0 <= found <= 1 ==>
@@ -343,14 +341,6 @@
         d_ends{L1,L2}(n, now) ==> d_rest_others{L2,L3}(n, found, e) ==> d_turn_others{L1,L3}(n, now, found, e);
       lemma turn_rest{L1,L2,L3}: \forall cpg_node *n, integer now, found, cpg_event *e;
         d_ends{L1,L2}(n, now) ==> d_rest{L2,L3}(n, now, found, e) ==> d_turn{L1,L3}(n, now, found, e);
-      lemma over_running{L}: \forall cpg_node *n, integer now, row;
-        d_none_overruns(n, now) ==> 0 <= row < t_own ==> n->execution[row].state == CPG_RUNNING ==> now < n->execution[row].until;
-      lemma over_reported{L}: \forall cpg_node *n, integer row;
-        d_reports_ahead(n) ==> 0 <= row < t_own ==> n->execution[row].state == CPG_NOTED ==> n->from <= n->execution[row].until;
-      lemma over_rows{L}: \forall cpg_node *n, integer now, row;
-        d_none_overruns(n, now) ==> d_is_told(n, now) ==> 0 <= row < t_own ==> d_is_awaited(n, row) ==> now + 1 <= n->execution[row].until;
-      lemma over_columns{L}: \forall cpg_node *n, integer now, i;
-        d_nothing_at(n, now) ==> n->next <= i < t_dues ==> now + 1 <= d_time(i);
       lemma rows_over{L1,L2}: \forall cpg_node *n, integer now, found, row, cpg_event *e; found == 0 ==>
         d_is_told{L2}(n, now) ==> d_turn{L1,L2}(n, now, found, e) ==>
         0 <= row < t_own ==> d_is_awaited{L2}(n, row) ==> now + 1 <= \at(n->execution[row].until,L2);
@@ -359,8 +349,6 @@
       // a turn of a node with another `from`
       predicate d_same{L1,L2}(cpg_node *n) =
         \at(n->next,L1) == \at(n->next,L2) && d_same_executions{L1,L2}(n) && d_same_ranges{L1,L2}(n);
-      lemma same_due{L1,L2}: \forall cpg_node *n, integer row, now; 0 <= row < t_own ==>
-        d_same{L1,L2}(n) ==> (d_due_report{L1}(n, row, now) <==> d_due_report{L2}(n, row, now));
       lemma same_running{L1,L2}: \forall cpg_node *n, integer now; d_same{L1,L2}(n) ==> d_same_overruns{L1,L2}(n, now);
       lemma same_heard{L1,L2,L3}: \forall cpg_node *n, integer now;
         d_same{L1,L2}(n) ==> d_heard_after{L2,L3}(n, now) ==> d_heard_after{L1,L3}(n, now);
