@@ -920,10 +920,20 @@ static bool take_dues(cpg_node *node, uint64_t now, cpg_event *event)
             event->kind, event->item, event->column, event->value;
         loop variant node->table->dues - node->next; */
     while ((node->next < node->table->dues) && (due_time(node, node->next) <= now)) {
+        //@ for table: assert now: d_time(node->next) == now;
+        //@ for table: assert dues: d_dues{Pre,Here}(node, now, 0, event);
+        //@ for table: assert from: node->from == now + 1 && now < 2305843009213693952;
         if (take_next(node, now, event)) {
+            //@ for table: assert told: d_is_told(node, now);
+            //@ for table: assert due: d_due{LoopCurrent,Here}(node, now, 1, event);
+            //@ for table: assert dues: d_dues{Pre,Here}(node, now, 1, event);
             return true;
         }
+        //@ for table: assert told: d_is_told(node, now);
+        //@ for table: assert due: d_due{LoopCurrent,Here}(node, now, 0, event);
+        //@ for table: assert dues: d_dues{Pre,Here}(node, now, 0, event);
     }
+    //@ for table: assert done: d_nothing_at(node, now);
     return false;
 }
 
@@ -985,25 +995,24 @@ static bool take_rest(cpg_node *node, uint64_t now, cpg_event *event)
       ensures same: d_same_flags{Pre,Post}(node);
       ensures from: node->from == \old(node->from);
       ensures told: d_is_told(node, now);
-      ensures ends: d_heard_after{Pre,Post}(node, now);
-      ensures columns: d_turn_columns{Pre,Post}(node, now);
-      ensures past: d_turn_past{Pre,Post}(node, \result ? 1 : 0);
-      ensures act: d_turn_act{Pre,Post}(node, now, \result ? 1 : 0, event);
-      ensures overrun: d_turn_overrun{Pre,Post}(node, now, \result ? 1 : 0, event);
-      ensures done: d_turn_over(node, now, \result ? 1 : 0);
-      ensures start: d_turn_start(node, now, \result ? 1 : 0, event);
-      ensures ended: d_turn_ends{Pre,Post}(node, now, \result ? 1 : 0, event);
-      ensures rows: d_turn_others{Pre,Post}(node, now, \result ? 1 : 0, event); */
+      ensures turn: d_turn{Pre,Post}(node, now, \result ? 1 : 0, event); */
 static bool take_turn(cpg_node *node, uint64_t now, cpg_event *event)
 {
+    bool found;
+    //@ for table: assert kept: d_is_kept(node);
     tell_ends(node, now);
+    //@ for table: assert ends: d_ends{Pre,Here}(node, now);
     //@ for table: assert kept: d_is_kept(node);
     //@ for table: assert ahead: d_reports_ahead(node);
     //@ for table: assert before: d_nothing_before(node, now);
     //@ for table: assert over: d_columns_over(node);
     //@ for table: assert starts: d_starts_over(node);
-    //@ for table: assert running: d_same_overruns{Pre,Here}(node, now);
-    return take_rest(node, now, event);
+    //@ for table: assert told: d_is_told(node, now);
+    //@ ghost Told: ;
+    found = take_rest(node, now, event);
+    //@ for table: assert rest: d_rest{Told,Here}(node, now, found ? 1 : 0, event);
+    //@ for table: assert turn: d_turn{Pre,Here}(node, now, found ? 1 : 0, event);
+    return found;
 }
 
 /* The turn of the next instant. */
@@ -1034,11 +1043,15 @@ static bool take_instant(cpg_node *node, uint64_t now, cpg_event *event)
     //@ for table: assert same: d_same_executions{Pre,Here}(node);
     //@ for table: assert kept: d_is_kept(node);
     //@ for table: assert turning: d_is_turning(node, now);
+    //@ for table: assert same: d_same{Pre,Here}(node);
+    //@ ghost Turning: ;
     found = take_turn(node, now, event);
-    //@ for table: assert heard: d_heard_after{Pre,Here}(node, now);
-    //@ for table: assert overrun: d_turn_overrun{Pre,Here}(node, now, found ? 1 : 0, event);
-    //@ for table: assert ends: d_turn_ends{Pre,Here}(node, now, found ? 1 : 0, event);
-    //@ for table: assert others: d_turn_others{Pre,Here}(node, now, found ? 1 : 0, event);
+    //@ for table: assert turn: d_turn{Turning,Here}(node, now, found ? 1 : 0, event);
+    //@ for table: assert turned: d_turn{Pre,Here}(node, now, found ? 1 : 0, event);
+    /*@ for table: assert rows: \forall integer row; !found && 0 <= row < t_own && d_is_awaited(node, row) ==>
+        now + 1 <= node->execution[row].until; */
+    //@ for table: assert columns: \forall integer i; !found && node->next <= i < t_dues ==> now + 1 <= d_time(i);
+    //@ for table: assert over: !found ==> d_nothing_before(node, now + 1);
     return found;
 }
 
@@ -1076,6 +1089,7 @@ bool cpg_poll(cpg_node *node, uint64_t until, cpg_event *event)
         least = now + 1U;
         now = cpg_next(node);
     }
+    //@ for table: assert least: now >= least;
     return false;
 }
 
