@@ -465,26 +465,18 @@ static void tell(const cpg_node *node, cpg_event *event, cpg_kind kind, uint64_t
     //@ for table: assert dues: d_has_dues(node->table);
 }
 
-/* The first execution that still runs at its end with k faults, and wasn't told before. */
-/*@ requires cpg_is_node(node);
-    requires cpg_is_event(node, event);
+/* The row of the first execution that still runs at its end with k faults, and wasn't told before: `own` where there is none. */
+/*@ requires cpg_is_open(node);
     terminates \true;
-    assigns node->execution[0 .. CPG_MAX_OWN - 1], event->time, event->kind, event->item, event->column, event->value;
-    ensures cpg_is_node(node);
+    assigns \nothing;
+    ensures \result <= node->table->own;
     behavior table:
-      assumes d_holds(node) && d_is_told(node, now);
-      assumes d_is_event(node, event);
-      ensures holds: d_holds(node);
-      ensures where: node->from == \old(node->from) && node->next == \old(node->next);
-      ensures same: d_same_ranges{Pre,Post}(node);
-      ensures same: d_same_flags{Pre,Post}(node);
-      ensures told: d_is_told(node, now);
-      ensures kind: \result ==> event->kind == CPG_OVERRUN;
-      ensures none: !\result ==> d_same_executions{Pre,Post}(node);
-      ensures none: !\result ==> d_none_overruns{Pre}(node, now);
-      ensures overrun: d_turn_overrun{Pre,Post}(node, now, \result ? 1 : 0, event);
-      ensures others: d_rest_others{Pre,Post}(node, \result ? 1 : 0, event); */
-static bool tell_overrun(cpg_node *node, uint64_t now, cpg_event *event)
+      assumes d_holds(node);
+      ensures \result <= t_own;
+      ensures this: \result < t_own ==> d_overruns(node, \result, now);
+      ensures first: \forall integer r; 0 <= r < \result ==> !d_overruns(node, r, now);
+      ensures none: \result == t_own ==> d_none_overruns(node, now); */
+static uint16_t find_overrun(const cpg_node *node, uint64_t now)
 {
     /*@ loop invariant 0 <= row <= node->table->own;
         for table: loop invariant \forall integer r; 0 <= r < row ==> !d_overruns(node, r, now);
@@ -492,21 +484,56 @@ static bool tell_overrun(cpg_node *node, uint64_t now, cpg_event *event)
         loop variant node->table->own - row; */
     for (uint16_t row = 0U; row < node->table->own; row++) {
         if ((node->execution[row].state == CPG_RUNNING) && (node->execution[row].until <= now)) {
-            node->execution[row].state = CPG_OVERRUNNING;
-            //@ for table: assert d_is_timed(node, row);
-            //@ for table: assert same: \forall integer r; 0 <= r < CPG_MAX_OWN && r != row ==> d_same_execution{Pre,Here}(node, r);
-            //@ for table: assert timed: \forall integer r; 0 <= r < t_own && r != row ==> d_is_timed(node, r);
-            //@ for table: assert mid: d_holds(node);
-            tell(node, event, CPG_OVERRUN, now, row, 0U, 0U);
-            //@ for table: assert others: \forall integer r; 0 <= r < CPG_MAX_OWN && r != row ==> d_same_execution{Pre,Here}(node, r);
-            //@ for table: assert kept: d_is_kept(node);
-            //@ for table: assert before: d_nothing_before(node, now);
-            //@ for table: assert ahead: d_reports_ahead(node);
-            //@ for table: assert starts: d_starts_over(node);
-            return true;
+            return row;
         }
     }
-    return false;
+    return node->table->own;
+}
+
+/* An execution still runs at its end with k faults. */
+/*@ requires cpg_is_node(node);
+    requires cpg_is_event(node, event);
+    requires row < node->table->own;
+    terminates \true;
+    assigns node->execution[0 .. CPG_MAX_OWN - 1], event->time, event->kind, event->item, event->column, event->value;
+    ensures cpg_is_node(node);
+    behavior table:
+      assumes d_holds(node) && d_is_told(node, now);
+      assumes d_is_event(node, event);
+      assumes row < t_own && d_overruns(node, row, now);
+      assumes \forall integer r; 0 <= r < row ==> !d_overruns(node, r, now);
+      ensures holds: d_holds(node);
+      ensures where: node->from == \old(node->from) && node->next == \old(node->next);
+      ensures same: d_same_ranges{Pre,Post}(node);
+      ensures same: d_same_flags{Pre,Post}(node);
+      ensures told: d_is_told(node, now);
+      ensures kind: event->kind == CPG_OVERRUN;
+      ensures overrun: d_turn_overrun{Pre,Post}(node, now, 1, event);
+      ensures others: d_rest_others{Pre,Post}(node, 1, event); */
+static void tell_overrun(cpg_node *node, uint16_t row, uint64_t now, cpg_event *event)
+{
+    //@ for table: assert kept: d_is_kept(node);
+    //@ for table: assert rows: row < t_rows;
+    node->execution[row].state = CPG_OVERRUNNING;
+    //@ for table: assert this: d_is_timed(node, row);
+    //@ for table: assert same: \forall integer r; 0 <= r < CPG_MAX_OWN && r != row ==> d_same_execution{Pre,Here}(node, r);
+    //@ for table: assert timed: \forall integer r; 0 <= r < t_own && r != row ==> d_is_timed(node, r);
+    //@ for table: assert timed: d_are_timed(node);
+    //@ for table: assert holds: d_holds(node);
+    //@ ghost Marked: ;
+    tell(node, event, CPG_OVERRUN, now, row, 0U, 0U);
+    //@ for table: assert at: d_is_at(node, \at(node->from,Pre), \at(node->next,Pre));
+    //@ for table: assert same: d_same_executions{Marked,Here}(node);
+    //@ for table: assert others: \forall integer r; 0 <= r < CPG_MAX_OWN && r != row ==> d_same_execution{Pre,Here}(node, r);
+    //@ for table: assert report: d_same_report{Pre,Here}(node, row);
+    //@ for table: assert state: node->execution[row].state == CPG_OVERRUNNING;
+    //@ for table: assert overrun: d_turn_overrun{Pre,Here}(node, now, 1, event);
+    //@ for table: assert others: d_rest_others{Pre,Here}(node, 1, event);
+    //@ for table: assert kept: d_is_kept(node);
+    //@ for table: assert before: d_nothing_before(node, now);
+    //@ for table: assert over: d_columns_over(node);
+    //@ for table: assert ahead: d_reports_ahead(node);
+    //@ for table: assert starts: d_starts_over(node);
 }
 
 /* A variable's number isn't in a range: where that covers one end of what is left, this end moves. */
@@ -694,21 +721,25 @@ static bool take_act(cpg_node *node, uint32_t i, uint64_t now, cpg_event *event)
     uint16_t row = node->table->due[i].row;
     //@ for table: assert row == t_row(i);
     //@ for table: assert t_is_column(t_at(i));
+    //@ for table: assert rows: row < t_rows;
+    //@ for table: assert now: now < 1152921504606846976;
     if (!follows(node, node->table->due[i].at)) {
         return false;
     }
     if (is_start(node, row)) {
+        //@ for table: assert own: row < t_own;
         start(node, row, now);
+        //@ for table: assert holds: d_holds(node);
         //@ for table: assert ranges: d_same_ranges{Pre,Here}(node);
         //@ for table: assert others: \forall integer r; 0 <= r < CPG_MAX_OWN && r != row ==> d_same_execution{Pre,Here}(node, r);
         //@ ghost Started: ;
         tell(node, event, CPG_START, now, row, node->table->due[i].column, 0U);
+        //@ for table: assert same: d_same_executions{Started,Here}(node);
+        //@ for table: assert others: \forall integer r; 0 <= r < CPG_MAX_OWN && r != row ==> d_same_execution{Pre,Here}(node, r);
         //@ for table: assert ranges: d_same_ranges{Started,Here}(node);
         //@ for table: assert ranges: d_same_ranges{Pre,Here}(node);
         //@ for table: assert timed: d_are_timed(node);
-        //@ for table: assert same: d_same_executions{Started,Here}(node);
         //@ for table: assert started: d_is_started(node, row, now);
-        //@ for table: assert others: \forall integer r; 0 <= r < CPG_MAX_OWN && r != row ==> d_same_execution{Pre,Here}(node, r);
     } else {
         tell(node, event, CPG_SEND, now, row, node->table->due[i].column, value_of(node, node->table->item[row]));
     }
@@ -748,6 +779,59 @@ static bool take_due(cpg_node *node, uint32_t i, uint64_t now, cpg_event *event)
     return is_heard(node, row) ? take_heard(node, i, now, event) : take_act(node, i, now, event);
 }
 
+/* What a column leads to that has just been passed, in the turn of its instant. Answers whether that is an event. */
+/*@ requires cpg_is_node(node);
+    requires cpg_is_event(node, event);
+    requires i < node->table->dues;
+    terminates \true;
+    assigns node->sure[0 .. CPG_VARIABLES - 1], node->execution[0 .. CPG_MAX_OWN - 1], event->time, event->kind, event->item,
+        event->column, event->value;
+    ensures cpg_is_node(node);
+    behavior table:
+      assumes d_holds(node) && d_is_told(node, now);
+      assumes d_is_event(node, event);
+      assumes node->next == i + 1 && d_time(i) == now;
+      ensures holds: d_holds(node);
+      ensures where: node->from == \old(node->from) && node->next == \old(node->next);
+      ensures same: d_same_ranges{Pre,Post}(node);
+      ensures same: d_same_flags{Pre,Post}(node);
+      ensures told: d_is_told(node, now);
+      ensures past: !\result ==> !d_acts(node, node->next - 1);
+      ensures kind: \result ==> event->kind != CPG_OVERRUN;
+      ensures act: \result ==> d_tells_last(node, now, event);
+      ensures start: d_turn_start(node, now, \result ? 1 : 0, event);
+      ensures others: d_dues_others{Pre,Post}(node, \result ? 1 : 0, event); */
+static bool take_column(cpg_node *node, uint32_t i, uint64_t now, cpg_event *event)
+{
+    bool found;
+    //@ for table: assert kept: d_is_kept(node);
+    //@ for table: assert dues: i < t_dues;
+    found = take_due(node, i, now, event);
+    //@ for table: assert at: d_is_at(node, now + 1, i + 1);
+    //@ for table: assert last: d_is_last(node, i);
+    //@ for table: assert started: found && t_row(i) < t_own ==> d_is_started(node, t_row(i), now);
+    //@ for table: assert kind: found && t_row(i) < t_own ==> event->kind == CPG_START;
+    //@ for table: assert start: d_turn_start(node, now, found ? 1 : 0, event);
+    /*@ for table: assert rows: \forall integer row; 0 <= row < CPG_MAX_OWN && !(found && row == t_row(i)) ==>
+        d_same_execution{Pre,Here}(node, row); */
+    /*@ for table: assert rows: \forall integer row; 0 <= row < t_own && !(found && event->kind == CPG_START && row == t_row(i)) ==>
+        d_same_execution{Pre,Here}(node, row); */
+    //@ for table: assert others: d_dues_others{Pre,Here}(node, found ? 1 : 0, event);
+    /*@ for table: assert heard: \forall integer j; 0 <= j < d_literals(t_at(i)) ==>
+        d_same_range{Pre,Here}(node, d_place(d_variable(d_literal(t_at(i), j)))); */
+    //@ for table: assert heard: d_all_heard{Pre}(node, t_at(i)) ==> d_all_heard(node, t_at(i));
+    //@ for table: assert heard: d_all_heard(node, t_at(i)) ==> d_all_heard{Pre}(node, t_at(i));
+    //@ for table: assert acts: found && t_row(i) < t_acting ==> d_acts(node, i);
+    //@ for table: assert act: found ==> d_tells_last(node, now, event);
+    //@ for table: assert numbers: d_has_numbers(node);
+    //@ for table: assert kept: d_is_kept(node);
+    //@ for table: assert before: d_nothing_before(node, now);
+    //@ for table: assert over: d_columns_over(node);
+    //@ for table: assert ahead: d_reports_ahead(node);
+    //@ for table: assert starts: d_starts_over(node);
+    return found;
+}
+
 /* Takes the next column, which stands at this instant. Answers whether that is an event. */
 /*@ requires cpg_is_node(node);
     requires cpg_is_event(node, event);
@@ -778,11 +862,25 @@ static bool take_due(cpg_node *node, uint32_t i, uint64_t now, cpg_event *event)
 static bool take_next(cpg_node *node, uint64_t now, cpg_event *event)
 {
     const uint32_t i = node->next;
+    bool found;
     node->next = i + 1U;
     //@ for table: assert holds: d_holds(node);
     //@ for table: assert same: d_same_executions{Pre,Here}(node);
     //@ for table: assert kept: d_is_kept(node);
-    return take_due(node, i, now, event);
+    //@ for table: assert before: d_nothing_before(node, now);
+    //@ for table: assert over: d_columns_over(node);
+    //@ for table: assert ahead: d_reports_ahead(node);
+    //@ for table: assert starts: d_starts_over(node);
+    //@ for table: assert told: d_is_told(node, now);
+    //@ for table: assert next: node->next == i + 1;
+    //@ for table: assert time: d_time(i) == now;
+    //@ ghost Passed: ;
+    found = take_column(node, i, now, event);
+    //@ for table: assert at: d_is_at(node, now + 1, i + 1);
+    //@ for table: assert act: d_turn_act{Pre,Here}(node, now, found ? 1 : 0, event);
+    //@ for table: assert others: d_dues_others{Passed,Here}(node, found ? 1 : 0, event);
+    //@ for table: assert others: d_dues_others{Pre,Here}(node, found ? 1 : 0, event);
+    return found;
 }
 
 /* What the columns of an instant lead to, as far as the next event. */
@@ -822,10 +920,20 @@ static bool take_dues(cpg_node *node, uint64_t now, cpg_event *event)
             event->kind, event->item, event->column, event->value;
         loop variant node->table->dues - node->next; */
     while ((node->next < node->table->dues) && (due_time(node, node->next) <= now)) {
+        //@ for table: assert now: d_time(node->next) == now;
+        //@ for table: assert dues: d_dues{Pre,Here}(node, now, 0, event);
+        //@ for table: assert from: node->from == now + 1 && now < 2305843009213693952;
         if (take_next(node, now, event)) {
+            //@ for table: assert told: d_is_told(node, now);
+            //@ for table: assert due: d_due{LoopCurrent,Here}(node, now, 1, event);
+            //@ for table: assert dues: d_dues{Pre,Here}(node, now, 1, event);
             return true;
         }
+        //@ for table: assert told: d_is_told(node, now);
+        //@ for table: assert due: d_due{LoopCurrent,Here}(node, now, 0, event);
+        //@ for table: assert dues: d_dues{Pre,Here}(node, now, 0, event);
     }
+    //@ for table: assert done: d_nothing_at(node, now);
     return false;
 }
 
@@ -853,7 +961,24 @@ static bool take_dues(cpg_node *node, uint64_t now, cpg_event *event)
       ensures others: d_rest_others{Pre,Post}(node, \result ? 1 : 0, event); */
 static bool take_rest(cpg_node *node, uint64_t now, cpg_event *event)
 {
-    return tell_overrun(node, now, event) || take_dues(node, now, event);
+    const uint16_t row = find_overrun(node, now);
+    bool found;
+    if (row < node->table->own) {
+        //@ for table: assert row: row < t_own;
+        tell_overrun(node, row, now, event);
+        return true;
+    }
+    //@ for table: assert none: row == t_own;
+    found = take_dues(node, now, event);
+    //@ for table: assert same: !found ==> (\forall integer r; 0 <= r < t_own ==> d_same_execution{Pre,Here}(node, r));
+    /*@ for table: assert states: !found ==> (\forall integer r; 0 <= r < t_own ==>
+        \at(node->execution[r].state,Pre) == node->execution[r].state); */
+    /*@ for table: assert untils: !found ==> (\forall integer r; 0 <= r < t_own ==>
+        \at(node->execution[r].until,Pre) == node->execution[r].until); */
+    /*@ for table: assert running: !found ==> (\forall integer r; 0 <= r < t_own && d_overruns(node, r, now) ==>
+        d_overruns{Pre}(node, r, now)); */
+    //@ for table: assert none: !found ==> d_none_overruns(node, now);
+    return found;
 }
 
 /* The turn of an instant, or what is left of it, as far as the next event. */
@@ -870,25 +995,24 @@ static bool take_rest(cpg_node *node, uint64_t now, cpg_event *event)
       ensures same: d_same_flags{Pre,Post}(node);
       ensures from: node->from == \old(node->from);
       ensures told: d_is_told(node, now);
-      ensures ends: d_heard_after{Pre,Post}(node, now);
-      ensures columns: d_turn_columns{Pre,Post}(node, now);
-      ensures past: d_turn_past{Pre,Post}(node, \result ? 1 : 0);
-      ensures act: d_turn_act{Pre,Post}(node, now, \result ? 1 : 0, event);
-      ensures overrun: d_turn_overrun{Pre,Post}(node, now, \result ? 1 : 0, event);
-      ensures done: d_turn_over(node, now, \result ? 1 : 0);
-      ensures start: d_turn_start(node, now, \result ? 1 : 0, event);
-      ensures ended: d_turn_ends{Pre,Post}(node, now, \result ? 1 : 0, event);
-      ensures rows: d_turn_others{Pre,Post}(node, now, \result ? 1 : 0, event); */
+      ensures turn: d_turn{Pre,Post}(node, now, \result ? 1 : 0, event); */
 static bool take_turn(cpg_node *node, uint64_t now, cpg_event *event)
 {
+    bool found;
+    //@ for table: assert kept: d_is_kept(node);
     tell_ends(node, now);
+    //@ for table: assert ends: d_ends{Pre,Here}(node, now);
     //@ for table: assert kept: d_is_kept(node);
     //@ for table: assert ahead: d_reports_ahead(node);
     //@ for table: assert before: d_nothing_before(node, now);
     //@ for table: assert over: d_columns_over(node);
     //@ for table: assert starts: d_starts_over(node);
-    //@ for table: assert running: d_same_overruns{Pre,Here}(node, now);
-    return take_rest(node, now, event);
+    //@ for table: assert told: d_is_told(node, now);
+    //@ ghost Told: ;
+    found = take_rest(node, now, event);
+    //@ for table: assert rest: d_rest{Told,Here}(node, now, found ? 1 : 0, event);
+    //@ for table: assert turn: d_turn{Pre,Here}(node, now, found ? 1 : 0, event);
+    return found;
 }
 
 /* The turn of the next instant. */
@@ -919,11 +1043,15 @@ static bool take_instant(cpg_node *node, uint64_t now, cpg_event *event)
     //@ for table: assert same: d_same_executions{Pre,Here}(node);
     //@ for table: assert kept: d_is_kept(node);
     //@ for table: assert turning: d_is_turning(node, now);
+    //@ for table: assert same: d_same{Pre,Here}(node);
+    //@ ghost Turning: ;
     found = take_turn(node, now, event);
-    //@ for table: assert heard: d_heard_after{Pre,Here}(node, now);
-    //@ for table: assert overrun: d_turn_overrun{Pre,Here}(node, now, found ? 1 : 0, event);
-    //@ for table: assert ends: d_turn_ends{Pre,Here}(node, now, found ? 1 : 0, event);
-    //@ for table: assert others: d_turn_others{Pre,Here}(node, now, found ? 1 : 0, event);
+    //@ for table: assert turn: d_turn{Turning,Here}(node, now, found ? 1 : 0, event);
+    //@ for table: assert turned: d_turn{Pre,Here}(node, now, found ? 1 : 0, event);
+    /*@ for table: assert rows: \forall integer row; !found && 0 <= row < t_own && d_is_awaited(node, row) ==>
+        now + 1 <= node->execution[row].until; */
+    //@ for table: assert columns: \forall integer i; !found && node->next <= i < t_dues ==> now + 1 <= d_time(i);
+    //@ for table: assert over: !found ==> d_nothing_before(node, now + 1);
     return found;
 }
 
@@ -961,6 +1089,7 @@ bool cpg_poll(cpg_node *node, uint64_t until, cpg_event *event)
         least = now + 1U;
         now = cpg_next(node);
     }
+    //@ for table: assert least: now >= least;
     return false;
 }
 

@@ -244,18 +244,22 @@
         \forall integer row; 0 <= row < t_own ==> (d_overruns{L1}(n, row, now) <==> d_overruns{L2}(n, row, now));
     predicate d_nothing_at{L}(cpg_node *n, integer now) = \forall integer i; n->next <= i < t_dues ==> now < d_time(i);
 
+    // the last column that was passed is this one of the index
+    predicate d_is_last{L}(cpg_node *n, integer i) =
+        t_row(n->next - 1) == t_row(i) && t_column(n->next - 1) == t_column(i) && t_at(n->next - 1) == t_at(i);
+
     // A call takes a turn as far as an event: where `found` is 1 there is one, and the rest of the turn is that of the next call.
     // The columns that it passed are those of its instant, and none is one of an act, but for the last one where there is an event.
     predicate d_turn_columns{L1,L2}(cpg_node *n, integer now) =
         \at(n->next,L1) <= \at(n->next,L2) && (\forall integer i; \at(n->next,L1) <= i < \at(n->next,L2) ==> d_time(i) <= now);
     predicate d_turn_past{L1,L2}(cpg_node *n, integer found) =
         \forall integer i; \at(n->next,L1) <= i < \at(n->next,L2) - found ==> !d_acts{L2}(n, i);
-    // the event
+    // the event: that of the last column that was passed, or an overrun
+    predicate d_tells_last{L}(cpg_node *n, integer now, cpg_event *e) =
+        t_row(n->next - 1) < t_acting ? d_acts(n, n->next - 1) && d_is_act(n, n->next - 1, now, e)
+                                      : d_is_missing(n, n->next - 1, now, e);
     predicate d_turn_act{L1,L2}(cpg_node *n, integer now, integer found, cpg_event *e) =
-        found == 1 && \at(e->kind,L2) != CPG_OVERRUN ==> \at(n->next,L1) < \at(n->next,L2)
-            && (t_row(\at(n->next,L2) - 1) < t_acting
-                    ? d_acts{L2}(n, \at(n->next,L2) - 1) && d_is_act{L2}(n, \at(n->next,L2) - 1, now, e)
-                    : d_is_missing{L2}(n, \at(n->next,L2) - 1, now, e));
+        found == 1 && \at(e->kind,L2) != CPG_OVERRUN ==> \at(n->next,L1) < \at(n->next,L2) && d_tells_last{L2}(n, now, e);
     predicate d_turn_overrun{L1,L2}(cpg_node *n, integer now, integer found, cpg_event *e) =
         found == 1 && \at(e->kind,L2) == CPG_OVERRUN ==> \at(n->next,L1) == \at(n->next,L2)
             && \at(e->time,L2) == now && \at(e->column,L2) == 0 && \at(e->value,L2) == 0
@@ -292,6 +296,75 @@
             d_same_but_overrun{L1,L2}(n, row, found, e);
     predicate d_dues_others{L1,L2}(cpg_node *n, integer found, cpg_event *e) =
         \forall integer row; 0 <= row < t_own && !d_turn_started{L2}(n, row, found, e) ==> d_same_execution{L1,L2}(n, row);
+
+    // ---- How a turn is made of its parts. A block comes into no goal but those of the functions that join such parts. ----
+
+    axiomatic Dues {
+      // the columns of an instant, as far as an event, and one more
+      predicate d_dues{L1,L2}(cpg_node *n, integer now, integer found, cpg_event *e) =
+        d_same_ranges{L1,L2}(n) && d_turn_columns{L1,L2}(n, now) && d_turn_past{L1,L2}(n, found)
+        && d_turn_act{L1,L2}(n, now, found, e) && d_dues_others{L1,L2}(n, found, e);
+      predicate d_due{L1,L2}(cpg_node *n, integer now, integer found, cpg_event *e) =
+        \at(n->next,L2) == \at(n->next,L1) + 1 && \at(n->next,L2) <= t_dues && d_time(\at(n->next,L1)) == now
+        && d_same_ranges{L1,L2}(n) && (found == 0 ==> !d_acts{L2}(n, \at(n->next,L2) - 1))
+        && d_turn_act{L1,L2}(n, now, found, e) && d_dues_others{L1,L2}(n, found, e);
+      lemma same_acts{L1,L2}: \forall cpg_node *n, integer i;
+        d_same_ranges{L1,L2}(n) ==> 0 <= i < t_dues ==> d_acts{L2}(n, i) ==> d_acts{L1}(n, i);
+      lemma past_one{L1,L2,L3}: \forall cpg_node *n, integer now, found, cpg_event *e; 0 <= \at(n->next,L1) ==> 0 <= found <= 1 ==>
+        d_turn_past{L1,L2}(n, 0) ==> d_due{L2,L3}(n, now, found, e) ==> d_turn_past{L1,L3}(n, found);
+      lemma columns_one{L1,L2,L3}: \forall cpg_node *n, integer now;
+        d_turn_columns{L1,L2}(n, now) ==> d_time(\at(n->next,L2)) <= now ==> \at(n->next,L3) == \at(n->next,L2) + 1 ==>
+        d_turn_columns{L1,L3}(n, now);
+      lemma act_one{L1,L2,L3}: \forall cpg_node *n, integer now, found, cpg_event *e;
+        d_turn_columns{L1,L2}(n, now) ==> d_due{L2,L3}(n, now, found, e) ==> d_turn_act{L1,L3}(n, now, found, e);
+      lemma others_one{L1,L2,L3}: \forall cpg_node *n, integer found, cpg_event *e;
+        d_dues_others{L1,L2}(n, 0, e) ==> d_dues_others{L2,L3}(n, found, e) ==> d_dues_others{L1,L3}(n, found, e);
+      lemma dues_one{L1,L2,L3}: \forall cpg_node *n, integer now, found, cpg_event *e; 0 <= \at(n->next,L1) ==> 0 <= found <= 1 ==>
+        d_dues{L1,L2}(n, now, 0, e) ==> d_due{L2,L3}(n, now, found, e) ==> d_dues{L1,L3}(n, now, found, e);
+    }
+    axiomatic Parts {
+      // the ends of an instant, and what is left of its turn
+      predicate d_ends{L1,L2}(cpg_node *n, integer now) =
+        \at(n->from,L1) == \at(n->from,L2) && \at(n->next,L1) == \at(n->next,L2) && d_heard_after{L1,L2}(n, now) && d_end_reports{L1,L2}(n)
+        && d_end_due{L1,L2}(n, now, t_own) && d_end_no_more{L1,L2}(n, now, t_own);
+      predicate d_rest{L1,L2}(cpg_node *n, integer now, integer found, cpg_event *e) =
+        d_same_ranges{L1,L2}(n) && d_turn_columns{L1,L2}(n, now) && d_turn_past{L1,L2}(n, found)
+        && d_turn_act{L1,L2}(n, now, found, e) && d_turn_overrun{L1,L2}(n, now, found, e) && d_turn_over{L2}(n, now, found)
+        && d_turn_start{L2}(n, now, found, e) && d_rest_others{L1,L2}(n, found, e);
+      lemma heard_rest{L1,L2,L3}: \forall cpg_node *n, integer now;
+        d_heard_after{L1,L2}(n, now) ==> d_same_ranges{L2,L3}(n) ==> d_heard_after{L1,L3}(n, now);
+      lemma running_ends{L1,L2}: \forall cpg_node *n, integer now; d_ends{L1,L2}(n, now) ==> d_same_overruns{L1,L2}(n, now);
+      lemma ahead_ends{L1,L2}: \forall cpg_node *n, integer now;
+        d_is_turning{L1}(n, now) ==> d_ends{L1,L2}(n, now) ==> d_reports_ahead{L2}(n);
+      lemma overrun_rest{L1,L2,L3}: \forall cpg_node *n, integer now, found, cpg_event *e;
+        \at(n->next,L1) == \at(n->next,L2) ==> d_same_overruns{L1,L2}(n, now) ==>
+        d_turn_overrun{L2,L3}(n, now, found, e) ==> d_turn_overrun{L1,L3}(n, now, found, e);
+      lemma ends_rest{L1,L2,L3}: \forall cpg_node *n, integer now, found, cpg_event *e;
+        d_ends{L1,L2}(n, now) ==> d_rest_others{L2,L3}(n, found, e) ==> d_turn_ends{L1,L3}(n, now, found, e);
+      lemma others_rest{L1,L2,L3}: \forall cpg_node *n, integer now, found, cpg_event *e;
+        d_ends{L1,L2}(n, now) ==> d_rest_others{L2,L3}(n, found, e) ==> d_turn_others{L1,L3}(n, now, found, e);
+      lemma turn_rest{L1,L2,L3}: \forall cpg_node *n, integer now, found, cpg_event *e;
+        d_ends{L1,L2}(n, now) ==> d_rest{L2,L3}(n, now, found, e) ==> d_turn{L1,L3}(n, now, found, e);
+      lemma rows_over{L1,L2}: \forall cpg_node *n, integer now, found, row, cpg_event *e; found == 0 ==>
+        d_is_told{L2}(n, now) ==> d_turn{L1,L2}(n, now, found, e) ==>
+        0 <= row < t_own ==> d_is_awaited{L2}(n, row) ==> now + 1 <= \at(n->execution[row].until,L2);
+      lemma columns_over{L1,L2}: \forall cpg_node *n, integer now, found, i, cpg_event *e; found == 0 ==>
+        d_turn{L1,L2}(n, now, found, e) ==> \at(n->next,L2) <= i < t_dues ==> now + 1 <= d_time(i);
+      // a turn of a node with another `from`
+      predicate d_same{L1,L2}(cpg_node *n) =
+        \at(n->next,L1) == \at(n->next,L2) && d_same_executions{L1,L2}(n) && d_same_ranges{L1,L2}(n);
+      lemma same_running{L1,L2}: \forall cpg_node *n, integer now; d_same{L1,L2}(n) ==> d_same_overruns{L1,L2}(n, now);
+      lemma same_heard{L1,L2,L3}: \forall cpg_node *n, integer now;
+        d_same{L1,L2}(n) ==> d_heard_after{L2,L3}(n, now) ==> d_heard_after{L1,L3}(n, now);
+      lemma same_overrun{L1,L2,L3}: \forall cpg_node *n, integer now, found, cpg_event *e;
+        d_same{L1,L2}(n) ==> d_turn_overrun{L2,L3}(n, now, found, e) ==> d_turn_overrun{L1,L3}(n, now, found, e);
+      lemma same_ends{L1,L2,L3}: \forall cpg_node *n, integer now, found, cpg_event *e;
+        d_same{L1,L2}(n) ==> d_turn_ends{L2,L3}(n, now, found, e) ==> d_turn_ends{L1,L3}(n, now, found, e);
+      lemma same_others{L1,L2,L3}: \forall cpg_node *n, integer now, found, cpg_event *e;
+        d_same{L1,L2}(n) ==> d_turn_others{L2,L3}(n, now, found, e) ==> d_turn_others{L1,L3}(n, now, found, e);
+      lemma same_turn{L1,L2,L3}: \forall cpg_node *n, integer now, found, cpg_event *e;
+        d_same{L1,L2}(n) ==> d_turn{L2,L3}(n, now, found, e) ==> d_turn{L1,L3}(n, now, found, e);
+    }
 
     // ---- Turns, one after another: F. turned ----
 

@@ -9,7 +9,7 @@ some are named. With --memory it does the first one alone, which is the quick wa
 
 - Memory: WP with the checks of RTE on cpg_node.c and cpg_open.c, without all that is said by a lawful table. A line for each file says how
   many goals were proved.
-- Table: WP on the behavior `table` of one function of cpg_node.c after another, with a line for each.
+- Table: WP on the lemmas of cpg_spec.h, and on the behavior `table` of one function of cpg_node.c after another, with a line for each.
 
 A line after it names each goal that wasn't proved. The last line has the sum. The status is 0 if all were proved. With --smoke it also looks
 whether a contract can't be met, so that all of it would be proved in vain. With --wrong it tries the wrong bodies of runtime/c/test/wrong.py
@@ -46,6 +46,7 @@ PROVERS = {
     "cvc5": ("cvc5", "--lang=smt2 --force-logic=ALL", "cvc4_17"),
     "cvc4": ("cvc4", "--lang=smt2", "cvc4_17"),
     "z3": ("z3", "-smt2 -T:1000000", "z3_440")}
+LEMMAS = "lemmas"  # asks for the lemmas of cpg_spec.h, in place of a function
 LONGEST = 3600  # seconds of the clock for a goal, on a machine that does much else
 DEFINITION = re.compile(r"^(?:static )?\w+ (\w+)\([^;{]*\)\n\{", re.MULTILINE)
 COUNTS = re.compile(r"Proved goals:\s*(\d+) / (\d+)")
@@ -92,7 +93,8 @@ def command(source: Path, functions: list[str], words: list[str], setting: Setti
     provers = ",".join(f"{name}:1" for name in asked.by or list(PROVERS))
     smoke = ["-wp-smoke-tests"] if asked.smoke else []
     return ["frama-c", "-machdep", machine, f"-cpp-extra-args={flags}", "-kernel-warn-key", "annot-error=abort", str(source), "-wp", "-wp-rte",
-            *words, "-wp-prover", provers, "-wp-timeout", str(LONGEST), "-wp-par", str(asked.provers), *smoke, "-wp-fct", ",".join(functions)]
+            *words, "-wp-prover", provers, "-wp-timeout", str(LONGEST), "-wp-par", str(asked.provers), *smoke,
+            *(["-wp-fct", ",".join(functions)] if functions else [])]
 
 
 def prove(source: Path, functions: list[str], words: list[str], setting: Setting, asked: argparse.Namespace) -> tuple[int, int, list[str]]:
@@ -100,7 +102,7 @@ def prove(source: Path, functions: list[str], words: list[str], setting: Setting
     done = subprocess.run(command(source, functions, words, setting, asked), capture_output=True, text=True)
     counts = COUNTS.search(done.stdout)
     if done.returncode != 0 or counts is None:
-        cli.fail(f"frama-c failed on {', '.join(functions)}\n{(done.stdout + done.stderr)[-2000:]}")
+        cli.fail(f"frama-c failed on {', '.join(functions) or LEMMAS}\n{(done.stdout + done.stderr)[-2000:]}")
     return int(counts[1]), int(counts[2]), LEFT.findall(done.stdout)
 
 
@@ -137,7 +139,8 @@ def try_wrong(place: Path, asked: argparse.Namespace) -> int:
 
 def words() -> argparse.Namespace:
     parser = cli.Words(__doc__)
-    parser.add_argument("functions", nargs="*", metavar="FUNCTION", help="a function of cpg_node.c or cpg_open.c (all by default)")
+    parser.add_argument("functions", nargs="*", metavar="FUNCTION", help="a function of cpg_node.c or cpg_open.c, or `lemmas`, those of "
+                        "cpg_spec.h (all by default)")
     parser.add_argument("--memory", action="store_true", help="the contracts on memory alone")
     parser.add_argument("--table", action="store_true", help="what is said by a lawful table alone")
     parser.add_argument("--machine", action="append", metavar="M", help="a machine model of frama-c (x86_64 and x86_32, which has the "
@@ -161,6 +164,8 @@ def on_memory(place: Path, asked: argparse.Namespace) -> Iterator[Run]:
 
 
 def by_table(asked: argparse.Namespace) -> Iterator[Run]:
+    if not asked.functions or LEMMAS in asked.functions:
+        yield "lemmas", FOLDER / "cpg_node.c", [], ["-wp-prop", "@lemma"]
     for source in SOURCES:
         for function in functions_by_table(source):
             if not asked.functions or function in asked.functions:
@@ -188,7 +193,7 @@ def main() -> int:
         print(f"skipped: there is no {', '.join(missing)}")
         return 0
     known = [function for source in SOURCES for function in functions_of(source)]
-    unknown = [function for function in asked.functions if function not in known]
+    unknown = [function for function in asked.functions if function not in [*known, LEMMAS]]
     if unknown:
         cli.fail(f"no function: {unknown[0]}")
     totals = [0, 0]
