@@ -164,16 +164,16 @@ class CTable(Case):
         due time of 9 and 104. cpg_ended: 49, 15 and a pass of 10 to find it, 24, 13 and a time. cpg_begin: 47, four passes of 18 (two fault counts, a
         value, an execution), and 40 and 4 for each of two rows.
 
-        An instant with a send: cpg_ended; two polls, each 37 and two passes of that, the next instant, 6, 12, 18 and 25 of the turn, 26 and a pass of
-        20 for ends with 24, 4, 5 and twice 8, 36 and a pass of that with 12 for overruns, and a due time; a column of 18, a due time, 6, 23, 6, 43, 6
-        and 37, a pass of that, a byte and a literal of 4 + 7 + 4 + 12 + 14 and 17; the event of 12 and a start of 22 and a time, which is more than a
-        send; and the next instant once more."""
+        An instant with a send: cpg_ended; two polls, each 37 and two passes of that, the next instant, 6, 12, 20 and 25 of the turn, 26 and a pass of
+        20 for ends with 24, 4, 5 and twice 8, 20, a pass of 15, 17 and 12 for overruns, and a due time; a column of 18, a due time, 6, 1, 23, 6, 43,
+        6 and 37, a pass of that, a byte and a literal of 4 + 7 + 4 + 12 + 14 and 17; the event of 12 and a start of 22 and a time, which is more than
+        a send; and the next instant once more."""
         tables = pack.read(self.packed(PAIR))
         one, other = Cost(tables, 0), Cost(tables, 1)
         self.assertEqual((one.next, one.ended(), one.begin()), (159, 215, 167))
         due, poll = 9 + 104, 3 * 37
-        each = poll + 159 + 6 + 12 + 18 + 25 + 46 + 24 + 4 + 5 + 2 * 8 + 2 * 36 + 12 + due
-        column = 18 + due + 6 + 23 + 6 + 43 + 6 + 2 * 37 + 7 + 41 + 17
+        each = poll + 159 + 6 + 12 + 20 + 25 + 46 + 24 + 4 + 5 + 2 * 8 + 20 + 15 + 17 + 12 + due
+        column = 18 + due + 6 + 1 + 23 + 6 + 43 + 6 + 2 * 37 + 7 + 41 + 17
         self.assertEqual(one.instant(40), 215 + 2 * each + column + 12 + 22 + 104 + 159)
         self.assertEqual([it[:4] for it in one.executions()], [(0, 0, 1, one.instant(40))])
         self.assertEqual([it[:3] for it in other.executions()], [(1, 50, 0)])
