@@ -24,12 +24,12 @@ from cpgc_tools.pack import Pack, Row, asked
 WHOLE = {
     "byte_at": 7, "word_at": 19, "time_at": 10, "is_start": 6, "is_heard": 6, "cpg_begin": 47, "place_of": 4, "place_of_value": 5, "literal_at": 4,
     "range_at": 12, "common": 16, "is_empty": 9, "is_within": 17, "follows": 37, "learn": 32, "know": 8, "due_time": 9, "is_awaited": 5, "cpg_next": 26,
-    "tell_end": 24, "tell_ends": 26, "tell": 12, "tell_overrun": 36, "rule_out": 28, "had_to_come": 58, "end_of": 13, "start": 22, "told_place": 7,
-    "value_of": 10, "take_heard": 31, "take_act": 43, "take_due": 23, "take_next": 6, "take_dues": 25, "take_rest": 18, "take_turn": 12,
-    "take_instant": 6, "cpg_poll": 37, "find_heard": 39, "contradicts": 63, "learn_column": 30, "hear_due": 20, "cpg_hear": 49, "find_own": 15,
-    "may_tell": 24, "cpg_ended": 49,
+    "tell_end": 24, "tell_ends": 26, "tell": 12, "find_overrun": 20, "tell_overrun": 17, "rule_out": 28, "had_to_come": 58, "end_of": 13,
+    "start": 22, "told_place": 7, "value_of": 10, "take_heard": 31, "take_act": 43, "take_due": 23, "take_column": 1, "take_next": 6,
+    "take_dues": 25, "take_rest": 20, "take_turn": 12, "take_instant": 6, "cpg_poll": 37, "find_heard": 39, "contradicts": 63,
+    "learn_column": 30, "hear_due": 20, "cpg_hear": 49, "find_own": 15, "may_tell": 24, "cpg_ended": 49,
 }
-PASS = {"cpg_begin": 18, "cpg_next": 15, "tell_ends": 20, "take_dues": 18, "learn_column": 22, "find_own": 10}
+PASS = {"cpg_begin": 18, "cpg_next": 15, "tell_ends": 20, "find_overrun": 15, "take_dues": 18, "learn_column": 22, "find_own": 10}
 MEMSET = 40, 4  # of the library: at most so many, and so many for each byte
 TIME_BYTES = 8
 VARIABLES = "CPG_MAX_PROCESSES", "CPG_MAX_CONDITIONS"
@@ -89,11 +89,11 @@ class Cost:
         """A turn without its columns: the next instant, and what has ended. Of the executions of a node one at most ends at an instant."""
         ends = of("tell_ends", self.own) + of("tell_end") + of("place_of") + of("place_of_value") + 2 * of("know")
         turn = of("take_instant") + of("take_turn") + of("take_rest") + of("take_dues")
-        return self.next + turn + ends + of("tell_overrun", self.own) + of("tell")
+        return self.next + turn + ends + of("find_overrun", self.own) + of("tell_overrun") + of("tell")
 
     def column(self, row: Row, literals: int) -> int:
         """A column whose time has come: it is taken out of the index, and looked at; at most one of a row leads to an event."""
-        found = PASS["take_dues"] + of("due_time") + TIME + of("take_next") + of("take_due") + of("is_heard")
+        found = PASS["take_dues"] + of("due_time") + TIME + of("take_next") + of("take_column") + of("take_due") + of("is_heard")
         return found + (of("take_heard") + had_to_come(literals) if row.heard else of("take_act") + of("is_start") + follows(literals))
 
     @property
