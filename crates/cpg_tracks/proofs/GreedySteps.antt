@@ -1,6 +1,6 @@
 -- Steps of the loops that place the processes of a track.
-use Rattle.std.proofs.Common.{◌≡◌, ◌≢◌, ℕ, suc, ◌+◌, ◌*◌, ◌^◌, ◌<◌, ◌≤◌, Bool, true, false, cond, List, [], ◌∷◌, ◌++◌, length, get_or, set, replicate, map, filter, take, max, Contains, Option, Some}
-use Rattle.std.proofs.Common.{None, is_some, unwrap_or, IfSome, IfNone, refl, sym, ap, ◌∙◌, subst, arith, inl, inr, true≢false}
+use Rattle.std.proofs.Common.{All, ◌≡◌, ◌≢◌, ℕ, suc, ◌+◌, ◌*◌, ◌^◌, ◌<◌, ◌≤◌, Bool, true, false, cond, List, [], ◌∷◌, ◌++◌, length, get_or, set, replicate, map, filter, take, max, Contains, Option, Some}
+use Rattle.std.proofs.Common.{None, is_some, unwrap_or, IfSome, IfNone, refl, sym, ap, ap₂, ◌∙◌, subst, arith, inl, inr, true≢false}
 use Rattle.std.specs.Option.{option_map}
 use Rattle.std.proofs.lemmas.List.{take_more, map-append, get_or_default, get_or-set_same, get_or-set_other, length-set, length-replicate, get_or-replicate, ext_get_or}
 use Rattle.std.proofs.lemmas.List.FromFn.{length-map-range_with_len}
@@ -24,8 +24,10 @@ use Rattle.cpg_tracks.specs.Placing.{has_start, free_at, would_start, IsFed, IsS
 use Rattle.cpg_tracks.specs.Track.{Track, IsTrackOf, AreBy}
 use Rattle.cpg_tracks.specs.declared.timing.Timing.{Timing}
 use Rattle.cpg_tracks.specs.declared.schedule.Candidate.{Candidate}
-use Rattle.cpg_tracks.specs.Timing.{outcome_of, IsTiming, IsOnTheWay, AreFree, IsCandidate, IsBestOf, ComesFirst, IsBetterOf}
+use Rattle.cpg_tracks.specs.declared.schedule.Fed.{Fed}
+use Rattle.cpg_tracks.specs.Timing.{outcome_of, IsTiming, IsOnTheWay, AreFree, IsFedAt, AreFed, IsCandidate, IsBestOf, ComesFirst, IsBetterOf, IsChosen}
 use Rattle.cpg_tracks.proofs.GreedyUnique.{live_source}
+use Rattle.cpg_tracks.proofs.Feeding.{processes_of, processes_push}
 use Rattle.cpg_tracks.proofs.Placing.{free_cases, free_here, free_elsewhere, place_next}
 use Rattle.cpg_tracks.proofs.GreedyExists.{unplaced_count, fewer, none_left, at_first, nothing_there, none_placed, place_none, sooner_chain, greedy_from_placing}
 
@@ -40,6 +42,12 @@ module _ (g : Graph) (t : Timing) (is : IsTiming g t) where
 
   pub durations_long : length t.durations.items ≡ process_count g
   durations_long = ap length is.durations ∙ length-map-range_with_len (λ p. duration g p g.faults) 0 (process_count g)
+
+  pub active_is : (p : ℕ) (d : Bool) → p < process_count g → get_or t.active.items p d ≡ active g (outcome_of t) p
+  active_is p d l = ap (λ xs. get_or xs p d) is.active ∙ get_or-map-below (active g (outcome_of t)) (process_count g) p d l
+
+  pub active_long : length t.active.items ≡ process_count g
+  active_long = ap length is.active ∙ length-map-range_with_len (active g (outcome_of t)) 0 (process_count g)
 
   pub live_long : length t.live.items ≡ edge_count g
   live_long = ap length is.live ∙ length-map-range_with_len (live g (outcome_of t)) 0 (edge_count g)
@@ -169,62 +177,70 @@ module _ (g : Graph) (o : List Bool) (starts : List (Option ℕ)) (order : List 
     ]
   ]
 
-  pub best_more : (qs : List ℕ) (p : ℕ) (best other better : Option Candidate) → IsBestOf g o starts qs best → IsBetterOf order best other better →
-      (other ≡ None → IsFed g o starts p → ⊥) → ((c : Candidate) → other ≡ Some c → (c.process ≡ p) × IsCandidate g o starts c) → IsBestOf g o starts (qs ++ p ∷ []) better
-  best_more qs p None None better h r none some = subst (IsBestOf g o starts (qs ++ p ∷ [])) (sym r) (λ q k f. elim (Contains-append_cases qs (p ∷ []) q k) [
-    | inl m ↦ h q m f
-    | inr m ↦ elim (Contains-cases p [] q m) [ inl is ↦ none refl (subst (IsFed g o starts) (sym is) f) | inr n ↦ Contains-nil q n ]
-  ])
-  best_more qs p None (Some c) better h r none some = subst (IsBestOf g o starts (qs ++ p ∷ [])) (sym r) (record {
-    candidate = (some c refl).1;
-    best = λ q k f ne. elim (Contains-append_cases qs (p ∷ []) q k) [
+  pub best_more : (qs : List ℕ) (best : Option Candidate) (other better : Candidate) → IsBestOf g o starts qs best → IsBetterOf order best other better →
+      IsCandidate g o starts other → IsBestOf g o starts (qs ++ other.process ∷ []) (Some better)
+  best_more qs None c better h r is = subst (λ x. IsBestOf g o starts (qs ++ c.process ∷ []) (Some x)) (sym r) (record {
+    candidate = is;
+    best = λ q k f ne. elim (Contains-append_cases qs (c.process ∷ []) q k) [
       | inl m ↦ absurd (h q m f)
-      | inr m ↦ elim (Contains-cases p [] q m) [ inl is ↦ absurd (ne ((some c refl).0 ∙ is)) | inr n ↦ absurd (Contains-nil q n) ]
+      | inr m ↦ elim (Contains-cases c.process [] q m) [ inl same ↦ absurd (ne same) | inr n ↦ absurd (Contains-nil q n) ]
     ];
   })
-  best_more qs p (Some b) None better h r none some = subst (IsBestOf g o starts (qs ++ p ∷ [])) (sym r) (record {
-    candidate = h.candidate;
-    best = λ q k f ne. elim (Contains-append_cases qs (p ∷ []) q k) [
-      | inl m ↦ h.best q m f ne
-      | inr m ↦ elim (Contains-cases p [] q m) [ inl is ↦ absurd (none refl (subst (IsFed g o starts) (sym is) f)) | inr n ↦ absurd (Contains-nil q n) ]
-    ];
-  })
-  best_more qs p (Some b) (Some c) better h r none some = elim r [
-    | inl x ↦ subst (IsBestOf g o starts (qs ++ p ∷ [])) (sym x.0) (record {
+  best_more qs (Some b) c better h r is = elim r [
+    | inl x ↦ subst (λ x. IsBestOf g o starts (qs ++ c.process ∷ []) (Some x)) (sym x.0) (record {
       candidate = h.candidate;
-      best = λ q k f ne. elim (Contains-append_cases qs (p ∷ []) q k) [
+      best = λ q k f ne. elim (Contains-append_cases qs (c.process ∷ []) q k) [
         | inl m ↦ h.best q m f ne
-        | inr m ↦ elim (Contains-cases p [] q m) [
-          | inl is ↦ let same : c.process ≡ q = (some c refl).0 ∙ is in
-              subst (IsSooner g o starts b.process) same (sooner_of b c h.candidate (some c refl).1 x.1 (λ e. ne (e ∙ same)))
+        | inr m ↦ elim (Contains-cases c.process [] q m) [
+          | inl same ↦ subst (IsSooner g o starts b.process) same (sooner_of b c h.candidate is x.1 (λ e. ne (e ∙ same)))
           | inr n ↦ absurd (Contains-nil q n)
         ]
       ];
     })
-    | inr x ↦ subst (IsBestOf g o starts (qs ++ p ∷ [])) (sym x.0) (record {
-      candidate = (some c refl).1;
-      best = λ q k f ne. elim (Contains-append_cases qs (p ∷ []) q k) [
-        | inr m ↦ elim (Contains-cases p [] q m) [ inl is ↦ absurd (ne ((some c refl).0 ∙ is)) | inr n ↦ absurd (Contains-nil q n) ]
+    | inr x ↦ subst (λ x. IsBestOf g o starts (qs ++ c.process ∷ []) (Some x)) (sym x.0) (record {
+      candidate = is;
+      best = λ q k f ne. elim (Contains-append_cases qs (c.process ∷ []) q k) [
+        | inr m ↦ elim (Contains-cases c.process [] q m) [ inl same ↦ absurd (ne same) | inr n ↦ absurd (Contains-nil q n) ]
         | inl m ↦ elim (cases_eq b.process q) [
-          | inl same ↦ subst (IsSooner g o starts c.process) same (sooner_of c b (some c refl).1 h.candidate x.1 (λ e. ne (e ∙ same)))
+          | inl same ↦ subst (IsSooner g o starts c.process) same (sooner_of c b is h.candidate x.1 (λ e. ne (e ∙ same)))
           | inr other ↦ elim (cases_eq c.process b.process) [
             | inl e ↦ subst (λ z. IsSooner g o starts z q) (sym e) (h.best q m f other)
-            | inr differ ↦ sooner_chain g o starts c.process b.process q (sooner_of c b (some c refl).1 h.candidate x.1 differ) (h.best q m f other)
+            | inr differ ↦ sooner_chain g o starts c.process b.process q (sooner_of c b is h.candidate x.1 differ) (h.best q m f other)
           ]
         ]
       ];
     })
   ]
 
-pub best_within : (g : Graph) (o : List Bool) (starts : List (Option ℕ)) (n : ℕ) → n ≡ process_count g → (qs : List ℕ) (best : Option Candidate) → IsBestOf g o starts qs best →
-    IfSome best (λ c. c.process < n)
-best_within g o starts n e qs None h = _
-best_within g o starts n e qs (Some c) h = omega (arith, h.candidate.fed.within)
+-- the better of two processes of the graph is one
+pub either_within : (n : ℕ) (order : List ℕ) (best : Option Candidate) (other better : Candidate) → IsBetterOf order best other better → IfSome best (λ c. c.process < n) →
+    other.process < n → better.process < n
+either_within n order None other better r h k = subst (λ (c : Candidate). c.process < n) (sym r) k
+either_within n order (Some b) other better r h k = elim r [
+  | inl x ↦ subst (λ (c : Candidate). c.process < n) (sym x.0) h
+  | inr x ↦ subst (λ (c : Candidate). c.process < n) (sym x.0) k
+]
 
-pub candidate_within : (g : Graph) (o : List Bool) (starts : List (Option ℕ)) (n : ℕ) → n ≡ process_count g → (other : Option Candidate) → IfSome other (IsCandidate g o starts) →
-    IfSome other (λ c. c.process < n)
-candidate_within g o starts n e None h = _
-candidate_within g o starts n e (Some c) h = omega (arith, h.fed.within)
+-- one of what can be placed is a candidate
+is_candidate : (g : Graph) (o : List Bool) (starts : List (Option ℕ)) (free : List ℕ) (f : Fed) (c : Candidate) → AreFree g starts free → IsFedAt g o starts f →
+    node_of g f.process < length g.nodes → c.process ≡ f.process → c.start ≡ max f.ready (get_or free (node_of g f.process) 0) → IsCandidate g o starts c
+is_candidate g o starts free f c are is node process start = record {
+  fed = subst (IsFed g o starts) (sym process) is.fed;
+  start = start ∙ ap₂ max is.ready (ap (λ xs. get_or xs (node_of g f.process) 0) are ∙ get_or-map-below (free_at g starts) (length g.nodes) (node_of g f.process) 0 node)
+      ∙ ap (would_start g o starts) (sym process);
+}
+
+-- the best after one more of what can be placed
+pub best_after : (g : Graph) (o : List Bool) (starts : List (Option ℕ)) (order : List ℕ) → IsUrgencyOrder g order → (free : List ℕ) (fed : List Fed) → AreFree g starts free →
+    AreFed g o starts fed → (i : ℕ) (d : Fed) → i < length fed → (best : Option Candidate) (other better : Candidate) → IsBestOf g o starts (processes_of (take i fed)) best →
+    IsBetterOf order best other better → node_of g (get_or fed i d).process < length g.nodes → other.process ≡ (get_or fed i d).process →
+    other.start ≡ max (get_or fed i d).ready (get_or free (node_of g (get_or fed i d).process) 0) → IsBestOf g o starts (processes_of (take (i + 1) fed)) (Some better)
+best_after g o starts order urgency free fed are_free are i d l best other better h r node process start =
+    let one = get_or fed i d in
+    let more : processes_of (take i fed) ++ other.process ∷ [] ≡ processes_of (take (i + 1) fed) =
+    ap (λ p. processes_of (take i fed) ++ p ∷ []) process ∙ sym (processes_push (take i fed) one) ∙ ap processes_of (sym (take_more fed i d l)) in
+    subst (λ qs. IsBestOf g o starts qs (Some better)) more (best_more g o starts order urgency (processes_of (take i fed)) best other better h r
+    (is_candidate g o starts free one other are_free (are.each one (Contains-get_or fed i d l)) node process start))
 
 pub active_at : (g : Graph) (t : Track) → IsTrackOf g t → (i d : ℕ) → i < length t.active → (get_or t.active i d < process_count g) × (active g t.outcome (get_or t.active i d) ≡ true)
 active_at g t track i d l =
@@ -232,24 +248,21 @@ active_at g t track i d l =
     (subst (λ xs. Contains xs (get_or t.active i d)) track.active (Contains-get_or t.active i d l)) in
     (numbers-Contains (process_count g) (get_or t.active i d) r.0, r.1)
 
--- the best of the active processes is the next
-module _ (g : Graph) (o : List Bool) (starts : List (Option ℕ)) (t : Track) (track : IsTrackOf g t) (same : t.outcome ≡ o) where
-  in_active : (q : ℕ) → IsFed g o starts q → Contains t.active q
-  in_active q f = subst (λ xs. Contains xs q) (sym track.active)
-      (Contains-filter (active g t.outcome) (numbers_below (process_count g)) q (ap (λ x. active g x q) same ∙ f.active) (Contains-numbers (process_count g) q f.within))
+-- the best of all that can be placed is the next
+pub chosen : (g : Graph) (o : List Bool) (starts : List (Option ℕ)) (fed : List Fed) → AreFed g o starts fed → (best : Option Candidate) →
+    IsBestOf g o starts (map (λ f. f.process) fed) best → IsChosen g o starts best
+chosen g o starts fed are None h = λ q f. h q (are.all q f) f
+chosen g o starts fed are (Some c) h = (record { fed = h.candidate.fed; best = λ q f ne. h.best q (are.all q f) f ne }, h.candidate.start)
 
-  pub done_none : (best : Option Candidate) → IsBestOf g o starts t.active best → IfNone best (IsDone g o starts)
-  done_none None h = λ q f. h q (in_active q f) f
-  done_none (Some c) h = _
+-- what is chosen, if the lists are these
+pub chosen_of : (g : Graph) (o : List Bool) (starts : List (Option ℕ)) (free frees : List ℕ) (fed feds : List Fed) (result answer : Option Candidate) → frees ≡ free → feds ≡ fed →
+    AreFree g starts free → AreFed g o starts fed → ((o : List Bool) (starts : List (Option ℕ)) → AreFree g starts frees → AreFed g o starts feds → IsChosen g o starts result) →
+    result ≡ answer → IsChosen g o starts answer
+chosen_of g o starts free frees fed feds result answer same_free same_fed are_free are_fed says is =
+    subst (IsChosen g o starts) is (says o starts (same_free ∙ are_free) (subst (AreFed g o starts) (sym same_fed) are_fed))
 
-  pub done_some : (best : Option Candidate) → IsBestOf g o starts t.active best → IfSome best (λ c. IsNext g o starts c.process)
-  done_some None h = _
-  done_some (Some c) h = record { fed = h.candidate.fed; best = λ q f ne. h.best q (in_active q f) f ne }
-
-pub done_start : (g : Graph) (o : List Bool) (starts : List (Option ℕ)) (qs : List ℕ) (best : Option Candidate) → IsBestOf g o starts qs best →
-    IfSome best (λ c. c.start ≡ would_start g o starts c.process)
-done_start g o starts qs None h = _
-done_start g o starts qs (Some c) h = h.candidate.start
+pub fed_within : (g : Graph) (o : List Bool) (starts : List (Option ℕ)) (fed : List Fed) → AreFed g o starts fed → All (λ f. f.process < process_count g) fed
+fed_within g o starts fed are i d l = (are.each (get_or fed i d) (Contains-get_or fed i d l)).fed.within
 
 -- ---- one process is placed
 
@@ -320,11 +333,14 @@ pub placed_first : (g : Graph) (o : List Bool) → HavePlaced g o (replicate (pr
 placed_first g o = record { placing = place_none g o; left = left_first g o; free = free_first g o; early = early_first g o (1000000000 + 0 * 616000000000) }
 
 module _ (g : Graph) (within : IsWithinLimits g) (w : WellFormed g) (o : List Bool) (starts : List (Option ℕ)) (free : List ℕ) (n : ℕ) (h : HavePlaced g o starts free n) where
-  pub placed_open : n < process_count g → IsOnTheWay g starts
-  placed_open l = record { count = h.placing.count; early = λ p. omega (arith, h.early p, within.few_processes) }
-
   pub placed_early : n ≤ process_count g → AreBy (2 ^ 60) starts
   placed_early l p = omega (arith, h.early p, within.few_processes)
+
+  pub placed_open : n ≤ process_count g → IsOnTheWay g starts
+  placed_open l = record { count = h.placing.count; early = placed_early l }
+
+  pub frees_long : length free ≡ length g.nodes
+  frees_long = ap length h.free ∙ length-map-range_with_len (free_at g starts) 0 (length g.nodes)
 
   pub placed_late : (p : ℕ) → n < process_count g → IsNext g o starts p → would_start g o starts p ≤ 2 ^ 60
   placed_late p l next = omega (arith, would_start_by g within w o starts (1000000000 + n * 616000000000) h.early (omega arith) p next.fed.within, within.few_processes)

@@ -1,14 +1,15 @@
 //! The greedy schedule of a track.
-ghost use Rattle.std.specs.Prelude.{◌≡◌, ◌<◌, ◌≤◌, ◌^◌, ◌⊎◌, All, IfOk, IfSome, IfNone, None, true, length, get_or, map, option_map};
-ghost use Rattle.cpg_base.specs.Graph.{process_count, edge_count, source};
+ghost use Rattle.std.specs.Prelude.{◌≡◌, ◌<◌, ◌≤◌, ◌==◌, ◌^◌, ◌⊎◌, ℕ, All, Bool, IfOk, IfSome, IfNone, List, None, OnOk, Option, true, filter, length, not};
+ghost use Rattle.std.specs.Prelude.{get_or, map, max, option_map};
+ghost use Rattle.cpg_base.specs.Graph.{process_count, edge_count, node_of, source};
 ghost use Rattle.cpg_base.specs.Activity.{active};
 ghost use Rattle.cpg_order.specs.Links.{links_of};
 ghost use Rattle.cpg_order.specs.Urgency.{IsUrgencyOrder};
 ghost use Rattle.cpg_rules.specs.Admission.{IsAdmitted};
 ghost use Rattle.cpg_tracks.specs.Tracks.{AreSchedules, IsGreedy, input_ready, ready_at};
-ghost use Rattle.cpg_tracks.specs.Placing.{IsFed, IsNext, IsDone, would_start};
+ghost use Rattle.cpg_tracks.specs.Placing.{IsFed};
 ghost use Rattle.cpg_tracks.specs.Track.{IsTrackOf, AreBy};
-ghost use Rattle.cpg_tracks.specs.Timing.{IsTiming, IsOnTheWay, AreFree, IsCandidate, ComesFirst, IsBetterOf, outcome_of};
+ghost use Rattle.cpg_tracks.specs.Timing.{IsTiming, IsOnTheWay, AreFree, AreFed, AreFedBut, Feeds, IsChosen, ComesFirst, IsBetterOf, outcome_of};
 
 use crate::Track;
 use crate::timing::Timing;
@@ -44,7 +45,14 @@ impl Starts {
     }
 }
 
-/// A process that can be placed, and when it would start.
+/// A process that can be placed, and when it is ready, in time units.
+#[derive(Clone, Copy, Debug, PartialEq, Eq)]
+pub(crate) struct Fed {
+    pub(crate) process: u32,
+    pub(crate) ready: u64,
+}
+
+/// A process that can be placed, and when it would start, in time units.
 #[derive(Clone, Copy, Debug, PartialEq, Eq)]
 pub(crate) struct Candidate {
     pub(crate) process: u32,
@@ -104,28 +112,90 @@ fn ready_time(
     Some(ready)
 }
 
-/// A process as a candidate; `None` exactly if it can't be placed.
-fn candidate_of(
+/// Adds a process to those that can be placed, if it can be.
+fn feed(
     problem: &Problem,
     timing: &Timing<'_>,
     starts: &[Option<u64>],
-    free: &[u64],
     process: u32,
-) -> Option<Candidate>
+    fed: &mut Vec<Fed>,
+) -> Result<(), OutOfMemory>
     requires timing { IsTiming problem.now timing.now }
     requires starts { IsOnTheWay problem.now starts.now }
-    requires free { AreFree problem.now starts.now free.now }
     requires process { process < process_count problem.now }
-    requires active { active problem.now (outcome_of timing.now) process ≡ true }
-    ensures none { IfNone result (IsFed problem.now (outcome_of timing.now) starts.now process → ⊥) }
-    ensures process { IfSome result (λ c. c.process ≡ process) }
-    ensures candidate { IfSome result (IsCandidate problem.now (outcome_of timing.now) starts.now) }
+    ensures { OnOk result (Feeds problem.now (outcome_of timing.now) starts.now process fed.old.items fed.new.items) }
 {
-    let Some(ready) = ready_time(problem, timing, starts, process) else {
-        return None;
-    };
-    let start = ready.max(free[problem.node_of(process) as usize]);
-    Some(Candidate { process, start })
+    if !timing.active[process as usize] {
+        return Ok(());
+    }
+    if let Some(ready) = ready_time(problem, timing, starts, process) {
+        fed.push(Fed { process, ready })?;
+    }
+    Ok(())
+}
+
+/// The processes that can be placed.
+fn all_fed(
+    alloc: Global,
+    problem: &Problem,
+    timing: &Timing<'_>,
+    starts: &[Option<u64>],
+) -> Result<Vec<Fed>, OutOfMemory>
+    requires timing { IsTiming problem.now timing.now }
+    requires starts { IsOnTheWay problem.now starts.now }
+    ensures { IfOk result (λ fed. AreFed problem.now (outcome_of timing.now) starts.now fed.items) }
+{
+    let count = problem.processes().len();
+    let mut fed = Vec::new(alloc);
+    fed.reserve(count)?;
+    for process in 0..count as u32 {
+        feed(problem, timing, starts, process, &mut fed)?;
+    }
+    Ok(fed)
+}
+
+/// Adds the processes that waited for this one, which is placed, and can be placed now.
+fn feed_targets(
+    problem: &Problem,
+    timing: &Timing<'_>,
+    starts: &[Option<u64>],
+    process: u32,
+    fed: &mut Vec<Fed>,
+) -> Result<(), OutOfMemory>
+    requires timing { IsTiming problem.now timing.now }
+    requires starts { IsOnTheWay problem.now starts.now }
+    requires process { process < process_count problem.now }
+    requires fed { AreFedBut problem.now (outcome_of timing.now) starts.now process fed.old.items }
+    ensures { OnOk result (AreFed problem.now (outcome_of timing.now) starts.now fed.new.items) }
+{
+    for edge in timing.links.outputs(process) {
+        if timing.live[*edge as usize] {
+            feed(problem, timing, starts, problem.target(*edge), fed)?;
+        }
+    }
+    Ok(())
+}
+
+/// Leaves out a process.
+fn drop_placed(fed: &mut Vec<Fed>, process: u32)
+    ensures { fed.new.items ≡ filter (λ f. not (f.process == process)) fed.old.items }
+{
+    fed.retain(|it| it.process != process);
+}
+
+/// A process that can be placed as a candidate.
+fn candidate_of(problem: &Problem, free: &[u64], fed: Fed) -> Candidate
+    requires free { length free.now ≡ length problem.now.nodes }
+    requires process { fed.process < process_count problem.now }
+    ensures process { result.process ≡ fed.process }
+    ensures start { result.start ≡ max fed.ready (get_or free.now (node_of problem.now fed.process) 0) }
+    ensures node { node_of problem.now fed.process < length problem.now.nodes }
+{
+    let start = fed.ready.max(free[problem.node_of(fed.process) as usize]);
+    Candidate {
+        process: fed.process,
+        start,
+    }
 }
 
 /// The one of two candidates that starts sooner, and the more urgent if they start together.
@@ -146,42 +216,31 @@ fn sooner(order: &Order, best: Candidate, other: Candidate) -> Candidate
     other
 }
 
-/// The best candidate after one more process, which may be one.
-fn better(order: &Order, best: Option<Candidate>, other: Option<Candidate>) -> Option<Candidate>
+/// The best candidate after one more.
+fn better(order: &Order, best: Option<Candidate>, other: Candidate) -> Candidate
     requires best { IfSome best (λ c. c.process < length order.now) }
-    requires other { IfSome other (λ c. c.process < length order.now) }
+    requires other { other.process < length order.now }
     ensures { IsBetterOf order.now best other result }
 {
     let Some(best) = best else {
         return other;
     };
-    let Some(other) = other else {
-        return Some(best);
-    };
-    Some(sooner(order, best, other))
+    sooner(order, best, other)
 }
 
 /// The process to place next: of those that can be placed the one that would start first, and of several the most urgent.
 /// `None` exactly if none can be placed.
-fn next(
-    problem: &Problem,
-    order: &Order,
-    timing: &Timing<'_>,
-    starts: &[Option<u64>],
-    free: &[u64],
-) -> Option<Candidate>
+fn next(problem: &Problem, order: &Order, free: &[u64], fed: &[Fed]) -> Option<Candidate>
     requires order { IsUrgencyOrder problem.now order.now }
-    requires timing { IsTiming problem.now timing.now }
-    requires starts { IsOnTheWay problem.now starts.now }
-    requires free { AreFree problem.now starts.now free.now }
-    ensures none { IfNone result (IsDone problem.now (outcome_of timing.now) starts.now) }
-    ensures next { IfSome result (λ c. IsNext problem.now (outcome_of timing.now) starts.now c.process) }
-    ensures start { IfSome result (λ c. c.start ≡ would_start problem.now (outcome_of timing.now) starts.now c.process) }
+    requires free { length free.now ≡ length problem.now.nodes }
+    requires within { All (λ f. f.process < process_count problem.now) fed.now }
+    ensures { (o : List Bool) (starts : List (Option ℕ)) → AreFree problem.now starts free.now → AreFed problem.now o starts fed.now →
+        IsChosen problem.now o starts result }
 {
     let mut best = None;
-    for process in timing.track.active() {
-        let other = candidate_of(problem, timing, starts, free, *process);
-        best = better(order, best, other);
+    for one in fed {
+        let other = candidate_of(problem, free, *one);
+        best = Some(better(order, best, other));
     }
     best
 }
@@ -205,13 +264,22 @@ fn place_all(
     let count = problem.processes().len();
     let mut starts: Vec<Option<u64>> = vec![in alloc; None; count]?;
     let mut free = vec![in alloc; 0u64; problem.nodes().len()]?;
+    let mut fed = all_fed(alloc, problem, &timing, starts.as_slice())?;
     for _placed in 0..count {
-        let Some(chosen) = next(problem, order, &timing, starts.as_slice(), free.as_slice()) else {
+        let Some(chosen) = next(problem, order, free.as_slice(), fed.as_slice()) else {
             return Ok(starts);
         };
         let end = chosen.start + timing.durations[chosen.process as usize];
         starts[chosen.process as usize] = Some(chosen.start);
         free[problem.node_of(chosen.process) as usize] = end;
+        drop_placed(&mut fed, chosen.process);
+        feed_targets(
+            problem,
+            &timing,
+            starts.as_slice(),
+            chosen.process,
+            &mut fed,
+        )?;
     }
     Ok(starts)
 }

@@ -2,7 +2,7 @@
 ghost use Rattle.std.specs.Prelude.{◌≡◌, ◌<◌, ◌≤◌, IfOk, map};
 ghost use Rattle.cpg_base.specs.Numbers.{numbers_below};
 ghost use Rattle.cpg_base.specs.Graph.{process_count, edge_count};
-ghost use Rattle.cpg_base.specs.Activity.{live};
+ghost use Rattle.cpg_base.specs.Activity.{active, live};
 ghost use Rattle.cpg_base.specs.Duration.{duration};
 ghost use Rattle.cpg_order.specs.Links.{links_of};
 ghost use Rattle.cpg_rules.specs.Admitted.{AreAdmitted};
@@ -22,12 +22,26 @@ pub(crate) struct Timing<'a> {
     pub(crate) track: &'a Track,
     /// The edges of each process.
     pub(crate) links: &'a Links,
+    /// By process, whether it is active.
+    pub(crate) active: Vec<bool>,
     /// By edge, whether it is live.
     pub(crate) live: Vec<bool>,
     /// By process, how long an execution with all the faults takes, in time units.
     pub(crate) durations: Vec<u64>,
     /// How long a message takes: one round of the bus, in time units.
     pub(crate) round: u64,
+}
+
+/// By process, whether it is active.
+fn active_marks(alloc: Global, problem: &Problem, track: &Track) -> Result<Vec<bool>, OutOfMemory>
+    requires { IsTrackOf problem.now track.now }
+    ensures { IfOk result (λ marks. marks.items ≡ map (active problem.now track.now.outcome) (numbers_below (process_count problem.now))) }
+{
+    let mut marks = vec![in alloc; false; problem.processes().len()]?;
+    for process in track.active() {
+        marks[*process as usize] = true;
+    }
+    Ok(marks)
 }
 
 /// By edge, whether it is live.
@@ -83,6 +97,7 @@ impl<'a> Timing<'a> {
         Ok(Timing {
             track,
             links,
+            active: active_marks(alloc, problem, track)?,
             live: live_edges(alloc, problem, guards, scenario)?,
             durations: durations(alloc, problem)?,
             round: problem.round(),

@@ -1,6 +1,9 @@
 -- The first number of parts that lasts least.
-use Rattle.std.proofs.Common.{ℕ, zero, suc, ◌+◌, ◌-◌, ◌<◌, ◌≤◌, ◌≡◌, ◌⊎◌, Bool, true, false, cond, [], ◌∷◌, ◌++◌, fold, refl, sym, ap, ◌∙◌, subst, inl, inr, arith, ltb-true, le-ltb}
+use Rattle.std.proofs.Common.{ℕ, zero, suc, ◌+◌, ◌-◌, ◌*◌, ◌<◌, ◌≤◌, ◌≡◌, ◌⊎◌, Bool, true, false, cond, [], ◌∷◌, ◌++◌, fold, refl, sym, ap, ◌∙◌, subst, inl, inr, arith, min, ltb-true, le-ltb}
+use Rattle.std.proofs.Common.{mul-le-mul_right}
 use Rattle.std.specs.Prelude.{nat_lt}
+use Rattle.std.specs.Int.{div_ceil}
+use Rattle.std.proofs.lemmas.Grind.{div_ceil_times}
 use Rattle.std.specs.List.{range_with_len}
 use Rattle.std.proofs.lemmas.Bool.{cases_lt, ltb-false, lt-ltb}
 use Rattle.std.proofs.lemmas.List.{map-id}
@@ -58,6 +61,18 @@ one_first d = record {
   first = λ m some l. absurd (omega (arith, some, l));
 }
 
+-- a part of so few units of work is one unit
+one_unit : (work parts : ℕ) → 1 ≤ work → work ≤ parts → div_ceil work parts ≡ 1
+one_unit work parts some many =
+    let whole = div_ceil_times work parts (omega (arith, some, many)) in
+    elim (cases_lt (div_ceil work parts) 2) [
+      | inl few ↦ elim (cases_lt (div_ceil work parts) 1) [
+        | inl none ↦ (let nothing = ap (λ n. n * parts) (let e : div_ceil work parts ≡ 0 = omega (arith, none) in e) in absurd (omega (arith, nothing, whole.0, some)))
+        | inr one ↦ omega (arith, few, one)
+      ]
+      | inr more ↦ (let twice = mul-le-mul_right {m = 2} {n = div_ceil work parts} parts more in absurd (omega (arith, twice, whole.1, many)))
+    ]
+
 module _ (p : Process) (faults : ℕ) where
   -- the first of 1 to n that lasts least
   abbrev pub fewest : ℕ → ℕ
@@ -82,9 +97,31 @@ module _ (p : Process) (faults : ℕ) where
   unfolding best_of
   best_is_best = let h = fewest_first 254 255 refl in record { some = h.some; few = h.few; least = h.least; first = h.first }
 
-  pub best_is_fewest : (n : ℕ) → n ≡ MOST_PARTS → fewest n ≡ best_of p faults
+  -- with at least as many parts as units of work, one part more saves no time
+  no_shorter : (n : ℕ) → 1 ≤ p.wcet → p.wcet ≤ n → duration_in p faults n ≤ duration_in p faults (n + 1)
+  no_shorter n some many =
+      let more = mul-le-mul_right {m = n} {n = n + 1} (p.alpha + p.chi) (omega arith) in
+      let same = ap (λ part. faults * (p.mu + part + p.alpha)) (one_unit p.wcet n some many ∙ sym (one_unit p.wcet (n + 1) some (omega (arith, many)))) in
+      omega (arith, more, same)
+
+  -- so the first that lasts least stays the same
+  fewest_stays : (n : ℕ) → 1 ≤ p.wcet → p.wcet ≤ n → (k : ℕ) → fewest (n + k) ≡ fewest n
+  fewest_stays n some many zero = ap fewest (let e : n + zero ≡ n = omega arith in e)
+  fewest_stays n some many (suc k) =
+      let least = (fewest_first (n + k - 1) (n + k) (omega (arith, some, many))).least (n + k) (omega (arith, some, many)) (omega arith) in
+      let later = no_shorter (n + k) some (omega (arith, many)) in
+      let next : n + suc k ≡ n + k + 1 = omega arith in
+      ap fewest next ∙ fewest_next (n + k) (n + k + 1) refl
+      ∙ ap (λ b. cond b (n + k + 1) (fewest (n + k))) (le-ltb (duration_in p faults (n + k + 1)) (duration_in p faults (fewest (n + k))) (omega (arith, least, later)))
+      ∙ fewest_stays n some many k
+
+  pub best_is_fewest : (n : ℕ) → 1 ≤ p.wcet → n ≡ min p.wcet MOST_PARTS → fewest n ≡ best_of p faults
   unfolding best_of
-  best_is_fewest n e = ap fewest e
+  best_is_fewest n some e = elim (cases_lt p.wcet MOST_PARTS) [
+    | inl few ↦ let all : n + (MOST_PARTS - n) ≡ MOST_PARTS = omega (arith, e, few) in
+        sym (fewest_stays n some (omega (arith, e, few)) (MOST_PARTS - n)) ∙ ap fewest all
+    | inr many ↦ ap fewest (let whole : n ≡ MOST_PARTS = omega (arith, e, many) in whole)
+  ]
 
   -- one more number of parts, which lasts less than the best so far, or doesn't
   module _ (best parts : ℕ) (some : 1 ≤ parts) (is : best ≡ fewest (parts - 1)) where

@@ -25,9 +25,11 @@ fn best_of(process: &Process, faults: u8) -> u32
     requires faults { faults ≤ 8 }
     ensures { result ≡ best_of process.now faults }
 {
+    // with more parts than units of work no part is shorter
+    let most = process.wcet.min(u64::from(MOST_PARTS)) as u32;
     let mut best = 1;
     let mut least = duration_in(process, best, faults);
-    for parts in 1..=MOST_PARTS {
+    for parts in 1..most + 1 {
         let duration = duration_in(process, parts, faults);
         if duration < least {
             best = parts;

@@ -1,6 +1,11 @@
-use Rattle.std.proofs.Common.{take}
-use Rattle.cpg_tracks.specs.Timing.{outcome_of, IsBestOf}
+use Rattle.std.proofs.Common.{ℕ, ◌<◌, Bool, List, Option, IfSome, map, take}
+use Rattle.cpg_base.specs.Graph.{process_count}
+use Rattle.cpg_tracks.specs.Timing.{AreFree, AreFed, IsBestOf}
 use Rattle.cpg_tracks.proofs.schedule.next.Given as goal
 
-abbrev pub invariant-loop-process : goal.invariant-loop-process
-invariant-loop-process l = IsBestOf l.problem (outcome_of l.timing) l.starts (take l.process-index l.process-items) l.best
+abbrev pub invariant-loop-one : goal.invariant-loop-one
+invariant-loop-one l = record {
+  within : IfSome l.best (λ c. c.process < process_count l.problem);
+  best : (o : List Bool) (starts : List (Option ℕ)) → AreFree l.problem starts l.free → AreFed l.problem o starts l.fed →
+      IsBestOf l.problem o starts (map (λ f. f.process) (take l.one-index l.fed)) l.best;
+}

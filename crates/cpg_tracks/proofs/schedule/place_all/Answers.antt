@@ -1,9 +1,11 @@
-use Rattle.std.proofs.Common.{◌≡◌, ◌≤◌, ◌∙◌, None, replicate, ap, sym, subst, subst₂, length, rules, arith}
+use Rattle.std.proofs.Common.{◌≡◌, ◌+◌, ◌<◌, ◌≤◌, ◌∙◌, All, None, Some, replicate, set, ap, sym, subst, subst₂, length, rules, arith}
 use Rattle.cpg_base.specs.Graph.{process_count}
 use Rattle.cpg_base.proofs.Bounds.{duration-le}
-use Rattle.cpg_tracks.specs.Placing.{IsDone, IsNext, would_start}
-use Rattle.cpg_tracks.specs.Timing.{IsOnTheWay}
-use Rattle.cpg_tracks.proofs.GreedySteps.{HavePlaced, placed_first, placed_open, placed_early, placed_late, placed_more, placed_whole, placed_greedy, duration_at, durations_long}
+use Rattle.cpg_tracks.specs.Timing.{IsOnTheWay, AreFed, AreFedBut, outcome_of}
+use Rattle.cpg_tracks.specs.declared.schedule.Fed.{Fed}
+use Rattle.cpg_tracks.proofs.GreedySteps.{HavePlaced, placed_first, placed_open, placed_early, placed_late, placed_more, placed_whole, placed_greedy, frees_long, chosen_of, fed_within}
+use Rattle.cpg_tracks.proofs.GreedySteps.{duration_at, durations_long}
+use Rattle.cpg_tracks.proofs.Feeding.{fed_next}
 use Rattle.cpg_tracks.proofs.schedule.place_all.Goals as goal
 
 pub loop-placed-init : goal.loop-placed-init
@@ -11,82 +13,159 @@ loop-placed-init c =
     let g = c.args.problem.now in
     let starts : c.in_ok-starts.starts.items ≡ replicate (length c.processes-count.result.now) None = search rules in
     let free : c.in_ok-free.free.items ≡ replicate (length c.nodes.result.now) 0 = search rules in
-    subst₂ (λ s f. HavePlaced g c.args.track.now.outcome s f 0)
-    (sym (starts ∙ ap (λ n. replicate n None) (ap length c.processes-count.ensures.processes)))
-    (sym (free ∙ ap (λ n. replicate n 0) (ap length c.nodes.ensures.nodes)))
-    (placed_first g c.args.track.now.outcome)
+    record {
+      placed = subst₂ (λ s f. HavePlaced g c.args.track.now.outcome s f 0)
+          (sym (starts ∙ ap (λ n. replicate n None) (ap length c.processes-count.ensures.processes)))
+          (sym (free ∙ ap (λ n. replicate n 0) (ap length c.nodes.ensures.nodes)))
+          (placed_first g c.args.track.now.outcome);
+      fed = subst (λ x. AreFed g x c.in_ok-starts.starts.items c.in_ok-fed.fed.items) (ap (λ t. t.outcome) c.in_ok-timing.ensures.track)
+          (subst (λ xs. AreFed g (outcome_of c.in_ok-timing.timing) xs c.in_ok-fed.fed.items) c.as_slice.ensures.value c.in_ok-fed.ensures);
+    }
 
-pub next-requires-clause-starts : goal.next-requires-clause-starts
-next-requires-clause-starts c =
+pub next-requires-clause-free : goal.next-requires-clause-free
+next-requires-clause-free c =
     let g = c.args.problem.now in
     let a = c.requires.admitted in
-    subst (IsOnTheWay g) (sym c.as_slice.ensures.value)
-    (placed_open g a.limits a.well_formed c.args.track.now.outcome c.loop-placed.starts.items c.loop-placed.free.items c.loop-placed._placed c.loop-placed.invariant
-    (omega (arith, ap length c.processes-count.ensures.processes, c.loop-placed-test.true)))
+    let o = c.args.track.now.outcome in
+    let s = c.loop-placed.starts.items in
+    let f = c.loop-placed.free.items in
+    let n = c.loop-placed._placed in
+    let h = c.loop-placed.invariant.placed in
+    ap length c.as_slice-in-loop-placed.ensures.value ∙ frees_long g a.limits a.well_formed o s f n h
+
+pub next-requires-clause-within : goal.next-requires-clause-within
+next-requires-clause-within c =
+    let g = c.args.problem.now in
+    subst (λ xs. All (λ (f : Fed). f.process < process_count g) xs) (sym c.as_slice-in-loop-placed-2.ensures.value)
+    (fed_within g c.args.track.now.outcome c.loop-placed.starts.items c.loop-placed.fed.items c.loop-placed.invariant.fed)
 
 pub returns-in_default-clause-greedy : goal.returns-in_default-clause-greedy
 returns-in_default-clause-greedy c =
     let g = c.args.problem.now in
     let a = c.requires.admitted in
-    let o = ap (λ t. t.outcome) c.in_ok-timing.ensures.track in
-    placed_greedy g a.limits a.well_formed c.args.track.now.outcome c.loop-placed.starts.items c.loop-placed.free.items c.loop-placed._placed c.loop-placed.invariant c.args.order.now a.topological
-    (subst (λ x. IsDone g x c.loop-placed.starts.items) o (rw c.as_slice.ensures.value at c.in_default.ensures.none))
+    let o = c.args.track.now.outcome in
+    let s = c.loop-placed.starts.items in
+    let f = c.loop-placed.free.items in
+    let n = c.loop-placed._placed in
+    let h = c.loop-placed.invariant.placed in
+    placed_greedy g a.limits a.well_formed o s f n h c.args.order.now a.topological
+    (chosen_of g o s f c.as_slice-in-loop-placed.result.now c.loop-placed.fed.items c.as_slice-in-loop-placed-2.result.now c.next.result None
+    c.as_slice-in-loop-placed.ensures.value c.as_slice-in-loop-placed-2.ensures.value h.free c.loop-placed.invariant.fed c.next.ensures c.in_default.is)
 
 pub index-requires : goal.index-requires
 index-requires c =
-    let o = ap (λ t. t.outcome) c.in_ok-timing.ensures.track in
-    let next = subst (λ x. IsNext c.args.problem.now x c.loop-placed.starts.items c.in-Some.chosen.process) o (rw c.as_slice.ensures.value at c.in-Some.ensures.next) in
-    omega (arith, next.fed.within, durations_long c.args.problem.now c.in_ok-timing.timing c.in_ok-timing.ensures.timing)
+    let g = c.args.problem.now in
+    let o = c.args.track.now.outcome in
+    let s = c.loop-placed.starts.items in
+    let f = c.loop-placed.free.items in
+    let h = c.loop-placed.invariant.placed in
+    let p = c.in-Some.chosen.process in
+    let next = chosen_of g o s f c.as_slice-in-loop-placed.result.now c.loop-placed.fed.items c.as_slice-in-loop-placed-2.result.now c.next.result (Some c.in-Some.chosen)
+    c.as_slice-in-loop-placed.ensures.value c.as_slice-in-loop-placed-2.ensures.value h.free c.loop-placed.invariant.fed c.next.ensures c.in-Some.is in
+    omega (arith, next.0.fed.within, durations_long g c.in_ok-timing.timing c.in_ok-timing.ensures.timing)
 
 pub overflow_add-end : goal.overflow_add-end
 overflow_add-end c =
     let g = c.args.problem.now in
     let a = c.requires.admitted in
-    let o = ap (λ t. t.outcome) c.in_ok-timing.ensures.track in
+    let o = c.args.track.now.outcome in
+    let s = c.loop-placed.starts.items in
+    let f = c.loop-placed.free.items in
+    let n = c.loop-placed._placed in
+    let h = c.loop-placed.invariant.placed in
     let p = c.in-Some.chosen.process in
-    let next = subst (λ x. IsNext g x c.loop-placed.starts.items p) o (rw c.as_slice.ensures.value at c.in-Some.ensures.next) in
-    let start = subst (λ x. c.in-Some.chosen.start ≡ would_start g x c.loop-placed.starts.items p) o
-    (subst (λ xs. c.in-Some.chosen.start ≡ would_start g c.in_ok-timing.timing.track.now.outcome xs p) c.as_slice.ensures.value c.in-Some.ensures.start) in
+    let next = chosen_of g o s f c.as_slice-in-loop-placed.result.now c.loop-placed.fed.items c.as_slice-in-loop-placed-2.result.now c.next.result (Some c.in-Some.chosen)
+    c.as_slice-in-loop-placed.ensures.value c.as_slice-in-loop-placed-2.ensures.value h.free c.loop-placed.invariant.fed c.next.ensures c.in-Some.is in
     omega (
       arith,
-      placed_late g a.limits a.well_formed c.args.track.now.outcome c.loop-placed.starts.items c.loop-placed.free.items c.loop-placed._placed c.loop-placed.invariant p
-          (omega (arith, ap length c.processes-count.ensures.processes, c.loop-placed-test.true)) next,
-      start,
-      c.index.ensures ∙ duration_at g c.in_ok-timing.timing c.in_ok-timing.ensures.timing p c.index.result.now next.fed.within,
-      duration-le g p g.faults a.limits next.fed.within a.limits.faults,
+      placed_late g a.limits a.well_formed o s f n h p (omega (arith, ap length c.processes-count.ensures.processes, c.loop-placed-test.true)) next.0,
+      next.1,
+      c.index.ensures ∙ duration_at g c.in_ok-timing.timing c.in_ok-timing.ensures.timing p c.index.result.now next.0.fed.within,
+      duration-le g p g.faults a.limits next.0.fed.within a.limits.faults,
     )
+
+pub feed_targets-requires-clause-starts : goal.feed_targets-requires-clause-starts
+feed_targets-requires-clause-starts c =
+    let g = c.args.problem.now in
+    let a = c.requires.admitted in
+    let o = c.args.track.now.outcome in
+    let s = c.loop-placed.starts.items in
+    let f = c.loop-placed.free.items in
+    let n = c.loop-placed._placed in
+    let h = c.loop-placed.invariant.placed in
+    let p = c.in-Some.chosen.process in
+    let next = chosen_of g o s f c.as_slice-in-loop-placed.result.now c.loop-placed.fed.items c.as_slice-in-loop-placed-2.result.now c.next.result (Some c.in-Some.chosen)
+    c.as_slice-in-loop-placed.ensures.value c.as_slice-in-loop-placed-2.ensures.value h.free c.loop-placed.invariant.fed c.next.ensures c.in-Some.is in
+    let time = c.index.ensures ∙ duration_at g c.in_ok-timing.timing c.in_ok-timing.ensures.timing p c.index.result.now next.0.fed.within in
+    let more = placed_more g a.limits a.well_formed o s f n h p c.in-Some.chosen.start c.node_of.result c.index.result.now next.0 next.1 c.node_of.ensures.node time in
+    subst (IsOnTheWay g) (sym c.as_slice-in-loop-placed-3.ensures.value)
+    (placed_open g a.limits a.well_formed o _ _ (n + 1) more (omega (arith, ap length c.processes-count.ensures.processes, c.loop-placed-test.true)))
+
+pub feed_targets-requires-clause-fed : goal.feed_targets-requires-clause-fed
+feed_targets-requires-clause-fed c =
+    let g = c.args.problem.now in
+    let a = c.requires.admitted in
+    let o = c.args.track.now.outcome in
+    let s = c.loop-placed.starts.items in
+    let f = c.loop-placed.free.items in
+    let h = c.loop-placed.invariant.placed in
+    let p = c.in-Some.chosen.process in
+    let next = chosen_of g o s f c.as_slice-in-loop-placed.result.now c.loop-placed.fed.items c.as_slice-in-loop-placed-2.result.now c.next.result (Some c.in-Some.chosen)
+    c.as_slice-in-loop-placed.ensures.value c.as_slice-in-loop-placed-2.ensures.value h.free c.loop-placed.invariant.fed c.next.ensures c.in-Some.is in
+    subst (λ x. AreFedBut g x c.as_slice-in-loop-placed-3.result.now p c.drop_placed.new.fed.items) (sym (ap (λ t. t.outcome) c.in_ok-timing.ensures.track))
+    (fed_next g a.well_formed o s h.placing p next.0 c.loop-placed.fed.items c.in-Some.chosen.start c.as_slice-in-loop-placed-3.result.now c.drop_placed.new.fed.items c.loop-placed.invariant.fed
+    next.1 c.as_slice-in-loop-placed-3.ensures.value c.drop_placed.ensures)
 
 pub loop-placed-preserved : goal.loop-placed-preserved
 loop-placed-preserved c =
     let g = c.args.problem.now in
     let a = c.requires.admitted in
-    let o = ap (λ t. t.outcome) c.in_ok-timing.ensures.track in
+    let o = c.args.track.now.outcome in
+    let s = c.loop-placed.starts.items in
+    let f = c.loop-placed.free.items in
+    let n = c.loop-placed._placed in
+    let h = c.loop-placed.invariant.placed in
     let p = c.in-Some.chosen.process in
-    let next = subst (λ x. IsNext g x c.loop-placed.starts.items p) o (rw c.as_slice.ensures.value at c.in-Some.ensures.next) in
-    let start = subst (λ x. c.in-Some.chosen.start ≡ would_start g x c.loop-placed.starts.items p) o
-    (subst (λ xs. c.in-Some.chosen.start ≡ would_start g c.in_ok-timing.timing.track.now.outcome xs p) c.as_slice.ensures.value c.in-Some.ensures.start) in
-    placed_more g a.limits a.well_formed c.args.track.now.outcome c.loop-placed.starts.items c.loop-placed.free.items c.loop-placed._placed c.loop-placed.invariant p c.in-Some.chosen.start
-    c.node_of.result c.index.result.now next start c.node_of.ensures.node
-    (c.index.ensures ∙ duration_at g c.in_ok-timing.timing c.in_ok-timing.ensures.timing p c.index.result.now next.fed.within)
+    let next = chosen_of g o s f c.as_slice-in-loop-placed.result.now c.loop-placed.fed.items c.as_slice-in-loop-placed-2.result.now c.next.result (Some c.in-Some.chosen)
+    c.as_slice-in-loop-placed.ensures.value c.as_slice-in-loop-placed-2.ensures.value h.free c.loop-placed.invariant.fed c.next.ensures c.in-Some.is in
+    let time = c.index.ensures ∙ duration_at g c.in_ok-timing.timing c.in_ok-timing.ensures.timing p c.index.result.now next.0.fed.within in
+    let more = placed_more g a.limits a.well_formed o s f n h p c.in-Some.chosen.start c.node_of.result c.index.result.now next.0 next.1 c.node_of.ensures.node time in
+    record {
+      placed = more;
+      fed = subst (λ x. AreFed g x (set s p (Some c.in-Some.chosen.start)) c.feed_targets.new.fed.items) (ap (λ t. t.outcome) c.in_ok-timing.ensures.track)
+          (subst (λ xs. AreFed g (outcome_of c.in_ok-timing.timing) xs c.feed_targets.new.fed.items) c.as_slice-in-loop-placed-3.ensures.value c.in_ok-feed_targets.ensures);
+    }
 
 pub returns-clause-greedy : goal.returns-clause-greedy
 returns-clause-greedy c =
     let g = c.args.problem.now in
     let a = c.requires.admitted in
-    let count : process_count g ≤ c.loop-placed._placed = omega (arith, ap length c.processes-count.ensures.processes, c.loop-placed-test.false) in
-    placed_greedy g a.limits a.well_formed c.args.track.now.outcome c.loop-placed.starts.items c.loop-placed.free.items c.loop-placed._placed c.loop-placed.invariant c.args.order.now a.topological
-    (placed_whole g a.limits a.well_formed c.args.track.now.outcome c.loop-placed.starts.items c.loop-placed.free.items c.loop-placed._placed c.loop-placed.invariant count)
+    let o = c.args.track.now.outcome in
+    let s = c.loop-placed.starts.items in
+    let f = c.loop-placed.free.items in
+    let n = c.loop-placed._placed in
+    let h = c.loop-placed.invariant.placed in
+    let count : process_count g ≤ n = omega (arith, ap length c.processes-count.ensures.processes, c.loop-placed-test.false) in
+    placed_greedy g a.limits a.well_formed o s f n h c.args.order.now a.topological (placed_whole g a.limits a.well_formed o s f n h count)
 
 pub returns-in_default-clause-early : goal.returns-in_default-clause-early
 returns-in_default-clause-early c =
     let g = c.args.problem.now in
     let a = c.requires.admitted in
-    placed_early g a.limits a.well_formed c.args.track.now.outcome c.loop-placed.starts.items c.loop-placed.free.items c.loop-placed._placed c.loop-placed.invariant
-    (omega (arith, ap length c.processes-count.ensures.processes, c.loop-placed-test.true))
+    let o = c.args.track.now.outcome in
+    let s = c.loop-placed.starts.items in
+    let f = c.loop-placed.free.items in
+    let n = c.loop-placed._placed in
+    let h = c.loop-placed.invariant.placed in
+    placed_early g a.limits a.well_formed o s f n h (omega (arith, ap length c.processes-count.ensures.processes, c.loop-placed-test.true))
 
 pub returns-clause-early : goal.returns-clause-early
 returns-clause-early c =
     let g = c.args.problem.now in
     let a = c.requires.admitted in
-    placed_early g a.limits a.well_formed c.args.track.now.outcome c.loop-placed.starts.items c.loop-placed.free.items c.loop-placed._placed c.loop-placed.invariant
-    (omega (arith, ap length c.processes-count.ensures.processes, c.loop-placed.auto._placed-end))
+    let o = c.args.track.now.outcome in
+    let s = c.loop-placed.starts.items in
+    let f = c.loop-placed.free.items in
+    let n = c.loop-placed._placed in
+    let h = c.loop-placed.invariant.placed in
+    placed_early g a.limits a.well_formed o s f n h (omega (arith, ap length c.processes-count.ensures.processes, c.loop-placed.auto._placed-end))

@@ -1,5 +1,9 @@
+use Rattle.cpg_tracks.specs.Timing.{AreFed}
 use Rattle.cpg_tracks.proofs.GreedySteps.{HavePlaced}
 use Rattle.cpg_tracks.proofs.schedule.place_all.Given as goal
 
 abbrev pub invariant-loop-placed : goal.invariant-loop-placed
-invariant-loop-placed l = HavePlaced l.problem l.track.outcome l.starts.items l.free.items l._placed
+invariant-loop-placed l = record {
+  placed : HavePlaced l.problem l.track.outcome l.starts.items l.free.items l._placed;
+  fed : AreFed l.problem l.track.outcome l.starts.items l.fed.items;
+}

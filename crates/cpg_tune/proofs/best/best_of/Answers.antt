@@ -21,4 +21,7 @@ loop-parts-preserved c =
     ]
 
 pub returns : goal.returns
-returns c = c.loop-parts.invariant.best ∙ best_is_fewest c.args.process.now c.args.faults (c.loop-parts.parts - 1) (search rules)
+returns c =
+    let within = c.requires.within.1 in
+    let last = c.loop-parts-test.false in
+    c.loop-parts.invariant.best ∙ best_is_fewest c.args.process.now c.args.faults (c.loop-parts.parts - 1) within.works (search rules)
