@@ -1,37 +1,39 @@
 -- Steps of the loops that keep what can be placed.
-use Rattle.std.proofs.Common.{◌≡◌, ◌≢◌, ℕ, ◌+◌, ◌<◌, ◌==◌, Bool, true, false, not, List, [], ◌∷◌, ◌++◌, length, get_or, set, map, filter, take, Contains, Option, Some, sym, ap, ◌∙◌, subst, arith, inl, inr, ◌⊎◌, eqb-true, eq-eqb}
+use Rattle.std.proofs.Common.{◌≡◌, ◌≢◌, ℕ, ◌+◌, ◌<◌, ◌==◌, Bool, true, false, not, List, [], ◌∷◌, ◌++◌, length, get_or, set, map, filter, Contains, Option, Some}
+use Rattle.std.proofs.Common.{sym, ap, ◌∙◌, subst, arith, inl, inr, eqb-true, eq-eqb}
 use Rattle.std.proofs.lemmas.List.{map-append, get_or-set_same, get_or-set_other, ext_get_or}
 use Rattle.std.proofs.lemmas.List.FromFn.{length-map-range_with_len}
 use Rattle.std.proofs.lemmas.List.Elements.{Contains-append_left, Contains-append_right, Contains-append_cases}
 use Rattle.std.proofs.lemmas.Bool.{both_ways, cases_eq, not-true, not_from_false, false_from_ne_true}
-use Rattle.cpg_base.specs.Graph.{Graph, process_count, source, target, inputs, outputs}
+use Rattle.cpg_base.specs.Graph.{Graph, process_count, target, inputs, outputs}
 use Rattle.cpg_base.specs.WellFormed.{WellFormed}
 use Rattle.cpg_base.specs.Activity.{active, live}
 use Rattle.cpg_base.specs.Numbers.{numbers_below}
 use Rattle.cpg_base.proofs.Inputs.{inputs_parts, outputs-Contains}
-use Rattle.cpg_base.proofs.Lists.{Contains-first, Contains-cases, Contains-nil, Contains-map, Contains-map_parts, Contains-filter, Contains-filter_parts, Contains-numbers, same_truth, get_or-map-below}
+use Rattle.cpg_base.proofs.Lists.{Contains-first, Contains-cases, Contains-nil, Contains-map, Contains-map_parts, Contains-filter, Contains-filter_parts}
+use Rattle.cpg_base.proofs.Lists.{Contains-numbers, same_truth, get_or-map-below}
 use Rattle.cpg_tracks.specs.Tracks.{ready_at}
 use Rattle.cpg_tracks.specs.Placing.{IsFed, IsNext, IsPlacing, would_start}
 use Rattle.cpg_tracks.specs.Timing.{IsFedAt, AreFed, AreFedBut, Feeds}
 use Rattle.cpg_tracks.specs.Track.{Track, IsTrackOf}
-use Rattle.cpg_tracks.specs.declared.schedule.Fed.{Fed}
+use Rattle.cpg_tracks.specs.declared.schedule.FedProcess.{FedProcess}
 use Rattle.cpg_tracks.proofs.Placing.{same_ready, fed_not_p, still_fed, was_fed_or_waits}
 
 -- the processes of a list
-abbrev pub processes_of : List Fed → List ℕ
+abbrev pub processes_of : List FedProcess → List ℕ
 processes_of fed = map (λ f. f.process) fed
 
 -- one more at the end
-pub processes_push : (fed : List Fed) (f : Fed) → processes_of (fed ++ f ∷ []) ≡ processes_of fed ++ f.process ∷ []
-processes_push fed f = map-append (λ (x : Fed). x.process) fed (f ∷ [])
+pub processes_push : (fed : List FedProcess) (f : FedProcess) → processes_of (fed ++ f ∷ []) ≡ processes_of fed ++ f.process ∷ []
+processes_push fed f = map-append (λ (x : FedProcess). x.process) fed (f ∷ [])
 
 module _ (g : Graph) (o : List Bool) (starts : List (Option ℕ)) where
   -- ---- one process is asked
 
-  pub feeds_none : (p : ℕ) (fed : List Fed) → (IsFed g o starts p → ⊥) → Feeds g o starts p fed fed
+  pub feeds_none : (p : ℕ) (fed : List FedProcess) → (IsFed g o starts p → ⊥) → Feeds g o starts p fed fed
   feeds_none p fed h = record { each = λ k. k; kept = λ q k. k; added = λ f. absurd (h f) }
 
-  pub feeds_one : (p ready : ℕ) (fed : List Fed) → IsFed g o starts p → ready ≡ ready_at g o starts p → Feeds g o starts p fed (fed ++ (record { process = p; ready = ready }) ∷ [])
+  pub feeds_one : (p ready : ℕ) (fed : List FedProcess) → IsFed g o starts p → ready ≡ ready_at g o starts p → Feeds g o starts p fed (fed ++ (record { process = p; ready = ready }) ∷ [])
   feeds_one p ready fed is at = record {
     each = λ h f k. elim (Contains-append_cases fed (one ∷ []) f k) [
       | inl m ↦ h f m
@@ -41,12 +43,12 @@ module _ (g : Graph) (o : List Bool) (starts : List (Option ℕ)) where
     added = λ f. subst (λ xs. Contains xs p) (sym (processes_push fed one)) (Contains-append_right (processes_of fed) (p ∷ []) p (Contains-first p []));
   }
     where
-      one : Fed
+      one : FedProcess
       one = record { process = p; ready = ready }
 
   -- ---- all processes are asked in turn
 
-  pub fed_below : (p : ℕ) (old new : List Fed) → Feeds g o starts p old new → ((q : ℕ) → q < p → IsFed g o starts q → Contains (processes_of old) q) → (q : ℕ) → q < p + 1 →
+  pub fed_below : (p : ℕ) (old new : List FedProcess) → Feeds g o starts p old new → ((q : ℕ) → q < p → IsFed g o starts q → Contains (processes_of old) q) → (q : ℕ) → q < p + 1 →
       IsFed g o starts q → Contains (processes_of new) q
   fed_below p old new feeds h q l f = elim (cases_eq q p) [
     | inl is ↦ subst (Contains (processes_of new)) (sym is) (feeds.added (subst (IsFed g o starts) is f))
@@ -56,13 +58,13 @@ module _ (g : Graph) (o : List Bool) (starts : List (Option ℕ)) where
   -- ---- the targets of p's outputs are asked in turn
 
   -- the targets of some live edges are there, if they can be placed
-  abbrev pub AreTargetsFed : List ℕ → List Fed → Type 0
+  abbrev pub AreTargetsFed : List ℕ → List FedProcess → Type 0
   AreTargetsFed es fed = (e : ℕ) → Contains es e → live g o e ≡ true → IsFed g o starts (target g e) → Contains (processes_of fed) (target g e)
 
-  pub no_targets : (fed : List Fed) → AreTargetsFed [] fed
+  pub no_targets : (fed : List FedProcess) → AreTargetsFed [] fed
   no_targets fed e k is f = absurd (Contains-nil e k)
 
-  pub target_asked : (es : List ℕ) (e : ℕ) (old new : List Fed) → Feeds g o starts (target g e) old new → AreTargetsFed es old → AreTargetsFed (es ++ e ∷ []) new
+  pub target_asked : (es : List ℕ) (e : ℕ) (old new : List FedProcess) → Feeds g o starts (target g e) old new → AreTargetsFed es old → AreTargetsFed (es ++ e ∷ []) new
   target_asked es e old new feeds h x k is f = elim (Contains-append_cases es (e ∷ []) x k) [
     | inl m ↦ feeds.kept (target g x) (h x m is f)
     | inr m ↦ elim (Contains-cases e [] x m) [
@@ -71,7 +73,7 @@ module _ (g : Graph) (o : List Bool) (starts : List (Option ℕ)) where
     ]
   ]
 
-  pub target_passed : (es : List ℕ) (e : ℕ) (fed : List Fed) → live g o e ≡ false → AreTargetsFed es fed → AreTargetsFed (es ++ e ∷ []) fed
+  pub target_passed : (es : List ℕ) (e : ℕ) (fed : List FedProcess) → live g o e ≡ false → AreTargetsFed es fed → AreTargetsFed (es ++ e ∷ []) fed
   target_passed es e fed off h x k is f = elim (Contains-append_cases es (e ∷ []) x k) [
     | inl m ↦ h x m is f
     | inr m ↦ elim (Contains-cases e [] x m) [
@@ -80,7 +82,7 @@ module _ (g : Graph) (o : List Bool) (starts : List (Option ℕ)) where
     ]
   ]
 
-  pub all_targets_asked : (p : ℕ) (old new : List Fed) → AreFedBut g o starts p old → ((f : Fed) → Contains new f → IsFedAt g o starts f) →
+  pub all_targets_asked : (p : ℕ) (old new : List FedProcess) → AreFedBut g o starts p old → ((f : FedProcess) → Contains new f → IsFedAt g o starts f) →
       ((q : ℕ) → Contains (processes_of old) q → Contains (processes_of new) q) → AreTargetsFed (outputs g p) new → AreFed g o starts new
   all_targets_asked p old new h each kept targets = record {
     each = each;
@@ -122,10 +124,10 @@ marks_done g t track marks count marked only = ext_get_or false marks (map (acti
 
 module _ (g : Graph) (w : WellFormed g) (o : List Bool) (s : List (Option ℕ)) (h : IsPlacing g o s) (p : ℕ) (n : IsNext g o s p) where
   -- whether a process isn't the placed one
-  abbrev is_other : Fed → Bool
+  abbrev is_other : FedProcess → Bool
   is_other f = not (f.process == p)
 
-  fed_after : (fed : List Fed) → AreFed g o s fed → AreFedBut g o (set s p (Some (would_start g o s p))) p (filter is_other fed)
+  fed_after : (fed : List FedProcess) → AreFed g o s fed → AreFedBut g o (set s p (Some (would_start g o s p))) p (filter is_other fed)
   fed_after fed are = record {
     each = λ f k.
         let r = Contains-filter_parts is_other fed f k in
@@ -134,10 +136,10 @@ module _ (g : Graph) (w : WellFormed g) (o : List Bool) (s : List (Option ℕ)) 
         record { fed = still_fed g w o s h p n f.process was.fed ne; ready = was.ready ∙ sym (same_ready g w o s h p n f.process was.fed.inputs) };
     all = λ q f. elim (was_fed_or_waits g w o s h p n q f) [
       | inl was ↦
-          let x = Contains-map_parts (λ (f : Fed). f.process) fed q (are.all q was) in
+          let x = Contains-map_parts (λ (f : FedProcess). f.process) fed q (are.all q was) in
           let ne : (x.0).process ≢ p = λ is. fed_not_p g w o s h p n q f (sym is ∙ x.2) in
           let kept = Contains-filter is_other fed x.0 (not_from_false ((x.0).process == p) (false_from_ne_true ((x.0).process == p) (λ t. ne (eqb-true (x.0).process p t)))) x.1 in
-          inl (subst (Contains (processes_of (filter is_other fed))) x.2 (Contains-map (λ (f : Fed). f.process) (filter is_other fed) x.0 kept))
+          inl (subst (Contains (processes_of (filter is_other fed))) x.2 (Contains-map (λ (f : FedProcess). f.process) (filter is_other fed) x.0 kept))
       | inr x ↦
           let e = x.0 in
           let r = Contains-filter_parts (live g o) (inputs g q) e x.1 in
@@ -146,7 +148,7 @@ module _ (g : Graph) (w : WellFormed g) (o : List Bool) (s : List (Option ℕ)) 
     ];
   }
 
-  pub fed_next : (fed : List Fed) (start : ℕ) (starts : List (Option ℕ)) (kept : List Fed) → AreFed g o s fed → start ≡ would_start g o s p → starts ≡ set s p (Some start) →
+  pub fed_next : (fed : List FedProcess) (start : ℕ) (starts : List (Option ℕ)) (kept : List FedProcess) → AreFed g o s fed → start ≡ would_start g o s p → starts ≡ set s p (Some start) →
       kept ≡ filter is_other fed → AreFedBut g o starts p kept
   fed_next fed start starts kept are at same left = subst (AreFedBut g o starts p) (sym left) (subst (λ xs. AreFedBut g o xs p (filter is_other fed)) (sym same)
       (subst (λ time. AreFedBut g o (set s p (Some time)) p (filter is_other fed)) (sym at) (fed_after fed are)))

@@ -1,5 +1,6 @@
 -- Steps of the loops that place the processes of a track.
-use Rattle.std.proofs.Common.{All, ◌≡◌, ◌≢◌, ℕ, suc, ◌+◌, ◌*◌, ◌^◌, ◌<◌, ◌≤◌, Bool, true, false, cond, List, [], ◌∷◌, ◌++◌, length, get_or, set, replicate, map, filter, take, max, Contains, Option, Some}
+use Rattle.std.proofs.Common.{All, ◌≡◌, ◌≢◌, ℕ, suc, ◌+◌, ◌*◌, ◌^◌, ◌<◌, ◌≤◌, Bool, true, false, cond, List, [], ◌∷◌, ◌++◌, length, get_or, set}
+use Rattle.std.proofs.Common.{replicate, map, filter, take, max, Contains, Option, Some}
 use Rattle.std.proofs.Common.{None, is_some, unwrap_or, IfSome, IfNone, refl, sym, ap, ap₂, ◌∙◌, subst, arith, inl, inr, true≢false}
 use Rattle.std.specs.Option.{option_map}
 use Rattle.std.proofs.lemmas.List.{take_more, map-append, get_or_default, get_or-set_same, get_or-set_other, length-set, length-replicate, get_or-replicate, ext_get_or}
@@ -14,7 +15,7 @@ use Rattle.cpg_base.specs.Activity.{active, live}
 use Rattle.cpg_base.specs.Duration.{duration}
 use Rattle.cpg_base.specs.Bus.{round}
 use Rattle.cpg_base.proofs.Bounds.{round-le, duration-le}
-use Rattle.cpg_base.proofs.Lists.{Contains-cases, Contains-nil, Contains-map_parts, Contains-filter, Contains-filter_parts, Contains-numbers, numbers-Contains, get_or-map-below, greatest_push}
+use Rattle.cpg_base.proofs.Lists.{Contains-cases, Contains-nil, Contains-map_parts, Contains-filter, Contains-filter_parts, numbers-Contains, get_or-map-below, greatest_push}
 use Rattle.cpg_base.proofs.Lists.{greatest-le}
 use Rattle.cpg_order.specs.Urgency.{IsUrgencyOrder, IsTopological}
 use Rattle.cpg_order.proofs.Urgent.{urgent_total}
@@ -24,7 +25,7 @@ use Rattle.cpg_tracks.specs.Placing.{has_start, free_at, would_start, IsFed, IsS
 use Rattle.cpg_tracks.specs.Track.{Track, IsTrackOf, AreBy}
 use Rattle.cpg_tracks.specs.declared.timing.Timing.{Timing}
 use Rattle.cpg_tracks.specs.declared.schedule.Candidate.{Candidate}
-use Rattle.cpg_tracks.specs.declared.schedule.Fed.{Fed}
+use Rattle.cpg_tracks.specs.declared.schedule.FedProcess.{FedProcess}
 use Rattle.cpg_tracks.specs.Timing.{outcome_of, IsTiming, IsOnTheWay, AreFree, IsFedAt, AreFed, IsCandidate, IsBestOf, ComesFirst, IsBetterOf, IsChosen}
 use Rattle.cpg_tracks.proofs.GreedyUnique.{live_source}
 use Rattle.cpg_tracks.proofs.Feeding.{processes_of, processes_push}
@@ -222,7 +223,7 @@ either_within n order (Some b) other better r h k = elim r [
 ]
 
 -- one of what can be placed is a candidate
-is_candidate : (g : Graph) (o : List Bool) (starts : List (Option ℕ)) (free : List ℕ) (f : Fed) (c : Candidate) → AreFree g starts free → IsFedAt g o starts f →
+is_candidate : (g : Graph) (o : List Bool) (starts : List (Option ℕ)) (free : List ℕ) (f : FedProcess) (c : Candidate) → AreFree g starts free → IsFedAt g o starts f →
     node_of g f.process < length g.nodes → c.process ≡ f.process → c.start ≡ max f.ready (get_or free (node_of g f.process) 0) → IsCandidate g o starts c
 is_candidate g o starts free f c are is node process start = record {
   fed = subst (IsFed g o starts) (sym process) is.fed;
@@ -231,8 +232,8 @@ is_candidate g o starts free f c are is node process start = record {
 }
 
 -- the best after one more of what can be placed
-pub best_after : (g : Graph) (o : List Bool) (starts : List (Option ℕ)) (order : List ℕ) → IsUrgencyOrder g order → (free : List ℕ) (fed : List Fed) → AreFree g starts free →
-    AreFed g o starts fed → (i : ℕ) (d : Fed) → i < length fed → (best : Option Candidate) (other better : Candidate) → IsBestOf g o starts (processes_of (take i fed)) best →
+pub best_after : (g : Graph) (o : List Bool) (starts : List (Option ℕ)) (order : List ℕ) → IsUrgencyOrder g order → (free : List ℕ) (fed : List FedProcess) → AreFree g starts free →
+    AreFed g o starts fed → (i : ℕ) (d : FedProcess) → i < length fed → (best : Option Candidate) (other better : Candidate) → IsBestOf g o starts (processes_of (take i fed)) best →
     IsBetterOf order best other better → node_of g (get_or fed i d).process < length g.nodes → other.process ≡ (get_or fed i d).process →
     other.start ≡ max (get_or fed i d).ready (get_or free (node_of g (get_or fed i d).process) 0) → IsBestOf g o starts (processes_of (take (i + 1) fed)) (Some better)
 best_after g o starts order urgency free fed are_free are i d l best other better h r node process start =
@@ -249,19 +250,19 @@ active_at g t track i d l =
     (numbers-Contains (process_count g) (get_or t.active i d) r.0, r.1)
 
 -- the best of all that can be placed is the next
-pub chosen : (g : Graph) (o : List Bool) (starts : List (Option ℕ)) (fed : List Fed) → AreFed g o starts fed → (best : Option Candidate) →
+pub chosen : (g : Graph) (o : List Bool) (starts : List (Option ℕ)) (fed : List FedProcess) → AreFed g o starts fed → (best : Option Candidate) →
     IsBestOf g o starts (map (λ f. f.process) fed) best → IsChosen g o starts best
 chosen g o starts fed are None h = λ q f. h q (are.all q f) f
 chosen g o starts fed are (Some c) h = (record { fed = h.candidate.fed; best = λ q f ne. h.best q (are.all q f) f ne }, h.candidate.start)
 
 -- what is chosen, if the lists are these
-pub chosen_of : (g : Graph) (o : List Bool) (starts : List (Option ℕ)) (free frees : List ℕ) (fed feds : List Fed) (result answer : Option Candidate) → frees ≡ free → feds ≡ fed →
+pub chosen_of : (g : Graph) (o : List Bool) (starts : List (Option ℕ)) (free frees : List ℕ) (fed feds : List FedProcess) (result answer : Option Candidate) → frees ≡ free → feds ≡ fed →
     AreFree g starts free → AreFed g o starts fed → ((o : List Bool) (starts : List (Option ℕ)) → AreFree g starts frees → AreFed g o starts feds → IsChosen g o starts result) →
     result ≡ answer → IsChosen g o starts answer
 chosen_of g o starts free frees fed feds result answer same_free same_fed are_free are_fed says is =
     subst (IsChosen g o starts) is (says o starts (same_free ∙ are_free) (subst (AreFed g o starts) (sym same_fed) are_fed))
 
-pub fed_within : (g : Graph) (o : List Bool) (starts : List (Option ℕ)) (fed : List Fed) → AreFed g o starts fed → All (λ f. f.process < process_count g) fed
+pub fed_within : (g : Graph) (o : List Bool) (starts : List (Option ℕ)) (fed : List FedProcess) → AreFed g o starts fed → All (λ f. f.process < process_count g) fed
 fed_within g o starts fed are i d l = (are.each (get_or fed i d) (Contains-get_or fed i d l)).fed.within
 
 -- ---- one process is placed

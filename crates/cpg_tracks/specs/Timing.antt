@@ -11,7 +11,7 @@ use Rattle.cpg_order.specs.Links.{links_of}
 use Rattle.cpg_base.specs.Order.{place}
 use Rattle.cpg_tracks.specs.declared.timing.Timing.{Timing}
 use Rattle.cpg_tracks.specs.declared.schedule.Candidate.{Candidate}
-use Rattle.cpg_tracks.specs.declared.schedule.Fed.{Fed}
+use Rattle.cpg_tracks.specs.declared.schedule.FedProcess.{FedProcess}
 use Rattle.cpg_tracks.specs.Tracks.{ready_at}
 use Rattle.cpg_tracks.specs.Placing.{IsFed, IsNext, IsDone, IsSooner, would_start, free_at}
 use Rattle.cpg_tracks.specs.Track.{IsTrackOf, AreBy}
@@ -41,23 +41,23 @@ abbrev pub AreFree : Graph → List (Option ℕ) → List ℕ → Type 0
 AreFree g starts free = free ≡ map (free_at g starts) (numbers_below (length g.nodes))
 
 -- the process can be placed, and is ready then
-pub record IsFedAt (g : Graph) (o : List Bool) (starts : List (Option ℕ)) (f : Fed) : Type 0 where
+pub record IsFedAt (g : Graph) (o : List Bool) (starts : List (Option ℕ)) (f : FedProcess) : Type 0 where
   pub fed : IsFed g o starts f.process
   pub ready : f.ready ≡ ready_at g o starts f.process
 
 -- the processes that can be placed, each at least once
-pub record AreFed (g : Graph) (o : List Bool) (starts : List (Option ℕ)) (fed : List Fed) : Type 0 where
-  pub each : (f : Fed) → Contains fed f → IsFedAt g o starts f
+pub record AreFed (g : Graph) (o : List Bool) (starts : List (Option ℕ)) (fed : List FedProcess) : Type 0 where
+  pub each : (f : FedProcess) → Contains fed f → IsFedAt g o starts f
   pub all : (q : ℕ) → IsFed g o starts q → Contains (map (λ f. f.process) fed) q
 
 -- the same, but for the targets of p's live outputs, which may be missing
-pub record AreFedBut (g : Graph) (o : List Bool) (starts : List (Option ℕ)) (p : ℕ) (fed : List Fed) : Type 0 where
-  pub each : (f : Fed) → Contains fed f → IsFedAt g o starts f
+pub record AreFedBut (g : Graph) (o : List Bool) (starts : List (Option ℕ)) (p : ℕ) (fed : List FedProcess) : Type 0 where
+  pub each : (f : FedProcess) → Contains fed f → IsFedAt g o starts f
   pub all : (q : ℕ) → IsFed g o starts q → Contains (map (λ f. f.process) fed) q ⊎ ((e : ℕ) × Contains (outputs g p) e × (live g o e ≡ true) × (target g e ≡ q))
 
 -- p is added to them, if it can be placed
-pub record Feeds (g : Graph) (o : List Bool) (starts : List (Option ℕ)) (p : ℕ) (old new : List Fed) : Type 0 where
-  pub each : ((f : Fed) → Contains old f → IsFedAt g o starts f) → (f : Fed) → Contains new f → IsFedAt g o starts f
+pub record Feeds (g : Graph) (o : List Bool) (starts : List (Option ℕ)) (p : ℕ) (old new : List FedProcess) : Type 0 where
+  pub each : ((f : FedProcess) → Contains old f → IsFedAt g o starts f) → (f : FedProcess) → Contains new f → IsFedAt g o starts f
   pub kept : (q : ℕ) → Contains (map (λ f. f.process) old) q → Contains (map (λ f. f.process) new) q
   pub added : IsFed g o starts p → Contains (map (λ f. f.process) new) p
 

@@ -47,7 +47,7 @@ impl Starts {
 
 /// A process that can be placed, and when it is ready, in time units.
 #[derive(Clone, Copy, Debug, PartialEq, Eq)]
-pub(crate) struct Fed {
+pub(crate) struct FedProcess {
     pub(crate) process: u32,
     pub(crate) ready: u64,
 }
@@ -118,7 +118,7 @@ fn feed(
     timing: &Timing<'_>,
     starts: &[Option<u64>],
     process: u32,
-    fed: &mut Vec<Fed>,
+    fed: &mut Vec<FedProcess>,
 ) -> Result<(), OutOfMemory>
     requires timing { IsTiming problem.now timing.now }
     requires starts { IsOnTheWay problem.now starts.now }
@@ -129,7 +129,7 @@ fn feed(
         return Ok(());
     }
     if let Some(ready) = ready_time(problem, timing, starts, process) {
-        fed.push(Fed { process, ready })?;
+        fed.push(FedProcess { process, ready })?;
     }
     Ok(())
 }
@@ -140,7 +140,7 @@ fn all_fed(
     problem: &Problem,
     timing: &Timing<'_>,
     starts: &[Option<u64>],
-) -> Result<Vec<Fed>, OutOfMemory>
+) -> Result<Vec<FedProcess>, OutOfMemory>
     requires timing { IsTiming problem.now timing.now }
     requires starts { IsOnTheWay problem.now starts.now }
     ensures { IfOk result (λ fed. AreFed problem.now (outcome_of timing.now) starts.now fed.items) }
@@ -160,7 +160,7 @@ fn feed_targets(
     timing: &Timing<'_>,
     starts: &[Option<u64>],
     process: u32,
-    fed: &mut Vec<Fed>,
+    fed: &mut Vec<FedProcess>,
 ) -> Result<(), OutOfMemory>
     requires timing { IsTiming problem.now timing.now }
     requires starts { IsOnTheWay problem.now starts.now }
@@ -177,14 +177,14 @@ fn feed_targets(
 }
 
 /// Leaves out a process.
-fn drop_placed(fed: &mut Vec<Fed>, process: u32)
+fn drop_placed(fed: &mut Vec<FedProcess>, process: u32)
     ensures { fed.new.items ≡ filter (λ f. not (f.process == process)) fed.old.items }
 {
     fed.retain(|it| it.process != process);
 }
 
 /// A process that can be placed as a candidate.
-fn candidate_of(problem: &Problem, free: &[u64], fed: Fed) -> Candidate
+fn candidate_of(problem: &Problem, free: &[u64], fed: FedProcess) -> Candidate
     requires free { length free.now ≡ length problem.now.nodes }
     requires process { fed.process < process_count problem.now }
     ensures process { result.process ≡ fed.process }
@@ -230,7 +230,7 @@ fn better(order: &Order, best: Option<Candidate>, other: Candidate) -> Candidate
 
 /// The process to place next: of those that can be placed the one that would start first, and of several the most urgent.
 /// `None` exactly if none can be placed.
-fn next(problem: &Problem, order: &Order, free: &[u64], fed: &[Fed]) -> Option<Candidate>
+fn next(problem: &Problem, order: &Order, free: &[u64], fed: &[FedProcess]) -> Option<Candidate>
     requires order { IsUrgencyOrder problem.now order.now }
     requires free { length free.now ≡ length problem.now.nodes }
     requires within { All (λ f. f.process < process_count problem.now) fed.now }

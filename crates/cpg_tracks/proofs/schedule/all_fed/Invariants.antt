@@ -1,11 +1,11 @@
 use Rattle.std.proofs.Common.{ℕ, ◌<◌, Contains, map}
 use Rattle.cpg_tracks.specs.Placing.{IsFed}
 use Rattle.cpg_tracks.specs.Timing.{outcome_of, IsFedAt}
-use Rattle.cpg_tracks.specs.declared.schedule.Fed.{Fed}
+use Rattle.cpg_tracks.specs.declared.schedule.FedProcess.{FedProcess}
 use Rattle.cpg_tracks.proofs.schedule.all_fed.Given as goal
 
 abbrev pub invariant-loop-process : goal.invariant-loop-process
 invariant-loop-process l = record {
-  each : (f : Fed) → Contains l.fed.items f → IsFedAt l.problem (outcome_of l.timing) l.starts f;
+  each : (f : FedProcess) → Contains l.fed.items f → IsFedAt l.problem (outcome_of l.timing) l.starts f;
   all : (q : ℕ) → q < l.process → IsFed l.problem (outcome_of l.timing) l.starts q → Contains (map (λ f. f.process) l.fed.items) q;
 }

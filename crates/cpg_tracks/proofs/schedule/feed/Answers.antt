@@ -1,8 +1,8 @@
-use Rattle.std.proofs.Common.{◌≡◌, ◌∙◌, false, true, sym, subst, arith}
+use Rattle.std.proofs.Common.{◌∙◌, sym, subst, arith}
 use Rattle.std.proofs.lemmas.Bool.{both_ways}
 use Rattle.cpg_base.specs.Activity.{active}
 use Rattle.cpg_tracks.specs.Timing.{outcome_of, Feeds}
-use Rattle.cpg_tracks.proofs.GreedySteps.{active_is, active_long, some_at}
+use Rattle.cpg_tracks.proofs.GreedySteps.{active_is, active_long}
 use Rattle.cpg_tracks.proofs.Feeding.{feeds_none, feeds_one}
 use Rattle.cpg_tracks.proofs.schedule.feed.Goals as goal
 

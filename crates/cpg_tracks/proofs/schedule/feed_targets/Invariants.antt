@@ -1,13 +1,13 @@
 use Rattle.std.proofs.Common.{ℕ, Contains, map, take}
 use Rattle.cpg_base.specs.Graph.{outputs}
 use Rattle.cpg_tracks.specs.Timing.{outcome_of, IsFedAt}
-use Rattle.cpg_tracks.specs.declared.schedule.Fed.{Fed}
+use Rattle.cpg_tracks.specs.declared.schedule.FedProcess.{FedProcess}
 use Rattle.cpg_tracks.proofs.Feeding.{AreTargetsFed}
 use Rattle.cpg_tracks.proofs.schedule.feed_targets.Given as goal
 
 abbrev pub invariant-loop-edge : goal.invariant-loop-edge
 invariant-loop-edge l = record {
-  each : (f : Fed) → Contains l.fed.items f → IsFedAt l.problem (outcome_of l.timing) l.starts f;
+  each : (f : FedProcess) → Contains l.fed.items f → IsFedAt l.problem (outcome_of l.timing) l.starts f;
   kept : (q : ℕ) → Contains (map (λ f. f.process) l.fn.fed.items) q → Contains (map (λ f. f.process) l.fed.items) q;
   targets : AreTargetsFed l.problem (outcome_of l.timing) l.starts (take l.edge-index (outputs l.problem l.process)) l.fed.items;
 }

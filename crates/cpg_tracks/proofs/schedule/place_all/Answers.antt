@@ -2,7 +2,7 @@ use Rattle.std.proofs.Common.{◌≡◌, ◌+◌, ◌<◌, ◌≤◌, ◌∙◌,
 use Rattle.cpg_base.specs.Graph.{process_count}
 use Rattle.cpg_base.proofs.Bounds.{duration-le}
 use Rattle.cpg_tracks.specs.Timing.{IsOnTheWay, AreFed, AreFedBut, outcome_of}
-use Rattle.cpg_tracks.specs.declared.schedule.Fed.{Fed}
+use Rattle.cpg_tracks.specs.declared.schedule.FedProcess.{FedProcess}
 use Rattle.cpg_tracks.proofs.GreedySteps.{HavePlaced, placed_first, placed_open, placed_early, placed_late, placed_more, placed_whole, placed_greedy, frees_long, chosen_of, fed_within}
 use Rattle.cpg_tracks.proofs.GreedySteps.{duration_at, durations_long}
 use Rattle.cpg_tracks.proofs.Feeding.{fed_next}
@@ -36,7 +36,7 @@ next-requires-clause-free c =
 pub next-requires-clause-within : goal.next-requires-clause-within
 next-requires-clause-within c =
     let g = c.args.problem.now in
-    subst (λ xs. All (λ (f : Fed). f.process < process_count g) xs) (sym c.as_slice-in-loop-placed-2.ensures.value)
+    subst (λ xs. All (λ (f : FedProcess). f.process < process_count g) xs) (sym c.as_slice-in-loop-placed-2.ensures.value)
     (fed_within g c.args.track.now.outcome c.loop-placed.starts.items c.loop-placed.fed.items c.loop-placed.invariant.fed)
 
 pub returns-in_default-clause-greedy : goal.returns-in_default-clause-greedy
