@@ -6,7 +6,7 @@ ghost use Rattle.cpg_tree.specs.Flat.{IsFlat, flat};
 ghost use Rattle.cpg_tree.specs.Greater.{IsAtLeast, are_from, most_from};
 ghost use Rattle.cpg_tree.specs.TreeNode.{TreeNode, Fork};
 
-use crate::item::TreeItem;
+use crate::item::{TreeItem, put};
 use crate::reading::Reading;
 use crate::top::{Top, top_of};
 use cpg_base::OutOfMemory;
@@ -89,7 +89,26 @@ pub(crate) fn sides<'a, T: Copy>(
 }
 
 /// Adds the span of each fork behind those of its sides; the span of the tree.
+#[cycle(bounds)]
+#[inline(always)]
 pub(crate) fn push_bounds<T: Copy, R: Reading<T>>(
+    items: &[TreeItem<T>],
+    read: &R,
+    bounds: &mut Vec<Span>,
+) -> Result<Span, OutOfMemory>
+    requires { IsFlat items.now }
+    ensures bounds { IfOk result (λ _. (n : TreeNode T) → items.now ≡ flat n → bounds.new.items ≡ bounds.old.items ++ bounds_in (R.number read.now) n) }
+    ensures span { IfOk result (λ r. (n : TreeNode T) → items.now ≡ flat n → r ≡ span_in (R.number read.now) n) }
+{
+    match top_of(items) {
+        Top::Value(value) => Ok(Span::of(read.number(value))),
+        Top::Cut { .. } => push_fork_bounds(items, read, bounds),
+    }
+}
+
+/// As `push_bounds`, which is written out where it is called, so that values take no call.
+#[cycle(bounds)]
+fn push_fork_bounds<T: Copy, R: Reading<T>>(
     items: &[TreeItem<T>],
     read: &R,
     bounds: &mut Vec<Span>,
@@ -104,7 +123,7 @@ pub(crate) fn push_bounds<T: Copy, R: Reading<T>>(
             let low = push_bounds(below, read, bounds)?;
             let high = push_bounds(above, read, bounds)?;
             let span = low.with(high);
-            bounds.push(span)?;
+            put(bounds, span)?;
             Ok(span)
         }
     }

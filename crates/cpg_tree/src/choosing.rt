@@ -12,7 +12,7 @@ use crate::asked::SpacePair;
 use crate::bounds::{BoundedTree, push_bounds};
 use crate::fork::fork;
 use crate::greater::{Greater, greater_by};
-use crate::item::TreeItem;
+use crate::item::{TreeItem, put};
 use crate::reading::Reading;
 use crate::space::Space;
 use crate::top::{Top, top_of};
@@ -53,8 +53,7 @@ fn greater_where<T: Copy, U: Copy, V: Copy + Eq, R: Reading<T>, S: Reading<U>, F
             if is_on {
                 return greater_by(pair.own, pair.other, spaces, how, out);
             }
-            out.push(TreeItem::Value(none))?;
-            Ok(())
+            put(out, TreeItem::Value(none))
         }
         Top::Cut {
             variable,

@@ -5,7 +5,7 @@ ghost use Rattle.cpg_tree.specs.declared.item.TreeItem.{TreeItem};
 ghost use Rattle.cpg_tree.specs.declared.item.TreeItem.TheVariants.{Cut};
 ghost use Rattle.cpg_tree.specs.Added.{ForksEnd, RepeatsBelow};
 
-use crate::item::{TreeItem, are_same_items};
+use crate::item::{TreeItem, are_same_items, put};
 use cpg_base::OutOfMemory;
 
 /// Whether the two lists are equal.
@@ -85,6 +85,7 @@ fn take_out<T: Copy>(out: &mut Vec<TreeItem<T>>, from: usize, count: usize)
 }
 
 /// Adds a fork whose side below has `count` items.
+#[inline(always)]
 fn push_cut<T: Copy>(
     out: &mut Vec<TreeItem<T>>,
     variable: u8,
@@ -96,15 +97,16 @@ fn push_cut<T: Copy>(
     let Ok(below) = u32::try_from(count) else {
         return Err(OutOfMemory);
     };
-    out.push(TreeItem::Cut {
+    let item = TreeItem::Cut {
         variable,
         cut,
         below,
-    })?;
-    Ok(())
+    };
+    put(out, item)
 }
 
 /// A fork of the two trees that a list ends in, from a start and a middle on.
+#[inline(always)]
 pub fn fork_of<T: Copy>(
     out: &mut Vec<TreeItem<T>>,
     start: usize,
@@ -144,7 +146,7 @@ fn are_apart<T: Copy + Eq>(below: TreeItem<T>, above: TreeItem<T>, variable: u8)
 }
 
 /// `are_apart` for the last two trees of a list.
-#[inline]
+#[inline(always)]
 fn sides_are_apart<T: Copy + Eq>(items: &[TreeItem<T>], middle: usize, variable: u8) -> bool {
     if middle == 0 || middle >= items.len() {
         return false;
@@ -154,6 +156,7 @@ fn sides_are_apart<T: Copy + Eq>(items: &[TreeItem<T>], middle: usize, variable:
 
 /// A fork of the two trees that a list ends in, from a start and a middle on, or one tree if both are equal. If the side
 /// above is a fork on the same variable with an equal side below, the first cut is left out.
+#[inline(always)]
 pub(crate) fn fork<T: Copy + Eq>(
     out: &mut Vec<TreeItem<T>>,
     start: usize,

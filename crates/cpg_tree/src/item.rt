@@ -1,6 +1,8 @@
 //! What a tree's list holds.
-ghost use Rattle.std.specs.Prelude.{◌≡◌, true};
+ghost use Rattle.std.specs.Prelude.{◌≡◌, ◌++◌, ◌∷◌, [], true, IfOk};
 ghost use Rattle.std.specs.Bool.{OnTrue};
+
+use cpg_base::OutOfMemory;
 
 /// A value, or a fork by the number of a variable, behind the items of its sides: those of the side below, then those
 /// of the side above.
@@ -52,4 +54,17 @@ pub(crate) fn are_same_items<T: Copy + Eq>(one: &[TreeItem<T>], other: &[TreeIte
         }
     }
     true
+}
+
+/// Adds an item. Mostly there is room for it, which is then all that is asked.
+#[inline(always)]
+pub(crate) fn put<T: Copy>(list: &mut Vec<T>, item: T) -> Result<(), OutOfMemory>
+    ensures { IfOk result (λ _. list.new.items ≡ list.old.items ++ (item ∷ [])) }
+{
+    if list.len() < list.capacity() {
+        list.push_reserved(item);
+        return Ok(());
+    }
+    list.push(item)?;
+    Ok(())
 }

@@ -5,13 +5,15 @@ ghost use Rattle.cpg_tree.specs.Flat.{IsFlat, flat};
 ghost use Rattle.cpg_tree.specs.Added.{AddsTree, IsFilled, IsJoined};
 
 use crate::fork::fork;
-use crate::item::TreeItem;
+use crate::item::{TreeItem, put};
 use crate::part::part_in;
 use crate::space::Space;
 use crate::top::{Top, top_of};
 use cpg_base::OutOfMemory;
 
 /// Adds the tree of the answers to a value and the values, for the scenarios of a space.
+#[cycle(fill)]
+#[inline(always)]
 pub(crate) fn fill_items<T: Copy, U: Copy, V: Copy + Eq, F: Fn(T, U) -> V>(
     items: &[TreeItem<U>],
     space: &mut Space,
@@ -27,10 +29,29 @@ pub(crate) fn fill_items<T: Copy, U: Copy, V: Copy + Eq, F: Fn(T, U) -> V>(
     ensures made { IfOk result (λ _. (n : TreeNode U) → items.now ≡ flat n → AddsTree (IsFilled (F.post f.now) space.old value n) out.old.items out.new.items) }
 {
     match top_of(items) {
-        Top::Value(other) => {
-            out.push(TreeItem::Value(f(value, other)))?;
-            Ok(())
-        }
+        Top::Value(other) => put(out, TreeItem::Value(f(value, other))),
+        Top::Cut { .. } => fill_fork(items, space, value, f, out),
+    }
+}
+
+/// As `fill_items`, which is written out where it is called, so that values take no call.
+#[cycle(fill)]
+fn fill_fork<T: Copy, U: Copy, V: Copy + Eq, F: Fn(T, U) -> V>(
+    items: &[TreeItem<U>],
+    space: &mut Space,
+    value: T,
+    f: &F,
+    out: &mut Vec<TreeItem<V>>,
+) -> Result<(), OutOfMemory>
+    requires callable { F.IsAlwaysCallable f.now }
+    requires equal { (x y : V) → V.eq x y ≡ true → x ≡ y }
+    requires flat { IsFlat items.now }
+    ensures long { IfOk result (λ _. vec_len out.old ≤ vec_len out.new) }
+    ensures back { IfOk result (λ _. space.new ≡ space.old) }
+    ensures made { IfOk result (λ _. (n : TreeNode U) → items.now ≡ flat n → AddsTree (IsFilled (F.post f.now) space.old value n) out.old.items out.new.items) }
+{
+    match top_of(items) {
+        Top::Value(other) => put(out, TreeItem::Value(f(value, other))),
         Top::Cut {
             variable,
             cut,
@@ -38,10 +59,10 @@ pub(crate) fn fill_items<T: Copy, U: Copy, V: Copy + Eq, F: Fn(T, U) -> V>(
             above,
         } => {
             if !space.is_open_below(variable, cut) {
-                return fill_items(above, space, value, f, out);
+                return fill_fork(above, space, value, f, out);
             }
             if !space.is_open_above(variable, cut) {
-                return fill_items(below, space, value, f, out);
+                return fill_fork(below, space, value, f, out);
             }
             let start = out.len();
             let most = space.close_above(variable, cut);
@@ -57,6 +78,7 @@ pub(crate) fn fill_items<T: Copy, U: Copy, V: Copy + Eq, F: Fn(T, U) -> V>(
 }
 
 /// Adds the tree of the answers to the values of two trees, for the scenarios of a space.
+#[cycle(join)]
 pub(crate) fn join_items<T: Copy, U: Copy, V: Copy + Eq, F: Fn(T, U) -> V>(
     items: &[TreeItem<T>],
     other: &[TreeItem<U>],
@@ -91,13 +113,41 @@ pub(crate) fn join_items<T: Copy, U: Copy, V: Copy + Eq, F: Fn(T, U) -> V>(
             }
             let start = out.len();
             let most = space.close_above(variable, cut);
-            join_items(below, other, space, f, out)?;
+            join_side(below, other, space, f, out)?;
             space.reopen_above(variable, most);
             let middle = out.len();
             let least = space.close_below(variable, cut);
-            join_items(above, other, space, f, out)?;
+            join_side(above, other, space, f, out)?;
             space.reopen_below(variable, least);
             fork(out, start, middle, variable, cut)
         }
+    }
+}
+
+/// As `join_items`, written out where it is called, so that values take no call.
+#[cycle(join)]
+#[inline(always)]
+fn join_side<T: Copy, U: Copy, V: Copy + Eq, F: Fn(T, U) -> V>(
+    items: &[TreeItem<T>],
+    other: &[TreeItem<U>],
+    space: &mut Space,
+    f: &F,
+    out: &mut Vec<TreeItem<V>>,
+) -> Result<(), OutOfMemory>
+    requires callable { F.IsAlwaysCallable f.now }
+    requires equal { (x y : V) → V.eq x y ≡ true → x ≡ y }
+    requires flat { IsFlat items.now }
+    requires other_flat { IsFlat other.now }
+    ensures long { IfOk result (λ _. vec_len out.old ≤ vec_len out.new) }
+    ensures back { IfOk result (λ _. space.new ≡ space.old) }
+    ensures made { IfOk result (λ _. (n : TreeNode T) (m : TreeNode U) → items.now ≡ flat n → other.now ≡ flat m →
+        AddsTree (IsJoined (F.post f.now) space.old n m) out.old.items out.new.items) }
+{
+    match top_of(items) {
+        Top::Value(value) => {
+            let other = part_in(other, space);
+            fill_items(other, space, value, f, out)
+        }
+        Top::Cut { .. } => join_items(items, other, space, f, out),
     }
 }

@@ -5,11 +5,13 @@ ghost use Rattle.cpg_tree.specs.Flat.{IsFlat, flat};
 ghost use Rattle.cpg_tree.specs.Added.{AddsTree, IsMapped};
 
 use crate::fork::fork;
-use crate::item::TreeItem;
+use crate::item::{TreeItem, put};
 use crate::top::{Top, top_of};
 use cpg_base::OutOfMemory;
 
 /// Adds the tree of the answers.
+#[cycle(map)]
+#[inline(always)]
 pub(crate) fn map_items<T: Copy, U: Copy + Eq, F: Fn(T) -> U>(
     items: &[TreeItem<T>],
     f: &F,
@@ -22,10 +24,26 @@ pub(crate) fn map_items<T: Copy, U: Copy + Eq, F: Fn(T) -> U>(
     ensures made { IfOk result (λ _. (n : TreeNode T) → items.now ≡ flat n → AddsTree (IsMapped (F.post f.now) n) out.old.items out.new.items) }
 {
     match top_of(items) {
-        Top::Value(value) => {
-            out.push(TreeItem::Value(f(value)))?;
-            Ok(())
-        }
+        Top::Value(value) => put(out, TreeItem::Value(f(value))),
+        Top::Cut { .. } => map_fork(items, f, out),
+    }
+}
+
+/// As `map_items`, which is written out where it is called, so that values take no call.
+#[cycle(map)]
+fn map_fork<T: Copy, U: Copy + Eq, F: Fn(T) -> U>(
+    items: &[TreeItem<T>],
+    f: &F,
+    out: &mut Vec<TreeItem<U>>,
+) -> Result<(), OutOfMemory>
+    requires callable { F.IsAlwaysCallable f.now }
+    requires equal { (x y : U) → U.eq x y ≡ true → x ≡ y }
+    requires flat { IsFlat items.now }
+    ensures long { IfOk result (λ _. vec_len out.old ≤ vec_len out.new) }
+    ensures made { IfOk result (λ _. (n : TreeNode T) → items.now ≡ flat n → AddsTree (IsMapped (F.post f.now) n) out.old.items out.new.items) }
+{
+    match top_of(items) {
+        Top::Value(value) => put(out, TreeItem::Value(f(value))),
         Top::Cut {
             variable,
             cut,

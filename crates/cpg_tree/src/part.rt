@@ -8,7 +8,19 @@ use crate::item::TreeItem;
 use crate::space::Space;
 use crate::top::{Top, top_of};
 
+/// As `part_in`, which is written out where it is called.
+#[cycle(part)]
+fn part_of<'a, T: Copy>(items: &'a [TreeItem<T>], space: &Space) -> &'a [TreeItem<T>]
+    requires { IsFlat items.now }
+    ensures part { (n : TreeNode T) → items.now ≡ flat n → IsPartList space.now n result.now }
+    ensures flat { IsFlat result.now }
+{
+    part_in(items, space)
+}
+
 /// The part of a tree that a space comes to: without the forks at the top of which it closes a side.
+#[cycle(part)]
+#[inline(always)]
 pub fn part_in<'a, T: Copy>(items: &'a [TreeItem<T>], space: &Space) -> &'a [TreeItem<T>]
     requires { IsFlat items.now }
     ensures part { (n : TreeNode T) → items.now ≡ flat n → IsPartList space.now n result.now }
@@ -23,10 +35,10 @@ pub fn part_in<'a, T: Copy>(items: &'a [TreeItem<T>], space: &Space) -> &'a [Tre
             above,
         } => {
             if !space.is_open_below(variable, cut) {
-                return part_in(above, space);
+                return part_of(above, space);
             }
             if !space.is_open_above(variable, cut) {
-                return part_in(below, space);
+                return part_of(below, space);
             }
             items
         }

@@ -34,12 +34,13 @@ returns-then-is_on-clause-made g t c =
     (λ u made chooser n m are own others. where_value_on answers c.args.none c.args.spaces.now chooser c.args.chooser.now are n m c.args.out.now.items c.greater_by.new.out.items
     (c.in-Value.ensures.shows ∙ ap (λ b. flat (Leaf b)) c.if-is_on.true) (made n m own others))
 
-pub returns-in_ok-push-in-Value-clause-made : goal.returns-in_ok-push-in-Value-clause-made
-returns-in_ok-push-in-Value-clause-made g t c chooser n m are own others =
+pub returns-else-is_on-clause-made : goal.returns-else-is_on-clause-made
+returns-else-is_on-clause-made g t c =
     let answers : g.row.T.Denot → g.row.U.Denot → g.row.V.Denot → Type 0 = λ x y z. g.F.Fn.post c.args.how.now.made.now
     (max (g.R.Reading.number c.args.how.now.read.now x) (g.S.Reading.number c.args.how.now.other_reading.now y), tt) z in
-    where_value_off answers c.args.none c.args.spaces.now chooser c.args.chooser.now are n m c.args.out.now.items c.push.new.self.items
-    (c.in-Value.ensures.shows ∙ ap (λ b. flat (Leaf b)) c.if-is_on.false) c.in_ok-push-in-Value.ensures.items
+    of_answer c.put.result _ _ c.put.ensures
+    (λ u added chooser n m are own others. where_value_off answers c.args.none c.args.spaces.now chooser c.args.chooser.now are n m c.args.out.now.items c.put.new.list.items
+    (c.in-Value.ensures.shows ∙ ap (λ b. flat (Leaf b)) c.if-is_on.false) added)
 
 pub returns-in_ok-greater_where-in-Cut-2-clause-made : goal.returns-in_ok-greater_where-in-Cut-2-clause-made
 returns-in_ok-greater_where-in-Cut-2-clause-made g t c =

@@ -1,0 +1,8 @@
+use Rattle.std.proofs.Common.{◌+◌, ◌*◌, length}
+use Rattle.cpg_tree.proofs.bounds.+bounds.Given as goal
+
+abbrev pub decreases-push_bounds : goal.decreases-push_bounds
+decreases-push_bounds g l = length l.items.now * 2 + 1
+
+abbrev pub decreases-push_fork_bounds : goal.decreases-push_fork_bounds
+decreases-push_fork_bounds g l = length l.items.now * 2

@@ -1,0 +1,8 @@
+use Rattle.std.proofs.Common.{◌+◌, ◌*◌, length}
+use Rattle.cpg_tree.proofs.join.+fill.Given as goal
+
+abbrev pub decreases-fill_items : goal.decreases-fill_items
+decreases-fill_items g l = length l.items.now * 2 + 1
+
+abbrev pub decreases-fill_fork : goal.decreases-fill_fork
+decreases-fill_fork g l = length l.items.now * 2

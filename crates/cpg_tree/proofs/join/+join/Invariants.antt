@@ -1,0 +1,8 @@
+use Rattle.std.proofs.Common.{◌+◌, ◌*◌, length}
+use Rattle.cpg_tree.proofs.join.+join.Given as goal
+
+abbrev pub decreases-join_items : goal.decreases-join_items
+decreases-join_items g l = length l.items.now * 2
+
+abbrev pub decreases-join_side : goal.decreases-join_side
+decreases-join_side g l = length l.items.now * 2 + 1

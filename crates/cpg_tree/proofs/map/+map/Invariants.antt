@@ -1,0 +1,8 @@
+use Rattle.std.proofs.Common.{◌+◌, ◌*◌, length}
+use Rattle.cpg_tree.proofs.map.+map.Given as goal
+
+abbrev pub decreases-map_items : goal.decreases-map_items
+decreases-map_items g l = length l.items.now * 2 + 1
+
+abbrev pub decreases-map_fork : goal.decreases-map_fork
+decreases-map_fork g l = length l.items.now * 2

@@ -1,0 +1,8 @@
+use Rattle.std.proofs.Common.{◌+◌, ◌*◌, length}
+use Rattle.cpg_tree.proofs.part.+part.Given as goal
+
+abbrev pub decreases-part_in : goal.decreases-part_in
+decreases-part_in g l = length l.items.now * 2
+
+abbrev pub decreases-part_of : goal.decreases-part_of
+decreases-part_of g l = length l.items.now * 2 + 1
