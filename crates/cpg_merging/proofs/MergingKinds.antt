@@ -2,13 +2,14 @@
 use Rattle.std.proofs.Common.{ℕ, ◌+◌, ◌%◌, ◌^◌, ◌<◌, ◌≤◌, ◌≡◌, ◌≢◌, Bool, true, false, List, length, get_or, filter, map, sum_by, Contains, arith, refl, sym, ap, ◌∙◌, subst, inl, inr, true≢false}
 use Rattle.std.proofs.lemmas.List.Elements.{All-contains}
 use Rattle.cpg_base.specs.Graph.{Graph, process_count, IsVariable}
+use Rattle.cpg_base.proofs.Sums.{sum_by_constant}
 use Rattle.cpg_base.proofs.Lists.{Contains-filter, Contains-map, Contains-nil}
 use Rattle.std.proofs.lemmas.List.{nil_from_length}
 use Rattle.cpg_cube.specs.declared.literal.Literal.{Literal}
 use Rattle.cpg_cube.specs.Cube.{low_in, high_in}
 use Rattle.cpg_cube.specs.Column.{Column}
 use Rattle.cpg_merging.specs.Demands.{low_of}
-use Rattle.cpg_merging.specs.Kinds.{AreTold, HoldCandidates, is_candidate, kind_of, square_of}
+use Rattle.cpg_merging.specs.Kinds.{AreTold, HoldCandidates, is_candidate, kind_of, variable_of}
 use Rattle.cpg_merging.specs.Merging.{without, TouchAt, IsSettledOn}
 use Rattle.cpg_merging.specs.Totals.{AreMarked, AreMarkedBy, IsMarked, mixed, place_in, total_of}
 use Rattle.cpg_merging.proofs.MergingDemands.{top_small}
@@ -43,6 +44,10 @@ both_chosen told differing columns long tell c d there other same apart = (
 
 -- ---- columns that touch
 
+-- one for each literal, by which they are counted
+abbrev one_of : Literal → ℕ
+one_of l = 1
+
 module _ (g : Graph) (few : process_count g ≤ 128) (faults : g.faults ≤ 8) (v : ℕ) (known : IsVariable g v) where
   touch_kinds : (c d : Column) → IsGood g c.cube → IsGood g d.cube → c.time ≡ d.time → TouchAt g.faults v c.cube d.cube → ((kind_of c).number ≡ (kind_of d).number) ×
       ((kind_of c).asked ≢ (kind_of d).asked)
@@ -56,18 +61,22 @@ module _ (g : Graph) (few : process_count g ≤ 128) (faults : g.faults ≤ 8) (
       let ld : Contains d.cube (of_range k d.cube v) = spoken k d.cube v (inl (omega (arith, next))) in
       let sum_c : sum_by low_of c.cube ≡ sum_by low_of (without v c.cube) + low_in c.cube v = sum_parts low_of v c.cube good_c.cube.rising (of_range k c.cube v) lc refl in
       let sum_d : sum_by low_of d.cube ≡ sum_by low_of (without v d.cube) + low_in d.cube v = sum_parts low_of v d.cube good_d.cube.rising (of_range k d.cube v) ld refl in
-      let squares_c = sum_parts square_of v c.cube good_c.cube.rising (of_range k c.cube v) lc refl in
-      let squares_d = sum_parts square_of v d.cube good_d.cube.rising (of_range k d.cube v) ld refl in
+      let count_c : sum_by one_of c.cube ≡ sum_by one_of (without v c.cube) + 1 = sum_parts one_of v c.cube good_c.cube.rising (of_range k c.cube v) lc refl in
+      let variables_c : sum_by variable_of c.cube ≡ sum_by variable_of (without v c.cube) + v = sum_parts variable_of v c.cube good_c.cube.rising (of_range k c.cube v) lc refl in
+      let variables_d : sum_by variable_of d.cube ≡ sum_by variable_of (without v d.cube) + v = sum_parts variable_of v d.cube good_d.cube.rising (of_range k d.cube v) ld refl in
+      let count_d : sum_by one_of d.cube ≡ sum_by one_of (without v d.cube) + 1 = sum_parts one_of v d.cube good_d.cube.rising (of_range k d.cube v) ld refl in
       let others = same_without g few v known c.cube d.cube good_c good_d touch.others in (
-        numbers c.time d.time (sum_by square_of c.cube) (sum_by square_of d.cube) same
-            (squares_c ∙ ap (λ (ls : List Literal). sum_by square_of ls + square_of (of_range k d.cube v)) others ∙ sym squares_d),
+        numbers c.time d.time (length c.cube) (length d.cube) (sum_by variable_of c.cube) (sum_by variable_of d.cube) same
+            (omega (arith, sum_by_constant 1 c.cube, sum_by_constant 1 d.cube, count_c, count_d, ap (sum_by one_of) others))
+            (variables_c ∙ ap (λ (ls : List Literal). sum_by variable_of ls + v) others ∙ sym variables_d),
         apart (sum_by low_of c.cube) (sum_by low_of d.cube) (sum_by low_of (without v d.cube)) (low_in c.cube v) (low_in d.cube v)
             (sum_c ∙ ap (λ (ls : List Literal). sum_by low_of ls + low_in c.cube v) others) sum_d
             (omega (arith, low_c, next)) (omega (arith, low_d, high_d, top_small g few faults v known)),
       )
     where
-      numbers : (t u a b : ℕ) → t ≡ u → a ≡ b → mixed (mixed 0 t) (a % 2 ^ 64) ≡ mixed (mixed 0 u) (b % 2 ^ 64)
-      numbers t u a b e f = ap (λ (x : ℕ). mixed (mixed 0 x) (a % 2 ^ 64)) e ∙ ap (λ (x : ℕ). mixed (mixed 0 u) (x % 2 ^ 64)) f
+      numbers : (t u a b s r : ℕ) → t ≡ u → a ≡ b → s ≡ r → mixed (mixed (mixed 0 t) a) (s % 256) ≡ mixed (mixed (mixed 0 u) b) (r % 256)
+      numbers t u a b s r e f h = ap (λ (x : ℕ). mixed (mixed (mixed 0 x) a) (s % 256)) e ∙ ap (λ (x : ℕ). mixed (mixed (mixed 0 u) x) (s % 256)) f
+          ∙ ap (λ (x : ℕ). mixed (mixed (mixed 0 u) b) (x % 256)) h
 
       apart : (a b w low high : ℕ) → a ≡ w + low → b ≡ w + high → low < high → high ≤ 8 → a % 256 ≢ b % 256
       apart a b w low high e f less small same = omega (arith, e, f, less, small, same)

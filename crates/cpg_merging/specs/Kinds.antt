@@ -1,18 +1,18 @@
 -- Kinds of columns: columns that touch have one time and literals on the same variables, and ask differently much above 0 in all.
-use Rattle.std.specs.Prelude.{ℕ, ◌*◌, ◌%◌, ◌^◌, ◌≡◌, ◌≢◌, Bool, false, List, length, get_or, sum_by, Contains}
+use Rattle.std.specs.Prelude.{ℕ, ◌%◌, ◌≡◌, ◌≢◌, Bool, false, List, length, get_or, sum_by, Contains}
 use Rattle.cpg_cube.specs.declared.literal.Literal.{Literal}
 use Rattle.cpg_cube.specs.Column.{Column}
 use Rattle.cpg_merging.specs.declared.kinds.ColumnKind.{ColumnKind}
 use Rattle.cpg_merging.specs.Demands.{low_of}
 use Rattle.cpg_merging.specs.Totals.{mixed, place_in, IsMarked}
 
--- the square of a literal's variable
-abbrev pub square_of : Literal → ℕ
-square_of l = l.variable * l.variable % 2 ^ 64
+-- the variable of a literal
+abbrev pub variable_of : Literal → ℕ
+variable_of l = l.variable
 
 -- the kind of a column with this time and these literals
 abbrev pub kind_by : ℕ → List Literal → ColumnKind
-kind_by time literals = record { number = mixed (mixed 0 time) (sum_by square_of literals % 2 ^ 64); asked = sum_by low_of literals % 256 }
+kind_by time literals = record { number = mixed (mixed (mixed 0 time) (length literals)) (sum_by variable_of literals % 256); asked = sum_by low_of literals % 256 }
 
 -- the kind of a column
 abbrev pub kind_of : Column → ColumnKind

@@ -2,7 +2,7 @@
 //! be looked at.
 ghost use Rattle.std.specs.Prelude.{ℕ, ◌≡◌, ◌%◌, ◌^◌, ◌<◌, IfOk, filter, get_or, length, map, sum_by};
 ghost use Rattle.cpg_merging.specs.Demands.{low_of};
-ghost use Rattle.cpg_merging.specs.Kinds.{AreTold, HoldCandidates, IsTold, is_candidate, kind_by, kind_of, square_of};
+ghost use Rattle.cpg_merging.specs.Kinds.{AreTold, HoldCandidates, IsTold, is_candidate, kind_by, kind_of, variable_of};
 ghost use Rattle.cpg_merging.specs.Totals.{IsMarked, place_in};
 
 use crate::totals::{mixed, place_in};
@@ -16,7 +16,7 @@ const SPREAD: usize = 8;
 /// What columns that touch have in common, and how much a column asks above 0 in all, in a byte.
 #[derive(Clone, Copy)]
 struct ColumnKind {
-    /// A number for the time and the variables of the literals.
+    /// A number for the time, for how many literals there are and for the sum of their variables.
     number: u64,
     asked: u8,
 }
@@ -25,15 +25,15 @@ struct ColumnKind {
 fn kind_by(time: u64, literals: &[Literal]) -> ColumnKind
     ensures { result ≡ kind_by time literals.now }
 {
-    let mut squares: u64 = 0;
+    let mut variables: u8 = 0;
     let mut asked: u8 = 0;
     for literal in literals {
-        let variable = u64::from(literal.variable);
-        squares = squares.wrapping_add(variable.wrapping_mul(variable));
+        variables = variables.wrapping_add(literal.variable);
         asked = asked.wrapping_add(literal.low);
     }
+    let many = mixed(mixed(0, time), literals.len() as u64);
     ColumnKind {
-        number: mixed(mixed(0, time), squares),
+        number: mixed(many, u64::from(variables)),
         asked,
     }
 }
