@@ -149,16 +149,8 @@ impl Buffer {
         push_literals(&mut self.bytes, literals);
     }
 
-    /// Adds literals, three bytes each, for which there is room.
-    pub(crate) fn hold_literals(&mut self, literals: &[Literal])
-        requires { length self.old + 3 * length literals.now ≤ 65536 }
-        ensures { self.new ≡ self.old ++ flat_map literal_bytes literals.now }
-    {
-        push_literals(&mut self.bytes, literals);
-    }
-
     /// Adds bytes for which there is room.
-    fn hold(&mut self, piece: &[u8])
+    pub fn hold(&mut self, piece: &[u8])
         requires { length self.old + length piece.now ≤ 65536 }
         ensures { self.new ≡ self.old ++ piece.now }
     {

@@ -38,22 +38,6 @@ fn put_each<O: Sink>(buffer: &mut Buffer, sink: &mut O, literals: &[Literal]) ->
     Ok(())
 }
 
-/// Literals, all at once if the buffer has room for them.
-fn put_literals<O: Sink>(
-    buffer: &mut Buffer,
-    sink: &mut O,
-    literals: &[Literal],
-) -> Result<(), Failed>
-    ensures put { Puts (O.state sink.old).taken (O.state sink.new).taken buffer.old buffer.new result (flat_map literal_bytes literals.now) }
-    ensures cause { HasCause (O.state sink.old).faults (O.state sink.new).faults result }
-{
-    if literals.len() <= buffer.room() / 3 {
-        buffer.hold_literals(literals);
-        return Ok(());
-    }
-    put_each(buffer, sink, literals)
-}
-
 /// How many literals a column has, and these.
 fn put_counted<O: Sink>(
     buffer: &mut Buffer,
@@ -66,7 +50,7 @@ fn put_counted<O: Sink>(
     ensures cause { HasCause (O.state sink.old).faults (O.state sink.new).faults result }
 {
     buffer.put(sink, &[literals.len() as u8])?;
-    put_literals(buffer, sink, literals)
+    put_each(buffer, sink, literals)
 }
 
 /// A column, part by part.

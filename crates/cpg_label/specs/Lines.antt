@@ -1,7 +1,6 @@
 -- The text of the literals of a column, and where that of the first ones ends.
-use Rattle.std.specs.Prelude.{◌≡◌, ℕ, ◌+◌, ◌*◌, ◌≤◌, List, [], ◌∷◌, ◌++◌, codes, get_or, length, take}
+use Rattle.std.specs.Prelude.{◌≡◌, ◌==◌, if◌then◌else◌, ℕ, ◌+◌, ◌*◌, ◌≤◌, List, [], ◌∷◌, ◌++◌, codes, get_or, length, take}
 use Rattle.std.specs.List.{flat_map}
-use Rattle.std.specs.Vec.{vec_capacity}
 use Rattle.cpg_cube.specs.declared.literal.Literal.{Literal}
 use Rattle.cpg_label.specs.CubeText.{literal_text}
 use Rattle.cpg_label.specs.Labels.{Labels}
@@ -26,6 +25,16 @@ abbrev pub added_text : Labels → List Literal → Literal → List ℕ
 added_text labels [] l = literal_text labels l
 added_text labels (x ∷ xs) l = piece_text labels l
 
+-- so many literals are the same in two lists
+pub record AreAlike (first second : List Literal) (n : ℕ) : Type 0 where
+  pub same : take n first ≡ take n second
+  pub within : n ≤ length first
+  pub inside : n ≤ length second
+
+-- what a literal adds to the text of so many
+abbrev pub text_after : Labels → ℕ → Literal → List ℕ
+text_after labels n l = if n == 0 then literal_text labels l else piece_text labels l
+
 -- the text of literals, and how long the text of the first ones is, for each number of these: at most 84 bytes each
 pub record AreLine (labels : Labels) (ls : List Literal) (t es : List ℕ) : Type 0 where
   pub text : t ≡ front_text labels ls
@@ -35,12 +44,13 @@ pub record AreLine (labels : Labels) (ls : List Literal) (t es : List ℕ) : Typ
 
 -- a line has the text of its literals, and how long the text of the first ones is; and room for 256 literals
 pub record IsLine (labels : Labels) (line : Line) : Type 0 where
-  pub are : AreLine labels line.literals.items line.text.items line.ends.items
-  pub literals : 256 ≤ vec_capacity line.literals
-  pub text : 256 * 84 ≤ vec_capacity line.text
-  pub ends : 256 + 1 ≤ vec_capacity line.ends
+  pub are : AreLine labels (take line.count line.literals.items) (take (get_or line.ends.items line.count 0) line.text.items) (take (line.count + 1) line.ends.items)
+  pub few : line.count ≤ 256
+  pub literals : length line.literals.items ≡ 256
+  pub text : length line.text.items ≡ 256 * 84
+  pub ends : length line.ends.items ≡ 256 + 1
 
 -- a line is that of these literals
 pub record IsLineOf (labels : Labels) (ls : List Literal) (made : Line) : Type 0 where
   pub line : IsLine labels made
-  pub literals : made.literals.items ≡ ls
+  pub literals : take made.count made.literals.items ≡ ls

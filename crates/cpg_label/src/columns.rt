@@ -1,12 +1,11 @@
 //! The texts of literals.
-ghost use Rattle.std.specs.Prelude.{◌≡◌, ◌+◌, ◌≤◌, ◌++◌, OnErr, OnOk, length, string_bytes};
-ghost use Rattle.std.specs.Vec.{vec_len, vec_capacity};
+ghost use Rattle.std.specs.Prelude.{◌≡◌, ◌+◌, ◌≤◌, ◌++◌, OnErr, OnOk, length, string_bytes, take};
 ghost use Rattle.cpg_label.specs.CubeText.{literal_text, range_text, value_text};
 ghost use Rattle.cpg_label.specs.Front.{IsFrontOf};
-ghost use Rattle.cpg_label.specs.Lines.{added_text};
+ghost use Rattle.cpg_label.specs.Lines.{text_after};
 
 use crate::labels::Labels;
-use crate::room::{append, append_number};
+use crate::placing::{place, place_byte, place_number, place_two};
 use cpg_base::Variable;
 use cpg_cube::Literal;
 use std::alloc::AllocError;
@@ -30,59 +29,58 @@ pub fn write_value(out: &mut String, number: u8) -> Result<(), AllocError>
     out.push_str(value_name(number))
 }
 
-/// Appends a range of fault counts.
-fn append_range(out: &mut Vec<u8>, low: u8, high: u8)
-    requires { vec_len out.old + 42 ≤ vec_capacity out.old }
-    ensures text { out.new.items ≡ out.old.items ++ range_text low high }
-    ensures few { vec_len out.new ≤ vec_len out.old + 42 }
-    ensures room { vec_capacity out.old ≤ vec_capacity out.new }
+/// Puts a range of fault counts at a place, and says where it ends.
+fn place_range(out: &mut [u8], at: usize, low: u8, high: u8) -> usize
+    requires { at + 42 ≤ length out.old }
+    ensures text { take result out.new ≡ take at out.old ++ range_text low high }
+    ensures few { result ≤ at + 42 }
+    ensures len { length out.new ≡ length out.old }
 {
-    append_number(out, u64::from(low));
+    let end = place_number(out, at, low);
     if low == high {
-        return;
+        return end;
     }
-    append(out, b"..");
-    append_number(out, u64::from(high));
+    let dots = place_two(out, end, *b"..");
+    place_number(out, dots, high)
 }
 
-/// Appends a literal.
-fn append_literal(out: &mut Vec<u8>, labels: &Labels<'_>, literal: Literal)
-    requires { vec_len out.old + 82 ≤ vec_capacity out.old }
-    ensures text { out.new.items ≡ out.old.items ++ literal_text labels.now literal }
-    ensures few { vec_len out.new ≤ vec_len out.old + 82 }
-    ensures room { vec_capacity out.old ≤ vec_capacity out.new }
+/// Puts a literal at a place, and says where it ends.
+fn place_literal(out: &mut [u8], at: usize, labels: &Labels<'_>, literal: Literal) -> usize
+    requires { at + 82 ≤ length out.old }
+    ensures text { take result out.new ≡ take at out.old ++ literal_text labels.now literal }
+    ensures few { result ≤ at + 82 }
+    ensures len { length out.new ≡ length out.old }
 {
     match Variable::of(literal.variable) {
         Variable::Count(process) => {
-            append(out, labels.process(process).as_bytes());
-            append(out, b" faults ");
-            append_range(out, literal.low, literal.high);
+            let name = place(out, at, labels.process(process).as_bytes());
+            let word = place(out, name, b" faults ");
+            place_range(out, word, literal.low, literal.high)
         }
         Variable::Value(condition) => {
-            append(out, labels.condition(condition).as_bytes());
-            append(out, b" ");
-            append(out, value_name(literal.low).as_bytes());
+            let name = place(out, at, labels.condition(condition).as_bytes());
+            let word = place_byte(out, name, b' ');
+            place(out, word, value_name(literal.low).as_bytes())
         }
     }
 }
 
-/// Appends a literal after these, if there are any.
-pub(crate) fn append_after(
-    out: &mut Vec<u8>,
+/// Puts a literal at a place where so many end, and says where it ends.
+pub(crate) fn place_after(
+    out: &mut [u8],
+    at: usize,
     labels: &Labels<'_>,
-    literals: &[Literal],
+    count: usize,
     literal: Literal,
-)
-    requires { vec_len out.old + MOST_LITERAL ≤ vec_capacity out.old }
-    ensures text { out.new.items ≡ out.old.items ++ added_text labels.now literals.now literal }
-    ensures few { vec_len out.new ≤ vec_len out.old + MOST_LITERAL }
-    ensures room { vec_capacity out.old ≤ vec_capacity out.new }
+) -> usize
+    requires { at + MOST_LITERAL ≤ length out.old }
+    ensures text { take result out.new ≡ take at out.old ++ text_after labels.now count literal }
+    ensures few { result ≤ at + MOST_LITERAL }
+    ensures len { length out.new ≡ length out.old }
 {
-    match literals.split_first() {
-        None => append_literal(out, labels, literal),
-        Some(_) => {
-            append(out, b", ");
-            append_literal(out, labels, literal);
-        }
+    if count == 0 {
+        return place_literal(out, at, labels, literal);
     }
+    let comma = place_two(out, at, *b", ");
+    place_literal(out, comma, labels, literal)
 }

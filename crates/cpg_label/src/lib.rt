@@ -5,6 +5,7 @@ mod columns;
 mod items;
 mod labels;
 mod line;
+mod placing;
 mod room;
 mod text;
 

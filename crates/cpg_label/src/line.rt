@@ -1,11 +1,11 @@
 //! The text of a column's literals, made of that of the column before if both begin alike. It has room for all that a
 //! column may have, so that writing needs no memory.
 ghost use Rattle.std.specs.Prelude.{◌≡◌, ◌+◌, ◌*◌, ◌<◌, ◌≤◌, ◌++◌, ◌∷◌, [], IfOk, get_or, length, take};
-ghost use Rattle.std.specs.Vec.{vec_len, vec_capacity};
+ghost use Rattle.std.specs.Bool.{OnTrue};
 ghost use Rattle.cpg_label.specs.Labels.{Labels};
-ghost use Rattle.cpg_label.specs.Lines.{IsLine, IsLineOf};
+ghost use Rattle.cpg_label.specs.Lines.{AreAlike, IsLine, IsLineOf, front_text};
 
-use crate::columns::{MOST_LITERAL, append_after};
+use crate::columns::{MOST_LITERAL, place_after};
 use crate::labels::Labels;
 use cpg_cube::{Cube, Literal};
 use std::alloc::{AllocError, Global};
@@ -13,29 +13,96 @@ use std::alloc::{AllocError, Global};
 /// How many literals a column may have: their variables are numbers of a byte, and rise.
 const MOST_LITERALS: usize = 256;
 
-/// Literals with their text, and how long that of the first ones is, for each number of these.
+/// So many literals with their text, and how long that of the first ones is, for each number of these. What is behind them is
+/// left of earlier ones.
 #[derive(Drop)]
 pub struct Line {
+    count: usize,
     literals: Vec<Literal>,
     text: Vec<u8>,
     ends: Vec<usize>,
 }
 
-/// How many literals two lists begin with alike.
-fn common_front(first: &[Literal], second: &[Literal]) -> usize
-    ensures same { take result first.now ≡ take result second.now }
-    ensures within { result ≤ length first.now }
-    ensures inside { result ≤ length second.now }
+/// Whether two literals are the same.
+fn is_same(first: Literal, second: Literal) -> bool
+    ensures { OnTrue result (first ≡ second) }
+{
+    (first.variable == second.variable) & (first.low == second.low) & (first.high == second.high)
+}
+
+/// Whether the literals of two blocks are the same: without a way out before the last, so that the compiler compares them at once.
+fn are_same<const N: usize>(first: &[Literal; N], second: &[Literal; N]) -> bool
+    ensures { OnTrue result (first.now ≡ second.now) }
+{
+    let mut are = true;
+    for at in 0..N {
+        are &= is_same(first[at], second[at]);
+    }
+    are
+}
+
+/// A place up to which two lists are alike, found by blocks of eight.
+fn front_by_eights(first: &[Literal], second: &[Literal]) -> usize
+    ensures { AreAlike first.now second.now result }
+{
+    let mut left = first;
+    let mut right = second;
+    let mut place = 0;
+    while let Some((block, rest)) = left.split_first_chunk::<8>() {
+        let Some((other, behind)) = right.split_first_chunk::<8>() else {
+            return place;
+        };
+        if !are_same(block, other) {
+            return place;
+        }
+        place += 8;
+        left = rest;
+        right = behind;
+    }
+    place
+}
+
+/// A place up to which two lists are alike, four behind a place up to which they are if those are the same too.
+fn front_by_four(first: &[Literal], second: &[Literal], place: usize) -> usize
+    requires { AreAlike first.now second.now place }
+    ensures { AreAlike first.now second.now result }
+{
+    let Some((block, _)) = first[place..].split_first_chunk::<4>() else {
+        return place;
+    };
+    let Some((other, _)) = second[place..].split_first_chunk::<4>() else {
+        return place;
+    };
+    if are_same(block, other) {
+        return place + 4;
+    }
+    place
+}
+
+/// How many literals two lists begin with alike, by a place up to which they do.
+fn front_from(first: &[Literal], second: &[Literal], from: usize) -> usize
+    requires { AreAlike first.now second.now from }
+    ensures { AreAlike first.now second.now result }
 {
     let count = first.len().min(second.len());
-    let mut place = 0;
+    let mut place = from;
     while place < count {
-        if first[place] != second[place] {
+        if !is_same(first[place], second[place]) {
             return place;
         }
         place += 1;
     }
     place
+}
+
+/// How many literals two lists begin with alike. Columns that are neighbours mostly differ in the last ones alone, so it looks at
+/// many together.
+fn common_front(first: &[Literal], second: &[Literal]) -> usize
+    ensures { AreAlike first.now second.now result }
+{
+    let eights = front_by_eights(first, second);
+    let place = front_by_four(first, second, eights);
+    front_from(first, second, place)
 }
 
 /// How many variables there are up to one.
@@ -64,47 +131,58 @@ impl Line {
     pub fn new(alloc: Global) -> Result<Line, AllocError>
         ensures { IfOk result (λ line. (labels : Labels) → IsLine labels line) }
     {
-        let literals = Vec::with_capacity(alloc, MOST_LITERALS)?;
-        let text = Vec::with_capacity(alloc, MOST_LITERALS * MOST_LITERAL)?;
-        let mut ends = Vec::with_capacity(alloc, MOST_LITERALS + 1)?;
-        ends.push_reserved(0);
+        let literals = vec![in alloc; Literal::default(); MOST_LITERALS]?;
+        let text = vec![in alloc; 0; MOST_LITERALS * MOST_LITERAL]?;
+        let ends = vec![in alloc; 0; MOST_LITERALS + 1]?;
         Ok(Line {
+            count: 0,
             literals,
             text,
             ends,
         })
     }
 
+    /// Its literals.
+    fn literals(&self) -> &[Literal]
+        requires { self.now.count ≤ length self.now.literals.items }
+        ensures { result.now ≡ take self.now.count self.now.literals.items }
+    {
+        &self.literals[..self.count]
+    }
+
     /// Leaves so many literals.
     fn keep(&mut self, labels: &Labels<'_>, count: usize)
         requires line { IsLine labels.now self.old }
-        requires within { count ≤ length self.old.literals.items }
+        requires within { count ≤ self.old.count }
         ensures line { IsLine labels.now self.new }
-        ensures literals { self.new.literals.items ≡ take count self.old.literals.items }
+        ensures literals { take self.new.count self.new.literals.items ≡ take count self.old.literals.items }
+        ensures count { self.new.count ≡ count }
     {
-        self.text.truncate(self.ends[count]);
-        self.ends.truncate(count + 1);
-        self.literals.truncate(count);
+        self.count = count;
     }
 
     /// Adds a literal.
     fn add(&mut self, labels: &Labels<'_>, literal: Literal)
         requires line { IsLine labels.now self.old }
-        requires few { length self.old.literals.items < MOST_LITERALS }
+        requires few { self.old.count < MOST_LITERALS }
         ensures line { IsLine labels.now self.new }
-        ensures literals { self.new.literals.items ≡ self.old.literals.items ++ literal ∷ [] }
+        ensures literals { take self.new.count self.new.literals.items ≡ take self.old.count self.old.literals.items ++ literal ∷ [] }
+        ensures count { self.new.count ≡ self.old.count + 1 }
     {
-        append_after(&mut self.text, labels, self.literals.as_slice(), literal);
-        self.ends.push_reserved(self.text.len());
-        self.literals.push_reserved(literal);
+        let count = self.count;
+        let at = self.ends[count];
+        let end = place_after(self.text.as_mut_slice(), at, labels, count, literal);
+        self.literals[count] = literal;
+        self.ends[count + 1] = end;
+        self.count = count + 1;
     }
 
     /// Adds literals.
     fn add_all(&mut self, labels: &Labels<'_>, literals: &[Literal])
         requires line { IsLine labels.now self.old }
-        requires few { length self.old.literals.items + length literals.now ≤ MOST_LITERALS }
+        requires few { self.old.count + length literals.now ≤ MOST_LITERALS }
         ensures line { IsLine labels.now self.new }
-        ensures literals { self.new.literals.items ≡ self.old.literals.items ++ literals.now }
+        ensures literals { take self.new.count self.new.literals.items ≡ take self.old.count self.old.literals.items ++ literals.now }
     {
         for literal in literals {
             self.add(labels, *literal);
@@ -117,15 +195,17 @@ impl Line {
         ensures { IsLineOf labels.now cube.now self.new }
     {
         let literals = literals_of(cube);
-        let count = common_front(self.literals.as_slice(), literals);
+        let count = common_front(self.literals(), literals);
         self.keep(labels, count);
         self.add_all(labels, &literals[count..]);
     }
 
-    /// The text of its literals, and nothing of none.
-    pub fn text(&self) -> &[u8]
-        ensures { result.now ≡ self.now.text.items }
+    /// The text of its literals, and nothing of none. The contract alone names `labels`.
+    pub fn text(&self, labels: &Labels<'_>, literals: &[Literal]) -> &[u8]
+        requires { IsLineOf labels.now literals.now self.now }
+        ensures { result.now ≡ front_text labels.now literals.now }
     {
-        self.text.as_slice()
+        let end = self.ends[self.count];
+        &self.text[..end]
     }
 }

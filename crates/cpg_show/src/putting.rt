@@ -1,5 +1,5 @@
 //! Texts of columns, put into a buffer in front of a sink. No memory is asked for.
-ghost use Rattle.std.specs.Prelude.{◌≡◌, ◌++◌, OnOk, codes};
+ghost use Rattle.std.specs.Prelude.{◌≡◌, ◌+◌, ◌≤◌, ◌++◌, OnOk, codes, length};
 ghost use Rattle.std.specs.Fmt.{decimal};
 ghost use Rattle.cpg_io.specs.Causes.{HasCause};
 ghost use Rattle.cpg_codec.specs.Writing.{Puts};
@@ -11,6 +11,9 @@ use cpg_cube::{Entry, Literal};
 use cpg_io::{Failed, Sink};
 use cpg_label::{Labels, Line};
 use itoa::Buffer as Digits;
+
+/// How many bytes a line has beside the text of its literals, at most: a number of 20 digits, blanks, a colon and the end.
+const MOST_BESIDE: usize = 25;
 
 /// A text.
 pub(crate) fn put_text<O: Sink>(buffer: &mut Buffer, sink: &mut O, text: &str) -> Result<(), Failed>
@@ -49,22 +52,15 @@ fn put_three<O: Sink>(
     put_text(buffer, sink, third)
 }
 
-/// The literals of a column, by the line of them. The contract alone names `labels`.
-fn put_cube<O: Sink>(
-    buffer: &mut Buffer,
-    sink: &mut O,
-    labels: &Labels<'_>,
-    line: &Line,
-    literals: &[Literal],
-) -> Result<(), Failed>
+/// The text of a column's literals, by the line of them. The contract alone names `labels`.
+fn cube_text<'a>(labels: &Labels<'_>, line: &'a Line, literals: &[Literal]) -> &'a [u8]
     requires { IsLineOf labels.now literals.now line.now }
-    ensures put { Puts (O.state sink.old).taken (O.state sink.new).taken buffer.old buffer.new result (cube_text labels.now literals.now) }
-    ensures cause { HasCause (O.state sink.old).faults (O.state sink.new).faults result }
+    ensures { result.now ≡ cube_text labels.now literals.now }
 {
     if literals.is_empty() {
-        return put_text(buffer, sink, "always");
+        return b"always";
     }
-    buffer.put_any(sink, line.text())
+    line.text(labels, literals)
 }
 
 /// What stands before the literals of a column.
@@ -77,24 +73,50 @@ fn put_time<O: Sink>(buffer: &mut Buffer, sink: &mut O, time: u64) -> Result<(),
     put_three(buffer, sink, "  ", text, ": ")
 }
 
-/// The line of a column but its end.
+/// A line of a time and a text, but its end.
 fn put_timed<O: Sink>(
     buffer: &mut Buffer,
     sink: &mut O,
-    labels: &Labels<'_>,
-    line: &Line,
-    column: &Entry,
+    time: u64,
+    text: &[u8],
 ) -> Result<(), Failed>
-    requires { IsLineOf labels.now column.now.cube line.now }
-    ensures put { Puts (O.state sink.old).taken (O.state sink.new).taken buffer.old buffer.new result (codes "  " ++ decimal column.now.time ++ codes ": "
-        ++ cube_text labels.now column.now.cube) }
+    ensures put { Puts (O.state sink.old).taken (O.state sink.new).taken buffer.old buffer.new result (codes "  " ++ decimal time ++ codes ": "
+        ++ text.now) }
     ensures cause { HasCause (O.state sink.old).faults (O.state sink.new).faults result }
 {
-    put_time(buffer, sink, column.time)?;
-    put_cube(buffer, sink, labels, line, column.cube.literals())
+    put_time(buffer, sink, time)?;
+    buffer.put_any(sink, text)
 }
 
-/// The line of a column.
+/// A line of a time and a text, part by part.
+fn put_parts<O: Sink>(
+    buffer: &mut Buffer,
+    sink: &mut O,
+    time: u64,
+    text: &[u8],
+) -> Result<(), Failed>
+    ensures put { Puts (O.state sink.old).taken (O.state sink.new).taken buffer.old buffer.new result (codes "  " ++ decimal time ++ codes ": "
+        ++ text.now ++ codes "\n") }
+    ensures cause { HasCause (O.state sink.old).faults (O.state sink.new).faults result }
+{
+    put_timed(buffer, sink, time, text)?;
+    put_text(buffer, sink, "\n")
+}
+
+/// Adds a line of a time and a text, for which there is room.
+fn hold_line(buffer: &mut Buffer, time: u64, text: &[u8])
+    requires { length buffer.old + (length text.now + MOST_BESIDE) ≤ 65536 }
+    ensures { buffer.new ≡ buffer.old ++ (codes "  " ++ decimal time ++ codes ": " ++ text.now ++ codes "\n") }
+{
+    let mut digits = Digits::new();
+    buffer.hold(b"  ");
+    buffer.hold(digits.format(time).as_bytes());
+    buffer.hold(b": ");
+    buffer.hold(text);
+    buffer.hold(b"\n");
+}
+
+/// The line of a column, all at once if the buffer has room for it, as it mostly has.
 fn put_column<O: Sink>(
     buffer: &mut Buffer,
     sink: &mut O,
@@ -106,8 +128,12 @@ fn put_column<O: Sink>(
     ensures put { Puts (O.state sink.old).taken (O.state sink.new).taken buffer.old buffer.new result (column_line labels.now column.now) }
     ensures cause { HasCause (O.state sink.old).faults (O.state sink.new).faults result }
 {
-    put_timed(buffer, sink, labels, line, column)?;
-    put_text(buffer, sink, "\n")
+    let text = cube_text(labels, line, column.cube.literals());
+    if text.len() < buffer.room().saturating_sub(MOST_BESIDE) {
+        hold_line(buffer, column.time, text);
+        return Ok(());
+    }
+    put_parts(buffer, sink, column.time, text)
 }
 
 /// The lines of columns. A line takes over what it has in common with the line before.

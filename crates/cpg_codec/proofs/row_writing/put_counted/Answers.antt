@@ -11,4 +11,4 @@ returns-in_err-put-clause-put g c =
     Puts-first _ _ _ _ (byte (length c.args.literals.now)) (flat_map literal_bytes c.args.literals.now) c.from_residual.result p.0 p.1 c.in_err-put.ensures.put
 
 pub returns-clause-put : goal.returns-clause-put
-returns-clause-put g c = Puts-then _ _ _ _ _ _ (byte (length c.args.literals.now)) (flat_map literal_bytes c.args.literals.now) c.put_literals.result c.in_ok-put.ensures.put c.put_literals.ensures.put
+returns-clause-put g c = Puts-then _ _ _ _ _ _ (byte (length c.args.literals.now)) (flat_map literal_bytes c.args.literals.now) c.put_each.result c.in_ok-put.ensures.put c.put_each.ensures.put

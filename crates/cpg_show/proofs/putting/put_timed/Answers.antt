@@ -1,14 +1,12 @@
 use Rattle.std.proofs.Common.{◌++◌, codes, decimal}
 use Rattle.std.proofs.lemmas.Result.{err_from_is_err_and}
 use Rattle.cpg_codec.proofs.Puts.{Puts-then, Puts-first}
-use Rattle.cpg_label.specs.CubeText.{cube_text}
 use Rattle.cpg_show.proofs.putting.put_timed.Goals as goal
 
 pub returns-in_err-put_time-clause-put : goal.returns-in_err-put_time-clause-put
 returns-in_err-put_time-clause-put g c =
     let p = err_from_is_err_and c.from_residual.result c.from_residual.ensures.1 in
-    Puts-first _ _ _ _ (codes "  " ++ decimal c.args.column.now.time ++ codes ": ") (cube_text c.args.labels.now c.args.column.now.cube) c.from_residual.result p.0 p.1 c.in_err-put_time.ensures.put
+    Puts-first _ _ _ _ (codes "  " ++ decimal c.args.time ++ codes ": ") (c.args.text.now) c.from_residual.result p.0 p.1 c.in_err-put_time.ensures.put
 
 pub returns-clause-put : goal.returns-clause-put
-returns-clause-put g c = Puts-then _ _ _ _ _ _ (codes "  " ++ decimal c.args.column.now.time ++ codes ": ")
-    (cube_text c.args.labels.now c.args.column.now.cube) c.put_cube.result c.in_ok-put_time.ensures.put (rw c.literals.ensures.literals at c.put_cube.ensures.put)
+returns-clause-put g c = Puts-then _ _ _ _ _ _ (codes "  " ++ decimal c.args.time ++ codes ": ") (c.args.text.now) c.put_any.result c.in_ok-put_time.ensures.put c.put_any.ensures.put

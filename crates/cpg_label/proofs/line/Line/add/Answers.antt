@@ -1,38 +1,31 @@
-use Rattle.std.proofs.Common.{rules, ◌≡◌, ◌++◌, ◌∙◌, ap, arith, length}
+use Rattle.std.proofs.Common.{rules, ◌≡◌, ◌∙◌, ◌+◌, ◌*◌, ◌++◌, ◌≤◌, ◌<◌, ap, ap₂, arith, get_or, length, refl, take}
+use Rattle.std.proofs.lemmas.List.{get_or_default, length-set}
 use Rattle.std.specs.Vec.{vec_len}
-use Rattle.cpg_label.specs.Lines.{added_text}
-use Rattle.cpg_label.proofs.Lines.{line_more, line_short}
+use Rattle.cpg_label.specs.Lines.{text_after}
+use Rattle.cpg_label.proofs.Lines.{end_short, line_added, refilled}
 use Rattle.cpg_label.proofs.line.Line.add.Goals as goal
-
-pub append_after-requires : goal.append_after-requires
-append_after-requires c =
-    let long : length c.args.self.now.text.items ≡ vec_len c.args.self.now.text = search rules in
-    let short = line_short c.args.labels.now c.args.self.now.literals.items c.args.self.now.text.items c.args.self.now.ends.items c.requires.line.are in
-    omega (arith, long, short, c.requires.few, c.requires.line.text)
-
-pub push_reserved-requires : goal.push_reserved-requires
-push_reserved-requires c =
-    let long : length c.args.self.now.ends.items ≡ vec_len c.args.self.now.ends = search rules in
-    omega (arith, long, c.requires.line.are.count, c.requires.few, c.requires.line.ends)
-
-pub push_reserved-requires-2 : goal.push_reserved-requires-2
-push_reserved-requires-2 c =
-    let long : length c.args.self.now.literals.items ≡ vec_len c.args.self.now.literals = search rules in
-    omega (arith, long, c.requires.few, c.requires.line.literals)
 
 pub returns-clause-line : goal.returns-clause-line
 returns-clause-line c =
     let labels = c.args.labels.now in
     let old = c.args.self.now in
-    let text = c.append_after.new.out in
-    let told = c.append_after.ensures.text ∙ ap (λ ls. old.text.items ++ added_text labels ls c.args.literal) c.as_slice.ensures.value in
-    let before : length old.text.items ≡ vec_len old.text = search rules in
-    let long : length text.items ≡ vec_len text = search rules in
-    let end : c.len.result ≡ length text.items = search rules in
+    let is = c.requires.line in
+    let put = c.place_after-end.new.out in
+    let room : old.count ≤ length old.literals.items = omega (arith, is.few, is.literals) in
+    let at : c.index-at.result.now ≡ get_or old.ends.items old.count 0 =
+    c.index-at.ensures ∙ get_or_default old.ends.items old.count c.index-at.result.now 0 (omega (arith, c.requires.few, is.ends)) in
+    let long : length put ≡ 256 * 84 = c.place_after-end.ensures.len ∙ ap length c.as_mut_slice.ensures.value ∙ is.text in
+    let stands : length old.text.items ≡ vec_len old.text = search rules in
+    let same = refilled (vec_len old.text) put old.text.items (c.place_after-end.ensures.len ∙ ap length c.as_mut_slice.ensures.value ∙ stands) in
+    let short = end_short labels old.literals.items old.text.items old.ends.items old.count is.are room in
+    let few : c.place_after-end.result ≤ get_or old.ends.items old.count 0 + 84 = omega (arith, at, c.place_after-end.ensures.few) in
     record {
-      are = rw c.push_reserved-2.ensures.items (rw c.push_reserved.ensures.items (rw end
-          (line_more labels old.literals.items old.text.items old.ends.items c.args.literal text.items c.requires.line.are told (omega (arith, before, long, c.append_after.ensures.few)))));
-      literals = omega (arith, c.push_reserved-2.ensures.capacity, c.requires.line.literals);
-      text = omega (arith, c.append_after.ensures.room, c.requires.line.text);
-      ends = omega (arith, c.push_reserved.ensures.capacity, c.requires.line.ends);
+      are = rw same (line_added labels old.literals.items old.text.items old.ends.items old.count is.are room _ put _ c.args.literal c.place_after-end.result refl refl
+          (omega (arith, c.requires.few, is.literals)) (omega (arith, c.requires.few, is.ends))
+          (c.place_after-end.ensures.text ∙ ap₂ (λ e t. take e t ++ text_after labels old.count c.args.literal) at c.as_mut_slice.ensures.value)
+          few (omega (arith, few, short, long, c.requires.few)));
+      few = omega (arith, c.requires.few);
+      literals = length-set old.literals.items old.count c.args.literal ∙ is.literals;
+      text = ap length same ∙ long;
+      ends = length-set old.ends.items (old.count + 1) c.place_after-end.result ∙ is.ends;
     }

@@ -1,5 +1,5 @@
 use Rattle.std.proofs.Common.{◌≡◌, ◌≤◌, ◌-◌, take}
-use Rattle.cpg_label.proofs.line.common_front.Given as goal
+use Rattle.cpg_label.proofs.line.front_from.Given as goal
 
 abbrev pub invariant-loop-place : goal.invariant-loop-place
 invariant-loop-place l = (take l.place l.first ≡ take l.place l.second) × (l.place ≤ l.count)

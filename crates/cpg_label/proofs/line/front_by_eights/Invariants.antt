@@ -1,0 +1,13 @@
+use Rattle.std.proofs.Common.{◌≡◌, drop, length}
+use Rattle.cpg_label.specs.Lines.{AreAlike}
+use Rattle.cpg_label.proofs.line.front_by_eights.Given as goal
+
+abbrev pub invariant-loop-block : goal.invariant-loop-block
+invariant-loop-block l = record {
+  alike : AreAlike l.fn.first l.fn.second l.place;
+  left : l.left ≡ drop l.place l.fn.first;
+  right : l.right ≡ drop l.place l.fn.second;
+}
+
+abbrev pub decreases-loop-block : goal.decreases-loop-block
+decreases-loop-block l = length l.left

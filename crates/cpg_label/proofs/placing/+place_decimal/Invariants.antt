@@ -1,0 +1,4 @@
+use Rattle.cpg_label.proofs.placing.+place_decimal.Given as goal
+
+abbrev pub decreases-place_decimal : goal.decreases-place_decimal
+decreases-place_decimal l = l.number
