@@ -3,5 +3,6 @@ pub mod Holding
 pub mod PlaceHintLaws
 pub mod Gathered
 pub mod SliceLaws
+pub mod ListedLaws
 pub mod TreeLaws
 pub mod PlacesSeen

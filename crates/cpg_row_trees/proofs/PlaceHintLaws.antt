@@ -9,7 +9,7 @@ use Rattle.cpg_base.specs.Scenario.{Scenario, number_of}
 use Rattle.cpg_cube.specs.declared.literal.Literal.{Literal}
 use Rattle.cpg_cube.proofs.CubeLows.{holds-low, holds-high}
 use Rattle.cpg_tree.specs.TreeNode.{TreeNode, Leaf}
-use Rattle.cpg_tree.specs.Added.{AddsTree, ForksEnd}
+use Rattle.cpg_tree.specs.Added.{ForksEnd}
 use Rattle.cpg_tree.specs.Flat.{flat}
 use Rattle.cpg_tree.proofs.JoinLaws.{split_of}
 use Rattle.cpg_row_trees.specs.declared.places.PlaceHint.{PlaceHint}

@@ -20,7 +20,7 @@ use Rattle.cpg_cube.specs.Cube.{IsRising, holds, matches}
 use Rattle.cpg_cube.proofs.CubeLows.{holds-low, holds-high, holds-from}
 use Rattle.cpg_tree.specs.TreeNode.{TreeNode, Leaf}
 use Rattle.cpg_row_trees.specs.declared.places.TreeGrowth.{TreeGrowth}
-use Rattle.cpg_tree.specs.Added.{AddsTree, ForksEnd}
+use Rattle.cpg_tree.specs.Added.{ForksEnd}
 use Rattle.cpg_tree.specs.Flat.{flat}
 use Rattle.cpg_tree.proofs.JoinLaws.{split_of}
 use Rattle.cpg_tree.specs.declared.space.Lifted.{Lifted}
@@ -86,10 +86,10 @@ module _ (k : ℕ) (space : Space) (v cut narrow n : ℕ) (there : v < 256) (rea
   one_more : (side : Space) → ((u : ℕ) → (u ≡ v → ⊥) → narrowed k side u ≡ narrowed k space u) → sum_by (narrowed k side) (numbers_below 256) ≤ n
   one_more side same = sum_of_side _ _ (narrowed k side v) (narrowed k space v) narrow n (sum_changed (narrowed k side) (narrowed k space) 256 v there same) reached.few more (narrowed_le k side v)
 
-  cut_in_range : cut < get_or space.high v 0
+  pub cut_in_range : cut < get_or space.high v 0
   cut_in_range = ltb-true cut (get_or space.high v 0) (and_parts (nat_lt cut (get_or space.high v 0)) (nat_le 128 v || nat_lt cut (get_or space.low v 0 + space.left)) open_.above).0
 
-  low_in_range : get_or space.low v 0 ≤ cut
+  pub low_in_range : get_or space.low v 0 ≤ cut
   low_in_range = leb-true (get_or space.low v 0) cut open_.below
 
   module _ (long : length space.high ≡ 256) (goes : (s : Scenario) → IsInSpace space s → number_of s v ≤ cut → IsInSpace (below_cut space v cut) s) where
@@ -245,7 +245,7 @@ module _ (k : ℕ) (space side : Space) (v cut narrow n : ℕ) (there : v < 256)
     pub under_reached : IsForkSpace k side n
     under_reached = subst (λ (r : Space). IsForkSpace k r n) (sym is) (reached_below k space v cut narrow n there reached open_ more long to_under)
 
-    back_from_under : (s : Scenario) → HasAtMostFaults k s → IsInSpace side s → IsInSpace space s
+    pub back_from_under : (s : Scenario) → HasAtMostFaults k s → IsInSpace side s → IsInSpace space s
     back_from_under s few lies = lies_from_below k space v cut narrow n there reached open_ more long to_under s few (subst (λ (r : Space). IsInSpace r s) is lies)
 
     under_cut : (s : Scenario) → IsInSpace side s → number_of s v ≤ cut
@@ -259,7 +259,7 @@ module _ (k : ℕ) (space side : Space) (v cut narrow n : ℕ) (there : v < 256)
     pub over_reached : IsForkSpace k side n
     over_reached = subst (λ (r : Space). IsForkSpace k r n) (sym is) (reached_above k space v cut narrow n there reached open_ more long to_over)
 
-    back_from_over : (s : Scenario) → HasAtMostFaults k s → IsInSpace side s → IsInSpace space s
+    pub back_from_over : (s : Scenario) → HasAtMostFaults k s → IsInSpace side s → IsInSpace space s
     back_from_over s few lies = lies_from_above k space v cut narrow n there reached open_ more long to_over s few (subst (λ (r : Space). IsInSpace r s) is lies)
 
     over_cut : (s : Scenario) → IsInSpace side s → cut < number_of s v
@@ -313,7 +313,7 @@ met_parts n a b c d = grind (arith, nat_tests)
 
 module _ (s : Scenario) (l : Literal) where
   -- one more
-  matches_push : (ls : List Literal) → matches (ls ++ l ∷ []) s ≡ (matches ls s && holds s l)
+  pub matches_push : (ls : List Literal) → matches (ls ++ l ∷ []) s ≡ (matches ls s && holds s l)
   matches_push ls = list_all-append (holds s) ls (l ∷ []) ∙ ap (λ b. matches ls s && b) (with_true (holds s l))
 
   -- one met with it

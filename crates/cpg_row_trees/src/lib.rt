@@ -2,6 +2,7 @@
 #![tactic(auto)]
 
 mod gathering;
+mod listed;
 mod places;
 mod slices;
 mod trees;

@@ -10,6 +10,7 @@ ghost use Rattle.cpg_row_trees.specs.Places.{place_at, IsPlaceOfMatch};
 ghost use Rattle.cpg_row_trees.specs.PlaceHints.{IsOpenCut};
 ghost use Rattle.cpg_row_trees.specs.Slices.{IsForkSpace, IsSliceTop, AddsSliceTree, IsInside, IsLastOn, IsEntered, IsOwn, AreSpaceBounds, AreForkSides, is_narrow, left_by, met_by, narrowed};
 
+use crate::listed::listed_tree;
 use crate::places::{
     PlaceCut, Places, TreeGrowth, cut_of, literal_from, literal_up_to, open_value,
 };
@@ -262,7 +263,7 @@ fn are_each_same(literals: &[Literal], others: &[Literal]) -> bool
 }
 
 /// Whether literals are the same.
-fn are_same(literals: &[Literal], others: &[Literal]) -> bool
+pub(crate) fn are_same_literals(literals: &[Literal], others: &[Literal]) -> bool
     ensures { OnTrue result (literals.now ≡ others.now) }
 {
     let Some((block, rest)) = literals.split_first_chunk::<8>() else {
@@ -274,7 +275,7 @@ fn are_same(literals: &[Literal], others: &[Literal]) -> bool
     if !are_eight_same(block, other) {
         return false;
     }
-    are_same(rest, behind)
+    are_same_literals(rest, behind)
 }
 
 /// The first literal from a place on that doesn't hold in the whole space, as a part of it.
@@ -390,7 +391,7 @@ fn slice_top(k: u8, space: &Space, path: &[Literal], cubes: &[&Cube], slice: Sli
     let literals = cube.literals();
     if slice.to - slice.from == 1 {
         // mostly so if the cubes stand by the numbers of the variables
-        if are_same(path, literals) {
+        if are_same_literals(path, literals) {
             return SliceTop::Leaf(Some(slice.from));
         }
         if is_their_own(k, space, slice.narrow, literals) {
@@ -576,6 +577,9 @@ pub(crate) fn slice_tree(
     requires { length cubes.now ≤ MOST_LOAD }
     ensures { IfOk result (λ r. IfSome r (λ t. (s : Scenario) → HasAtMostFaults k s → IsPlaceOfMatch (map (λ b. b.now) cubes.now) (place_at t s) s)) }
 {
+    if let Some(places) = listed_tree(alloc, k, cubes, items)? {
+        return Ok(Some(places));
+    }
     if let Some(places) = slice_tree_by(alloc, k, cubes, items, GuessedWay::ByNumber)? {
         return Ok(Some(places));
     }

@@ -48,6 +48,8 @@ impl<'a, J: PairTest> Test for Beside<'a, J> {
 
 /// Whether a test passes at each place that scenarios of a space come to. The space is changed on the way, and is as
 /// before if the test passes at each.
+#[cycle(do_pass_each)]
+#[inline(never)]
 fn do_pass_each<J: Test>(items: &[TreeItem<Option<u32>>], space: &mut Space, test: &J) -> bool
     requires { IsFlat items.now }
     ensures passed { OnTrue result ((n : TreeNode (Option ℕ)) → items.now ≡ flat n → (s : Scenario) → IsInSpace space.old s → J.guarantees test.now (value_at n s) s) }
@@ -68,17 +70,31 @@ fn do_pass_each<J: Test>(items: &[TreeItem<Option<u32>>], space: &mut Space, tes
                 return do_pass_each(below, space, test);
             }
             let most = space.close_above(variable, cut);
-            if !do_pass_each(below, space, test) {
+            if !do_pass_side(below, space, test) {
                 return false;
             }
             space.reopen_above(variable, most);
             let was = space.close_below(variable, cut);
-            if !do_pass_each(above, space, test) {
+            if !do_pass_side(above, space, test) {
                 return false;
             }
             space.reopen_below(variable, was);
             true
         }
+    }
+}
+
+/// As `do_pass_each`: at once if it is one value.
+#[cycle(do_pass_each)]
+#[inline(always)]
+fn do_pass_side<J: Test>(items: &[TreeItem<Option<u32>>], space: &mut Space, test: &J) -> bool
+    requires { IsFlat items.now }
+    ensures passed { OnTrue result ((n : TreeNode (Option ℕ)) → items.now ≡ flat n → (s : Scenario) → IsInSpace space.old s → J.guarantees test.now (value_at n s) s) }
+    ensures same { OnTrue result (space.new ≡ space.old) }
+{
+    match top_of(items) {
+        Top::Value(place) => test.passes(place, space),
+        Top::Cut { .. } => do_pass_each(items, space, test),
     }
 }
 
@@ -138,6 +154,8 @@ fn do_pass_at<J: PairTest>(
 
 /// Whether a test passes at each two places that scenarios of a space come to in two trees. The second is walked down
 /// with the first. The space is changed on the way, and is as before if the test passes at each two.
+#[cycle(do_pass_both)]
+#[inline(never)]
 fn do_pass_both<J: PairTest>(
     first: &[TreeItem<Option<u32>>],
     second: &[TreeItem<Option<u32>>],
@@ -166,17 +184,38 @@ fn do_pass_both<J: PairTest>(
                 return do_pass_both(below, part, space, test);
             }
             let most = space.close_above(variable, cut);
-            if !do_pass_both(below, part, space, test) {
+            if !do_pass_beside(below, part, space, test) {
                 return false;
             }
             space.reopen_above(variable, most);
             let was = space.close_below(variable, cut);
-            if !do_pass_both(above, part, space, test) {
+            if !do_pass_beside(above, part, space, test) {
                 return false;
             }
             space.reopen_below(variable, was);
             true
         }
+    }
+}
+
+/// As `do_pass_both`: at once if the first is one value.
+#[cycle(do_pass_both)]
+#[inline(always)]
+fn do_pass_beside<J: PairTest>(
+    first: &[TreeItem<Option<u32>>],
+    second: &[TreeItem<Option<u32>>],
+    space: &mut Space,
+    test: &J,
+) -> bool
+    requires first { IsFlat first.now }
+    requires second { IsFlat second.now }
+    ensures passed { OnTrue result ((n m : TreeNode (Option ℕ)) → first.now ≡ flat n → second.now ≡ flat m → (s : Scenario) → IsInSpace space.old s →
+        J.guarantees test.now (value_at n s) (value_at m s) s) }
+    ensures same { OnTrue result (space.new ≡ space.old) }
+{
+    match top_of(first) {
+        Top::Value(place) => do_pass_at(place, second, space, test),
+        Top::Cut { .. } => do_pass_both(first, second, space, test),
     }
 }
 

@@ -1,4 +1,4 @@
-use Rattle.std.proofs.Common.{ℕ, ◌≡◌, ◌∙◌, map, Bor, List, Option, sym, subst, ap}
+use Rattle.std.proofs.Common.{ℕ, ◌∙◌, map, Bor, List, Option, sym, subst, ap}
 use Rattle.std.proofs.lemmas.Bool.{OnTrue_at}
 use Rattle.cpg_cube.specs.declared.literal.Literal.{Literal}
 use Rattle.cpg_tree.specs.Decision.{value_at}

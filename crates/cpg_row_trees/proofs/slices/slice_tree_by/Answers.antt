@@ -1,4 +1,4 @@
-use Rattle.std.proofs.Common.{ℕ, ◌≡◌, ◌∙◌, arith, map, Bor, List, Option, subst, sym, ap, length}
+use Rattle.std.proofs.Common.{ℕ, ◌∙◌, arith, map, Bor, List, Option, subst, sym, ap, length}
 use Rattle.std.proofs.lemmas.Bool.{OnTrue_at}
 use Rattle.std.proofs.lemmas.List.{length-map}
 use Rattle.cpg_cube.specs.declared.literal.Literal.{Literal}

@@ -10,14 +10,14 @@ use Rattle.cpg_row_trees.proofs.Passes.{holds_leaf, holds_above, holds_below, ho
 use Rattle.cpg_row_trees.proofs.SliceLaws.{above_again, goes_again}
 use Rattle.cpg_row_trees.proofs.walk.+do_pass_both.Goals as goal
 
-pub returns-in-Value-clause-passed : goal.returns-in-Value-clause-passed
-returns-in-Value-clause-passed g t c =
+pub do_pass_both-returns-in-Value-clause-passed : goal.do_pass_both-returns-in-Value-clause-passed
+do_pass_both-returns-in-Value-clause-passed g t c =
     of_true c.do_pass_at.result c.do_pass_at.ensures.passed
     (λ all n m are seconds. holds_leaf (λ (x : Option ℕ) (s : Scenario). g.J.PairTest.guarantees c.args.test.now x (value_at m s) s) c.args.space.now c.in-Value.place n
     (flat-same n (Leaf c.in-Value.place) (sym are ∙ c.in-Value.ensures.shows)) (all m seconds))
 
-pub returns-then-not-is_open_below-clause-passed : goal.returns-then-not-is_open_below-clause-passed
-returns-then-not-is_open_below-clause-passed g t c =
+pub do_pass_both-returns-then-not-is_open_below-clause-passed : goal.do_pass_both-returns-then-not-is_open_below-clause-passed
+do_pass_both-returns-then-not-is_open_below-clause-passed g t c =
     let shows = c.in-Cut.ensures.shows in
     let space : Space = c.args.space.now in
     of_true c.do_pass_both.result c.do_pass_both.ensures.passed
@@ -28,8 +28,8 @@ returns-then-not-is_open_below-clause-passed g t c =
     (flat-same n (Fork c.in-Cut.variable c.in-Cut.cut shows.0 shows.1) (sym are ∙ shows.4)) (all shows.1 part.0 shows.3 part.1)
     (from_false c.is_open_below.result c.if-not-is_open_below.true c.is_open_below.ensures.none)))
 
-pub returns-then-not-is_open_above-clause-passed : goal.returns-then-not-is_open_above-clause-passed
-returns-then-not-is_open_above-clause-passed g t c =
+pub do_pass_both-returns-then-not-is_open_above-clause-passed : goal.do_pass_both-returns-then-not-is_open_above-clause-passed
+do_pass_both-returns-then-not-is_open_above-clause-passed g t c =
     let shows = c.in-Cut.ensures.shows in
     let space : Space = c.args.space.now in
     of_true c.do_pass_both-then-not-is_open_above.result c.do_pass_both-then-not-is_open_above.ensures.passed
@@ -40,8 +40,8 @@ returns-then-not-is_open_above-clause-passed g t c =
     (flat-same n (Fork c.in-Cut.variable c.in-Cut.cut shows.0 shows.1) (sym are ∙ shows.4)) (all shows.0 part.0 shows.2 part.1)
     (from_false c.is_open_above.result c.if-not-is_open_above.true c.is_open_above.ensures.none)))
 
-pub returns-else-not-do_pass_both-2-clause-passed : goal.returns-else-not-do_pass_both-2-clause-passed
-returns-else-not-do_pass_both-2-clause-passed g t c n m are seconds =
+pub do_pass_both-returns-else-not-do_pass_beside-2-clause-passed : goal.do_pass_both-returns-else-not-do_pass_beside-2-clause-passed
+do_pass_both-returns-else-not-do_pass_beside-2-clause-passed g t c n m are seconds =
     let shows = c.in-Cut.ensures.shows in
     let part = c.part_in-part.ensures.part m seconds in
     let space : Space = c.args.space.now in
@@ -50,12 +50,18 @@ returns-else-not-do_pass_both-2-clause-passed g t c n m are seconds =
     let under : Space = c.close_above-most.new.self in
     let over : Space = c.close_below-was.new.self in
     let again : Space = c.reopen_above.new.self in
-    let same : c.do_pass_both-in-Cut.new.space ≡ under = from_true c.do_pass_both-in-Cut.result c.if-not-do_pass_both.false c.do_pass_both-in-Cut.ensures.same in
-    let back : again ≡ space = above_again space under c.do_pass_both-in-Cut.new.space again v same c.close_above-most.result c.reopen_above.ensures c.close_above-most.ensures.back in
+    let same : c.do_pass_beside.new.space ≡ under = from_true c.do_pass_beside.result c.if-not-do_pass_beside.false c.do_pass_beside.ensures.same in
+    let back : again ≡ space = above_again space under c.do_pass_beside.new.space again v same c.close_above-most.result c.reopen_above.ensures c.close_above-most.ensures.back in
     let goes_over = goes_again space again over v cut back c.close_below-was.ensures.lies in
-    let low = from_true c.do_pass_both-in-Cut.result c.if-not-do_pass_both.false c.do_pass_both-in-Cut.ensures.passed shows.0 part.0 shows.2 part.1 in
-    let high = from_true c.do_pass_both-in-Cut-2.result c.if-not-do_pass_both-2.false c.do_pass_both-in-Cut-2.ensures.passed shows.1 part.0 shows.3 part.1 in
+    let low = from_true c.do_pass_beside.result c.if-not-do_pass_beside.false c.do_pass_beside.ensures.passed shows.0 part.0 shows.2 part.1 in
+    let high = from_true c.do_pass_beside-in-Cut.result c.if-not-do_pass_beside-2.false c.do_pass_beside-in-Cut.ensures.passed shows.1 part.0 shows.3 part.1 in
     holds_beside (g.J.PairTest.guarantees c.args.test.now) space n part.0 m part.2.same.value
     (holds_fork (λ (x : Option ℕ) (s : Scenario). g.J.PairTest.guarantees c.args.test.now x (value_at part.0 s) s) space v cut shows.0 shows.1 n
     (flat-same n (Fork v cut shows.0 shows.1) (sym are ∙ shows.4))
     (λ s lies h. low s (c.close_above-most.ensures.lies s lies h)) (λ s lies h. high s (goes_over s lies h)))
+
+pub do_pass_beside-returns-in-Value-clause-passed : goal.do_pass_beside-returns-in-Value-clause-passed
+do_pass_beside-returns-in-Value-clause-passed g t c =
+    of_true c.do_pass_at.result c.do_pass_at.ensures.passed
+    (λ all n m are seconds. holds_leaf (λ (x : Option ℕ) (s : Scenario). g.J.PairTest.guarantees c.args.test.now x (value_at m s) s) c.args.space.now c.in-Value.place n
+    (flat-same n (Leaf c.in-Value.place) (sym are ∙ c.in-Value.ensures.shows)) (all m seconds))

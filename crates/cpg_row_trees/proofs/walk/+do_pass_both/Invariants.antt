@@ -1,5 +1,8 @@
-use Rattle.std.proofs.Common.{length}
+use Rattle.std.proofs.Common.{◌+◌, ◌*◌, length}
 use Rattle.cpg_row_trees.proofs.walk.+do_pass_both.Given as goal
 
 abbrev pub decreases-do_pass_both : goal.decreases-do_pass_both
-decreases-do_pass_both g l = length l.first.now
+decreases-do_pass_both g l = 2 * length l.first.now
+
+abbrev pub decreases-do_pass_beside : goal.decreases-do_pass_beside
+decreases-do_pass_beside g l = 2 * length l.first.now + 1

@@ -1,0 +1,11 @@
+use Rattle.std.proofs.Common.{◌+◌, ◌*◌}
+use Rattle.cpg_row_trees.proofs.listed.+build_listed.Given as goal
+
+abbrev pub decreases-build_listed_fork : goal.decreases-build_listed_fork
+decreases-build_listed_fork l = 3 * l.growth.now.left + 2
+
+abbrev pub decreases-build_listed_above : goal.decreases-build_listed_above
+decreases-build_listed_above l = 3 * l.growth.now.left + 1
+
+abbrev pub decreases-build_listed : goal.decreases-build_listed
+decreases-build_listed l = 3 * l.growth.now.left

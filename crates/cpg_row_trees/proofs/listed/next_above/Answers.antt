@@ -1,0 +1,16 @@
+use Rattle.std.proofs.Common.{take, List, ◌∙◌, ap, sym}
+use Rattle.cpg_cube.specs.declared.literal.Literal.{Literal}
+use Rattle.cpg_tree.proofs.Passes.{of_true}
+use Rattle.cpg_row_trees.proofs.PlaceHintLaws.{cube_here, within_lent}
+use Rattle.cpg_row_trees.proofs.listed.next_above.Goals as goal
+
+pub returns : goal.returns
+returns c =
+    let look = c.in-Some.ensures.lookup in
+    let other = c.in-Some-get.ensures.lookup in
+    let front = λ (ls : List Literal). take c.args.part.depth ls in
+    of_true c.is_next.result c.is_next.ensures (λ same. record {
+      there = within_lent c.args.cubes.now c.args.place c.in-Some.cube.now look.3.0 look.1;
+      same = ap front (cube_here c.args.cubes.now c.args.place c.in-Some.cube.now look.3.0 look.1) ∙ ap front (sym c.literals.ensures.literals) ∙ same ∙ ap front c.literals-2.ensures.literals ∙
+          ap front (sym (cube_here c.args.cubes.now c.args.from c.in-Some-get.other.now other.3.0 other.1));
+    })

@@ -1,0 +1,6 @@
+use Rattle.std.proofs.Common.{take}
+use Rattle.cpg_row_trees.specs.Slices.{IsOwn}
+use Rattle.cpg_row_trees.proofs.listed.top_behind.Given as goal
+
+abbrev pub invariant-loop-at : goal.invariant-loop-at
+invariant-loop-at l = IsOwn l.k l.space (take l.at l.literals)

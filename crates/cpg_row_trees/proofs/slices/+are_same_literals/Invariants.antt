@@ -1,0 +1,5 @@
+use Rattle.std.proofs.Common.{length}
+use Rattle.cpg_row_trees.proofs.slices.+are_same_literals.Given as goal
+
+abbrev pub decreases-are_same_literals : goal.decreases-are_same_literals
+decreases-are_same_literals l = length l.literals.now
