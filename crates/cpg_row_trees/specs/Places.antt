@@ -4,6 +4,8 @@ use Rattle.cpg_base.specs.Scenario.{Scenario}
 use Rattle.cpg_cube.specs.Cube.{matches}
 use Rattle.cpg_cube.specs.declared.literal.Literal.{Literal}
 use Rattle.cpg_tree.specs.TreeNode.{TreeNode}
+use Rattle.cpg_tree.specs.declared.item.TreeItem.{TreeItem}
+use Rattle.cpg_tree.specs.declared.item.TreeItem.TheVariants.{Value, Cut}
 use Rattle.cpg_row_trees.specs.PlacesState.{PlacesState}
 use Rattle.cpg_tree.specs.declared.space.Space.{Space}
 use Rattle.cpg_tree.specs.Space.{IsInSpace}
@@ -41,3 +43,9 @@ HoldsInSpace fact space a = (s : Scenario) → IsInSpace space s → fact (value
 abbrev pub IsAmong : List ℕ → Option ℕ → Type 0
 IsAmong places None = ⊥
 IsAmong places (Some i) = Contains places i
+
+-- no leaf without a place
+abbrev pub IsThere : TreeItem (Option ℕ) → Type 0
+IsThere (Value None) = ⊥
+IsThere (Value (Some i)) = Unit {0}
+IsThere (Cut v cut below) = Unit {0}

@@ -1,5 +1,5 @@
 //! The tree of the places of cubes of which no scenario matches two.
-ghost use Rattle.std.specs.Prelude.{◌≡◌, ◌++◌, ◌≤◌, ◌<◌, ℕ, [], Contains, IfOk, IfSome, OnOk, false, length, map, true};
+ghost use Rattle.std.specs.Prelude.{◌≡◌, ◌++◌, ◌≤◌, ◌<◌, ℕ, [], Contains, IfOk, IfSome, None, OnOk, false, length, map, true};
 ghost use Rattle.std.specs.Bool.{OnFalse, OnTrue};
 ghost use Rattle.cpg_base.specs.Scenario.{Scenario, number_of};
 ghost use Rattle.cpg_base.specs.declared.limits.TheConstants.{MOST_LOAD};
@@ -12,7 +12,7 @@ ghost use Rattle.cpg_row_trees.specs.PlaceHints.{IsVariableRange, IsImpliedBy, I
 
 use crate::gathering::gather;
 use crate::slices::slice_tree;
-use crate::walk::{PairTest, Test, do_pass, do_pass_with};
+use crate::walk::{PairTest, Test, are_all_there, do_pass, do_pass_with};
 use cpg_base::{FIRST_VALUE, OutOfMemory};
 use cpg_cube::{Cube, Literal};
 use cpg_tree::{Space, Tally, TreeItem, fork_of};
@@ -758,6 +758,13 @@ impl Places {
         let items = cubes.len() as u32 * EACH_SHARED + FEW_SHARED;
         let places = place_tree(alloc, k, cubes, items)?;
         Ok(places)
+    }
+
+    /// Whether each scenario is known to come to a place: no leaf is without one.
+    pub fn are_everywhere(&self) -> bool
+        ensures { OnTrue result ((s : Scenario) → place_at self.now s ≡ None → ⊥) }
+    {
+        are_all_there(self.items.as_slice())
     }
 
     /// Whether a test passes at each place that scenarios of a space come to.

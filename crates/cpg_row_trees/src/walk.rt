@@ -1,11 +1,12 @@
 //! Whether a test passes wherever scenarios of a space come to.
-ghost use Rattle.std.specs.Prelude.{◌≡◌, ℕ, Option};
+ghost use Rattle.std.specs.Prelude.{◌≡◌, ℕ, All, Option};
 ghost use Rattle.std.specs.Bool.{OnTrue};
 ghost use Rattle.cpg_base.specs.Scenario.{Scenario};
 ghost use Rattle.cpg_tree.specs.Space.{IsInSpace};
 ghost use Rattle.cpg_tree.specs.Decision.{value_at};
 ghost use Rattle.cpg_tree.specs.Flat.{IsFlat, flat};
 ghost use Rattle.cpg_tree.specs.TreeNode.{TreeNode};
+ghost use Rattle.cpg_row_trees.specs.Places.{IsThere};
 
 use cpg_tree::{Space, Top, TreeItem, part_in, top_of};
 
@@ -44,6 +45,28 @@ impl<'a, J: PairTest> Test for Beside<'a, J> {
     fn passes(&self, place: Option<u32>, space: &Space) -> bool {
         self.test.passes(self.first, place, space)
     }
+}
+
+/// Whether an item is no leaf without a place.
+fn is_there(item: TreeItem<Option<u32>>) -> bool
+    ensures { OnTrue result (IsThere item) }
+{
+    match item {
+        TreeItem::Value(place) => place.is_some(),
+        TreeItem::Cut { .. } => true,
+    }
+}
+
+/// Whether no item is a leaf without a place.
+pub(crate) fn are_all_there(items: &[TreeItem<Option<u32>>]) -> bool
+    ensures { OnTrue result (All IsThere items.now) }
+{
+    for item in items {
+        if !is_there(*item) {
+            return false;
+        }
+    }
+    true
 }
 
 /// Whether a test passes at each place that scenarios of a space come to. The space is changed on the way, and is as
