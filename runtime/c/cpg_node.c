@@ -63,7 +63,7 @@ static bool is_start(const cpg_node *node, uint16_t row)
 /*@ requires cpg_is_open(node);
     terminates \true;
     assigns \nothing;
-    ensures \result <==> row >= node->table->acting; */
+    ensures heard: \result <==> row >= node->table->acting; */
 static bool is_heard(const cpg_node *node, uint16_t row)
 {
     return row >= node->table->acting;
@@ -119,7 +119,7 @@ void cpg_begin(cpg_node *node, const cpg_table *table)
         for table: loop invariant same: d_same_ranges{Whole,Here}(node);
         for table: loop invariant same: d_same_flags{Came,Here}(node);
         for table: loop invariant at: d_is_at(node, 0, 0);
-        for table: loop invariant \forall integer r; 0 <= r < row ==> node->execution[r].state == CPG_IDLE;
+        for table: loop invariant idle: \forall integer r; 0 <= r < row ==> node->execution[r].state == CPG_IDLE;
         loop assigns row, node->execution[0 .. CPG_MAX_OWN - 1];
         loop variant node->table->own - row; */
     for (uint16_t row = 0U; row < node->table->own; row++) {

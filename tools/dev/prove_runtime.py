@@ -1,20 +1,22 @@
 """Shows by Frama-C what the contracts of the node in C (runtime/c) say: that it is defined on any bytes, and what its turn part does.
 
     tools/prove-runtime [FUNCTION ...] [--memory | --table] [--machine M ...] [--macros default|small ...] [--by PROVER ...] [--smoke]
-        [--seconds S] [--provers N]
-    tools/prove-runtime --wrong [FUNCTION ...] [--seconds S] [--provers N]
+        [--seconds S] [--provers N] [--keep FOLDER]
+    tools/prove-runtime --wrong [FUNCTION ...] [--seconds S] [--provers N] [--keep FOLDER]
 
 There are two parts, each for the sizes of x86_64 and x86_32, and for both with the default macros and with those of one small table, unless
 some are named. With --memory it does the first one alone, which is the quick way; with --table the second.
 
 - Memory: WP with the checks of RTE on cpg_node.c and cpg_open.c, without all that is said by a lawful table. A line for each file says how
   many goals were proved.
-- Table: WP on the lemmas of cpg_spec.h, and on the behavior `table` of one function of cpg_node.c after another, with a line for each.
+- Table: WP on the lemmas of cpg_spec.h, and on the behavior `table` of one function of cpg_node.c after another, with a line for each. A
+  function is asked in a file of its own, with the contracts of those that it calls, so that a prover reads no more than it needs.
 
 A line after it names each goal that wasn't proved. The last line has the sum. The status is 0 if all were proved. With --smoke it also looks
 whether a contract can't be met, so that all of it would be proved in vain. With --wrong it tries the wrong bodies of runtime/c/test/wrong.py
-instead, and says of each which goals of its function are left: it is refused if there is one. If frama-c, why3 or a prover is missing, a line
-says so, and nothing is done.
+instead, with the default macros and for x86_64 unless others are named. It asks for the goals that are to refuse a body, which each names, and
+says which are left. A body is refused if one is, and the right body leaves none by the same limits. If frama-c, why3 or a prover is missing,
+a line says so, and nothing is done.
 
 Debian's packages: frama-c-base why3 cvc4 cvc5 z3.
 """
@@ -25,6 +27,7 @@ import re
 import subprocess
 import tempfile
 import time
+from concurrent.futures import ThreadPoolExecutor
 from pathlib import Path
 from typing import Any, Iterator
 
@@ -32,6 +35,7 @@ from cpgc_tools import cli, program
 
 Setting = tuple[str, str]  # a machine model and a name of MACROS
 Run = tuple[str, Path, list[str], list[str]]  # of WP: its name, a source, functions of it, and more words
+Answer = tuple[int, int, list[str]]  # the goals that are proved, all of them, and the names of those that aren't
 
 FOLDER = Path(__file__).resolve().parents[2] / "runtime" / "c"
 SOURCES = ["cpg_node.c", "cpg_open.c"]
@@ -41,11 +45,12 @@ MACROS: dict[str, list[str]] = {
     # those of `c-table pair.pack N2 --sizes`
     "small": ["CPG_MAX_PROCESSES=2U", "CPG_MAX_CONDITIONS=1U", "CPG_MAX_OWN=1U", "CPG_MAX_ROWS=2U", "CPG_MAX_COLUMNS=4U"]}
 # In the order in which they are tried, each with its words. With --macros-quant cvc4 puts definitions in their places.
-PROVERS = {
+PROVERS: dict[str, tuple[str, str, str]] = {
     "cvc4-macros": ("cvc4", "--lang=smt2 --macros-quant", "cvc4_17"),
     "cvc5": ("cvc5", "--lang=smt2 --force-logic=ALL", "cvc4_17"),
     "cvc4": ("cvc4", "--lang=smt2", "cvc4_17"),
     "z3": ("z3", "-smt2 -T:1000000", "z3_440")}
+SHORT = [("cvc4-macros", 1), ("cvc5", 1), ("cvc4-macros", 3), ("cvc5", 3)]  # seconds, before each prover has all of its time
 LEMMAS = "lemmas"  # asks for the lemmas of cpg_spec.h, in place of a function
 LONGEST = 3600  # seconds of the clock for a goal, on a machine that does much else
 DEFINITION = re.compile(r"^(?:static )?\w+ (\w+)\([^;{]*\)\n\{", re.MULTILINE)
@@ -54,6 +59,9 @@ LEFT = re.compile(r"^\[wp\] \[[^]]*\] Goal (\w+)(?! : Valid)\b", re.MULTILINE)
 # What is said by a lawful table: a behavior, at the end of its comment or alone in it, clauses of loops, and assertions.
 BY_TABLE = re.compile(r"/\*@ behavior table:.*?\*/|\n\s*behavior table:.*?(?= \*/)|for table: .*?;(?=\n| \*/)", re.DOTALL)
 EMPTY = re.compile(r"/\*@\s*\*/|//@\s*(?=\n)")
+CONTRACT = re.compile(r"/\*@(?:(?!\*/).)*\*/\n(?=(?:static )?\w+ \w+\([^;{]*\)\n\{|\Z)", re.DOTALL)
+BLOCK = re.compile(r"^    axiomatic \w+ \{\n.*?^    \}\n", re.MULTILINE | re.DOTALL)
+NAME = re.compile(r"\b(?:predicate|logic \w+) (\w+)")
 BODY = r"^(?:static )?\w+ {}\([^;{{]*\)\n\{{.*?^\}}\n"
 
 
@@ -67,38 +75,67 @@ def functions_by_table(source: str) -> list[str]:
     return [found[1] for found in DEFINITION.finditer(text) if "behavior table:" in text[:found.start()].rpartition("\n}\n")[2]]
 
 
+def alone(text: str, function: str) -> str:
+    """A source with one function and the contracts of those that it calls."""
+    found = re.search(BODY.format(function), text, re.MULTILINE | re.DOTALL)
+    body, parts, at = found[0] if found else "", list[str](), 0
+    for other in DEFINITION.finditer(text):
+        contract = CONTRACT.search(text, at, other.start())
+        parts.append(text[at:contract.start() if contract else other.start()])
+        at = text.index("\n}\n", other.end()) + 3
+        if other[1] == function:
+            parts.append(text[contract.start() if contract else other.start():at])
+        elif re.search(rf"\b{other[1]}\(", body):
+            parts.append(text[contract.start() if contract else other.start():other.end() - 2] + ";\n")
+    return "".join(parts)
+
+
+def with_blocks(spec: str, text: str) -> str:
+    """The specification without the blocks of axioms and lemmas that nobody names."""
+    for block in reversed(list(BLOCK.finditer(spec))):
+        rest = spec[:block.start()] + spec[block.end():]
+        if not any(re.search(rf"\b{name}\b", rest + text) for name in NAME.findall(block[0])):
+            spec = rest
+    return spec
+
+
 def without_table(text: str) -> str:
     """A source without what it says by a lawful table."""
     return EMPTY.sub("", BY_TABLE.sub("", text))
 
 
-def configure(place: Path, seconds: int) -> None:
-    """Writes what Why3 needs to know of the provers, whose time is that of the processor. What is the same goal in two settings is asked once."""
-    cache = place / "cache"
-    cache.mkdir()
-    os.environ["FRAMAC_WP_CACHE"] = "update"
-    os.environ["FRAMAC_WP_CACHEDIR"] = str(cache)
-    parts = [f"[main]\nmagic = 14\nmemlimit = 2000\nrunning_provers_max = 4\ntimelimit = {seconds}\n"]
-    for name, (file, words, driver) in PROVERS.items():
+def tries(asked: argparse.Namespace) -> list[tuple[str, int]]:
+    """Who is asked for a goal, and for how many seconds, one after another."""
+    provers = asked.by or list(PROVERS)
+    short = [(name, seconds) for name, seconds in SHORT if name in provers and seconds < asked.seconds]
+    return [*short, *((name, asked.seconds) for name in provers)]
+
+
+def configure(place: Path, asked: argparse.Namespace) -> None:
+    """Writes what Why3 needs to know of the provers. The version of each is the processor time that it has."""
+    parts = ["[main]\nmagic = 14\nmemlimit = 2000\nrunning_provers_max = 4\n"]
+    for name, seconds in tries(asked):
+        file, words, driver = PROVERS[name]
         command = f"prlimit --cpu={seconds} {file} {words} %f"
-        parts.append(f'[prover]\nname = "{name}"\nversion = "1"\ncommand = "{command}"\ndriver = "{driver}"\n')
+        parts.append(f'[prover]\nname = "{name}"\nversion = "{seconds}"\ncommand = "{command}"\ndriver = "{driver}"\n')
     conf = place / "why3.conf"
     conf.write_text("\n".join(parts))
     os.environ["WHY3CONFIG"] = str(conf)
 
 
 def command(source: Path, functions: list[str], words: list[str], setting: Setting, asked: argparse.Namespace) -> list[str]:
+    """WP's words. A goal that is the same text in two settings is asked once, by the cache."""
     machine, macros = setting
-    flags = " ".join(["-std=c99", f"-I{FOLDER}", *(f"-D{macro}" for macro in MACROS[macros])])
-    provers = ",".join(f"{name}:1" for name in asked.by or list(PROVERS))
+    flags = " ".join(["-std=c99", f"-I{source.parent}", f"-I{FOLDER}", *(f"-D{macro}" for macro in MACROS[macros])])
+    provers = ",".join(f"{name}:{seconds}" for name, seconds in tries(asked))
     smoke = ["-wp-smoke-tests"] if asked.smoke else []
     return ["frama-c", "-machdep", machine, f"-cpp-extra-args={flags}", "-kernel-warn-key", "annot-error=abort", str(source), "-wp", "-wp-rte",
-            *words, "-wp-prover", provers, "-wp-timeout", str(LONGEST), "-wp-par", str(asked.provers), *smoke,
+            *words, "-wp-prover", provers, "-wp-timeout", str(LONGEST), "-wp-par", "1", "-wp-cache", "update", "-wp-cache-dir", asked.keep, *smoke,
             *(["-wp-fct", ",".join(functions)] if functions else [])]
 
 
-def prove(source: Path, functions: list[str], words: list[str], setting: Setting, asked: argparse.Namespace) -> tuple[int, int, list[str]]:
-    """The goals of some functions that are proved, all of them, and the names of those that aren't."""
+def prove(source: Path, functions: list[str], words: list[str], setting: Setting, asked: argparse.Namespace) -> Answer:
+    """What WP says of the goals of some functions."""
     done = subprocess.run(command(source, functions, words, setting, asked), capture_output=True, text=True)
     counts = COUNTS.search(done.stdout)
     if done.returncode != 0 or counts is None:
@@ -123,16 +160,24 @@ def spoilt(source: str, wrong: Any) -> str:
 
 
 def try_wrong(place: Path, asked: argparse.Namespace) -> int:
-    """Tries each wrong body, and answers how many weren't refused."""
-    source, passed = (FOLDER / "cpg_node.c").read_text(), 0
+    """Tries each wrong body, and answers how many weren't refused: neither is one where the right body leaves a goal by the same limits."""
+    setting = asked.machine[0] if asked.machine else MACHINES[0], asked.macros[0] if asked.macros else "default"
+    right, rights, passed = (FOLDER / "cpg_node.c").read_text(), dict[tuple[str, str], list[str]](), 0
+
+    def left_of(source: str, function: str, by: str) -> list[str]:
+        file = write_alone(place, "cpg_node.c", source, function)
+        return prove(file, [function], ["-wp-split", *(["-wp-prop", by] if by else [])], setting, asked)[2]
+
     for wrong in wrong_bodies():
         if not asked.functions or wrong.function in asked.functions:
-            file = place / "cpg_node.c"
-            file.write_text(spoilt(source, wrong))
-            setting = asked.machine[0] if asked.machine else MACHINES[0], "default"
-            _, _, left = prove(file, [wrong.function], ["-wp-split"], setting, asked)
-            passed += not left
-            print(f"{wrong.name}: {'refused by ' + wrong.function if left else 'not refused'}", *(f"  left: {goal}" for goal in left), sep="\n", flush=True)
+            where = wrong.function, wrong.by
+            left = left_of(spoilt(right, wrong), *where)
+            if where not in rights:
+                rights[where] = left_of(right, *where)
+            refused = left and not rights[where]
+            passed += not refused
+            print(f"{wrong.name}: {'refused by ' + wrong.function if refused else 'not refused'}", *(f"  left: {goal}" for goal in left),
+                  *(f"  left by the right body: {goal}" for goal in rights[where]), sep="\n", flush=True)
     print(f"{passed} wrong bodies weren't refused")
     return passed
 
@@ -151,6 +196,7 @@ def words() -> argparse.Namespace:
     parser.add_argument("--wrong", action="store_true", help="try the wrong bodies of runtime/c/test/wrong.py")
     parser.add_argument("--seconds", type=int, default=10, metavar="S", help="how much processor time a prover has for a goal (10)")
     parser.add_argument("--provers", type=int, default=1, metavar="N", help="how many provers work at a time (1)")
+    parser.add_argument("--keep", metavar="FOLDER", help="where to look for what provers have answered, and to keep it (nowhere)")
     return parser.parse_args()
 
 
@@ -163,24 +209,40 @@ def on_memory(place: Path, asked: argparse.Namespace) -> Iterator[Run]:
             yield f"{source}, memory", file, functions, []
 
 
-def by_table(asked: argparse.Namespace) -> Iterator[Run]:
+def write_alone(place: Path, source: str, text: str, function: str) -> Path:
+    """Writes a file for one function, and what it needs of the specification beside it."""
+    folder = place / function
+    folder.mkdir(exist_ok=True)
+    text = alone(text, function)
+    (folder / source).write_text(text)
+    (folder / "cpg_spec.h").write_text(with_blocks((FOLDER / "cpg_spec.h").read_text(), text))
+    return folder / source
+
+
+def by_table(place: Path, asked: argparse.Namespace) -> Iterator[Run]:
     if not asked.functions or LEMMAS in asked.functions:
-        yield "lemmas", FOLDER / "cpg_node.c", [], ["-wp-prop", "@lemma"]
+        yield LEMMAS, FOLDER / "cpg_node.c", [], ["-wp-prop", "@lemma"]
     for source in SOURCES:
         for function in functions_by_table(source):
             if not asked.functions or function in asked.functions:
-                yield f"{function}, table", FOLDER / source, [function], ["-wp-bhv", "table", "-wp-split"]
+                file = write_alone(place, source, (FOLDER / source).read_text(), function)
+                yield f"{function}, table", file, [function], ["-wp-bhv", "table", "-wp-split"]
 
 
 def prove_all(place: Path, setting: Setting, asked: argparse.Namespace) -> tuple[int, int]:
     totals = (0, 0)
     began = time.monotonic()
     runs = [*on_memory(place, asked)] if not asked.table else []
-    runs += by_table(asked) if not asked.memory else []
-    for name, source, functions, more in runs:
-        proved, all_, left = prove(source, functions, more, setting, asked)
-        totals = totals[0] + proved, totals[1] + all_
-        print(f"{name}: {proved} of {all_}", *(f"  left: {goal}" for goal in left), sep="\n", flush=True)
+    runs += by_table(place, asked) if not asked.memory else []
+
+    def answer(run: Run) -> Answer:
+        _, source, functions, more = run
+        return prove(source, functions, more, setting, asked)
+
+    with ThreadPoolExecutor(asked.provers) as pool:
+        for (name, *_), (proved, all_, left) in zip(runs, pool.map(answer, runs)):
+            totals = totals[0] + proved, totals[1] + all_
+            print(f"{name}: {proved} of {all_}", *(f"  left: {goal}" for goal in left), sep="\n", flush=True)
     machine, macros = setting
     print(f"{machine}, {macros} macros: {totals[0]} of {totals[1]} goals proved, in {time.monotonic() - began:.0f} s", flush=True)
     return totals
@@ -198,7 +260,9 @@ def main() -> int:
         cli.fail(f"no function: {unknown[0]}")
     totals = [0, 0]
     with tempfile.TemporaryDirectory() as place:
-        configure(Path(place), asked.seconds)
+        asked.keep = asked.keep or str(Path(place) / "cache")
+        Path(asked.keep).mkdir(exist_ok=True)
+        configure(Path(place), asked)
         if asked.wrong:
             return 1 if try_wrong(Path(place), asked) else 0
         for machine in asked.machine or MACHINES:
