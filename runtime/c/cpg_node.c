@@ -630,6 +630,9 @@ static uint64_t end_of(const cpg_node *node, uint16_t row, uint32_t faults)
       ensures \forall integer r; 0 <= r < CPG_MAX_OWN && r != row ==> d_same_execution{Pre,Post}(node, r); */
 static void start(cpg_node *node, uint16_t row, uint64_t now)
 {
+    //@ for table: assert own: node->table->process[row].durations == t_durations(row);
+    //@ for table: assert k: node->table->k == t_k;
+    //@ for table: assert place: t_durations(row) + 8 * t_k <= 4294967288;
     const uint64_t until = now + time_at(node, node->table->process[row].durations + (TIME_BYTES * node->table->k));
     //@ for table: assert until: until == now + d_time_of(row, t_k);
     node->execution[row].state = CPG_RUNNING;
@@ -732,6 +735,7 @@ static bool take_act(cpg_node *node, uint32_t i, uint64_t now, cpg_event *event)
         //@ for table: assert holds: d_holds(node);
         //@ for table: assert ranges: d_same_ranges{Pre,Here}(node);
         //@ for table: assert others: \forall integer r; 0 <= r < CPG_MAX_OWN && r != row ==> d_same_execution{Pre,Here}(node, r);
+        //@ for table: assert begun: d_is_started(node, row, now);
         //@ ghost Started: ;
         tell(node, event, CPG_START, now, row, node->table->due[i].column, 0U);
         //@ for table: assert same: d_same_executions{Started,Here}(node);
@@ -739,6 +743,7 @@ static bool take_act(cpg_node *node, uint32_t i, uint64_t now, cpg_event *event)
         //@ for table: assert ranges: d_same_ranges{Started,Here}(node);
         //@ for table: assert ranges: d_same_ranges{Pre,Here}(node);
         //@ for table: assert timed: d_are_timed(node);
+        //@ for table: assert begun: d_same_execution{Started,Here}(node, row);
         //@ for table: assert started: d_is_started(node, row, now);
     } else {
         tell(node, event, CPG_SEND, now, row, node->table->due[i].column, value_of(node, node->table->item[row]));
@@ -805,6 +810,7 @@ static bool take_column(cpg_node *node, uint32_t i, uint64_t now, cpg_event *eve
 {
     bool found;
     //@ for table: assert kept: d_is_kept(node);
+    //@ for table: assert numbers: d_has_numbers(node);
     //@ for table: assert dues: i < t_dues;
     found = take_due(node, i, now, event);
     //@ for table: assert at: d_is_at(node, now + 1, i + 1);
@@ -823,8 +829,15 @@ static bool take_column(cpg_node *node, uint32_t i, uint64_t now, cpg_event *eve
     //@ for table: assert heard: d_all_heard(node, t_at(i)) ==> d_all_heard{Pre}(node, t_at(i));
     //@ for table: assert acts: found && t_row(i) < t_acting ==> d_acts(node, i);
     //@ for table: assert act: found ==> d_tells_last(node, now, event);
+    //@ for table: assert ranges: \forall integer p; 0 <= p < CPG_VARIABLES ==> d_same_range{Pre,Here}(node, p);
+    //@ for table: assert numbers: \forall integer p; 0 <= p < CPG_VARIABLES ==> node->heard[p].low <= node->heard[p].high;
+    //@ for table: assert numbers: \forall integer p; CPG_MAX_PROCESSES <= p < CPG_VARIABLES ==> node->heard[p].high <= 1;
     //@ for table: assert numbers: d_has_numbers(node);
     //@ for table: assert kept: d_is_kept(node);
+    //@ for table: assert columns: \forall integer c; node->next <= c < t_dues ==> now <= d_time(c);
+    //@ for table: assert this: found && t_row(i) < t_own ==> now <= node->execution[t_row(i)].until;
+    /*@ for table: assert others: \forall integer row; 0 <= row < t_own && !(found && row == t_row(i)) && d_is_awaited(node, row) ==>
+        now <= node->execution[row].until; */
     //@ for table: assert before: d_nothing_before(node, now);
     //@ for table: assert over: d_columns_over(node);
     //@ for table: assert ahead: d_reports_ahead(node);
@@ -1356,6 +1369,9 @@ cpg_status cpg_ended(cpg_node *node, uint64_t time, uint16_t process, uint16_t f
     //@ for table: assert sizes: d_has_sizes(node->table);
     //@ for table: assert bytes: d_has_bytes(node->table);
     //@ for table: assert own: d_has_own(node->table);
+    //@ for table: assert dues: \forall integer i; 0 <= i < t_dues ==> node->table->due[i].at == t_at(i);
+    //@ for table: assert dues: \forall integer i; 0 <= i < t_dues ==> node->table->due[i].row == t_row(i);
+    //@ for table: assert dues: \forall integer i; 0 <= i < t_dues ==> node->table->due[i].column == t_column(i);
     //@ for table: assert dues: d_has_dues(node->table);
     //@ for table: assert holds: d_holds(node);
     //@ for table: assert kept: d_is_kept(node);

@@ -60,7 +60,7 @@ LEFT = re.compile(r"^\[wp\] \[[^]]*\] Goal (\w+)(?! : Valid)\b", re.MULTILINE)
 BY_TABLE = re.compile(r"/\*@ behavior table:.*?\*/|\n\s*behavior table:.*?(?= \*/)|for table: .*?;(?=\n| \*/)", re.DOTALL)
 EMPTY = re.compile(r"/\*@\s*\*/|//@\s*(?=\n)")
 CONTRACT = re.compile(r"/\*@(?:(?!\*/).)*\*/\n(?=(?:static )?\w+ \w+\([^;{]*\)\n\{|\Z)", re.DOTALL)
-BLOCK = re.compile(r"^    axiomatic \w+ \{\n.*?^    \}\n", re.MULTILINE | re.DOTALL)
+BLOCK = re.compile(r"^    axiomatic (\w+) \{\n.*?^    \}\n", re.MULTILINE | re.DOTALL)
 NAME = re.compile(r"\b(?:predicate|logic \w+) (\w+)")
 BODY = r"^(?:static )?\w+ {}\([^;{{]*\)\n\{{.*?^\}}\n"
 
@@ -165,7 +165,7 @@ def try_wrong(place: Path, asked: argparse.Namespace) -> int:
     right, rights, passed = (FOLDER / "cpg_node.c").read_text(), dict[tuple[str, str], list[str]](), 0
 
     def left_of(source: str, function: str, by: str) -> list[str]:
-        file = write_alone(place, "cpg_node.c", source, function)
+        file = write_alone(place / function, SOURCES[0], source, function)
         return prove(file, [function], ["-wp-split", *(["-wp-prop", by] if by else [])], setting, asked)[2]
 
     for wrong in wrong_bodies():
@@ -209,23 +209,25 @@ def on_memory(place: Path, asked: argparse.Namespace) -> Iterator[Run]:
             yield f"{source}, memory", file, functions, []
 
 
-def write_alone(place: Path, source: str, text: str, function: str) -> Path:
-    """Writes a file for one function, and what it needs of the specification beside it."""
-    folder = place / function
+def write_alone(folder: Path, source: str, text: str, function: str, named: str = "") -> Path:
+    """Writes a file for one function, and beside it the specification without what neither the function nor other words name."""
     folder.mkdir(exist_ok=True)
     text = alone(text, function)
     (folder / source).write_text(text)
-    (folder / "cpg_spec.h").write_text(with_blocks((FOLDER / "cpg_spec.h").read_text(), text))
+    (folder / "cpg_spec.h").write_text(with_blocks((FOLDER / "cpg_spec.h").read_text(), text + named))
     return folder / source
 
 
 def by_table(place: Path, asked: argparse.Namespace) -> Iterator[Run]:
     if not asked.functions or LEMMAS in asked.functions:
-        yield LEMMAS, FOLDER / "cpg_node.c", [], ["-wp-prop", "@lemma"]
+        for block in BLOCK.finditer((FOLDER / "cpg_spec.h").read_text()):
+            if " lemma " in block[0]:
+                file = write_alone(place / block[1], SOURCES[0], (FOLDER / SOURCES[0]).read_text(), LEMMAS, block[0])
+                yield f"{LEMMAS} of {block[1]}", file, [], ["-wp-prop", "@lemma"]
     for source in SOURCES:
         for function in functions_by_table(source):
             if not asked.functions or function in asked.functions:
-                file = write_alone(place, source, (FOLDER / source).read_text(), function)
+                file = write_alone(place / function, source, (FOLDER / source).read_text(), function)
                 yield f"{function}, table", file, [function], ["-wp-bhv", "table", "-wp-split"]
 
 

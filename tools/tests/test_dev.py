@@ -339,5 +339,41 @@ class Linters(Tree):
                          ["eslint: not asked, as this one can't be: no such option", "the linters say nothing"])
 
 
+class Contracts(Tree):
+    """tools/prove-runtime with a frama-c of the test's own, which keeps the source that it is given."""
+
+    copied = ("tools", "runtime/c")
+
+    def prove(self, says: str, *words: str) -> list[str]:
+        for name in ["why3", "cvc4", "cvc5", "z3"]:
+            self.script(f"bin/{name}", "")
+        self.script("bin/frama-c", f'for word in "$@"; do case "$word" in *.c) file=$word;; esac; done; cat "$file" >> {self.top}/given\n{says}')
+        path = f"{self.top}/bin:{os.environ['PATH']}"
+        status, out, err = self.run_tool(sys.executable, "tools/prove-runtime", *words, PATH=path)
+        self.assertEqual(err, "")
+        return [*out.splitlines(), f"status {status}"]
+
+    def test_alone(self) -> None:
+        """A function stands as it is in its source, with the contracts of those that it calls, and with no other body."""
+        said = self.prove("echo '[wp] Proved goals:    2 / 3'; echo '[wp] [Timeout] Goal typed_know_table (cvc5)'", "--table", "tell_end",
+                          "--machine", "x86_32", "--macros", "small")
+        self.assertEqual([said[0], said[1], said[-1]], ["tell_end, table: 2 of 3", "  left: typed_know_table", "status 1"])
+        given, source = (self.top / "given").read_text(), (TOP / "runtime/c/cpg_node.c").read_text()
+        self.assertEqual(given.count("\n{\n"), 1)
+        for name, end in [("tell_end", "\n}\n"), ("know", ")\n"), ("place_of", ")\n"), ("place_of_value", ")\n")]:
+            at = source.index(f" {name}(")
+            self.assertIn(source[source.rindex("/*@", 0, at):source.index(end, at) + len(end)].rstrip("\n"), given)
+
+    def test_wrong(self) -> None:
+        """A body is refused where a goal is left that the right one doesn't leave."""
+        left = "echo '[wp] Proved goals:    1 / 2'; echo '[wp] [Timeout] Goal typed_is_heard_ensures (cvc5)'"
+        other = f"if grep -q 'row >= node->table->own' \"$file\"; then {left}; else echo '[wp] Proved goals:    2 / 2'; fi"
+        name, goal = "what a node sends heard too", "typed_is_heard_ensures"
+        self.assertEqual(self.prove(other, "--wrong", "is_heard"),
+                         [f"{name}: refused by is_heard", f"  left: {goal}", "0 wrong bodies weren't refused", "status 0"])
+        self.assertEqual(self.prove(left, "--wrong", "is_heard"),
+                         [f"{name}: not refused", f"  left: {goal}", f"  left by the right body: {goal}", "1 wrong bodies weren't refused", "status 1"])
+
+
 if __name__ == "__main__":
     unittest.main()

@@ -27,7 +27,7 @@ BODIES = [
     Wrong("value of a condition not told", "tell_end",
           "    know(node, place_of_value(node->table->process[row].condition), node->execution[row].value);\n", ""),
     Wrong("an act though not all is heard", "take_act", "!follows(node, node->table->due[i].at)", "false"),
-    Wrong("a start not noted", "take_act", "        start(node, row, now);\n", "", "started"),
+    Wrong("a start not noted", "take_act", "        start(node, row, now);\n", "", "begun"),
     Wrong("a broadcast carries 0", "take_act", "value_of(node, node->table->item[row])", "0U"),
     Wrong("the end without faults awaited", "start", "(TIME_BYTES * node->table->k)", "(TIME_BYTES * 0U)"),
     Wrong("acts of the instant left out", "take_dues", "(due_time(node, node->next) <= now)", "(due_time(node, node->next) < now)", "done"),
