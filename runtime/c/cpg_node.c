@@ -462,6 +462,9 @@ static void tell(const cpg_node *node, cpg_event *event, cpg_kind kind, uint64_t
     //@ for table: assert bytes: d_has_bytes(node->table);
     //@ for table: assert items: d_has_items(node->table);
     //@ for table: assert own: d_has_own(node->table);
+    //@ for table: assert dues: \forall integer i; 0 <= i < t_dues ==> node->table->due[i].at == t_at(i);
+    //@ for table: assert dues: \forall integer i; 0 <= i < t_dues ==> node->table->due[i].row == t_row(i);
+    //@ for table: assert dues: \forall integer i; 0 <= i < t_dues ==> node->table->due[i].column == t_column(i);
     //@ for table: assert dues: d_has_dues(node->table);
 }
 
