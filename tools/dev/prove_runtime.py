@@ -2,7 +2,7 @@
 
     tools/prove-runtime [FUNCTION ...] [--memory | --table] [--machine M ...] [--macros default|small ...] [--by PROVER ...] [--smoke]
         [--seconds S] [--provers N] [--keep FOLDER]
-    tools/prove-runtime --wrong [FUNCTION ...] [--seconds S] [--provers N] [--keep FOLDER]
+    tools/prove-runtime --wrong [FUNCTION ...] [--seconds S] [--provers N]
 
 There are two parts, each for the sizes of x86_64 and x86_32, and for both with the default macros and with those of one small table, unless
 some are named. With --memory it does the first one alone, which is the quick way; with --table the second.
@@ -21,6 +21,7 @@ a line says so, and nothing is done.
 Debian's packages: frama-c-base why3 cvc4 cvc5 z3.
 """
 import argparse
+import hashlib
 import importlib.util
 import os
 import re
@@ -53,6 +54,8 @@ PROVERS: dict[str, tuple[str, str, str]] = {
 SHORT = [("cvc4-macros", 1), ("cvc5", 1), ("cvc4-macros", 3), ("cvc5", 3)]  # seconds, before each prover has all of its time
 LEMMAS = "lemmas"  # asks for the lemmas of cpg_spec.h, in place of a function
 LONGEST = 3600  # seconds of the clock for a goal, on a machine that does much else
+# What would let a goal be proved in vain: an annotation that isn't understood, and a function that is called without a contract.
+FATAL = "annot-error=abort,annot:missing-spec=abort,typing:implicit-function-declaration=abort"
 DEFINITION = re.compile(r"^(?:static )?\w+ (\w+)\([^;{]*\)\n\{", re.MULTILINE)
 COUNTS = re.compile(r"Proved goals:\s*(\d+) / (\d+)")
 LEFT = re.compile(r"^\[wp\] \[[^]]*\] Goal (\w+)(?! : Valid)\b", re.MULTILINE)
@@ -123,22 +126,28 @@ def configure(place: Path, asked: argparse.Namespace) -> None:
     os.environ["WHY3CONFIG"] = str(conf)
 
 
+def answers_of(folder: str) -> Path:
+    """Where answers of just these provers are kept: an answer names a goal, a prover and its seconds, and nothing else."""
+    said = [subprocess.run([file, "--version"], capture_output=True, text=True).stdout for file in sorted({it[0] for it in PROVERS.values()})]
+    return Path(folder) / hashlib.sha256(repr([PROVERS, *said]).encode()).hexdigest()[:16]
+
+
 def command(source: Path, functions: list[str], words: list[str], setting: Setting, asked: argparse.Namespace) -> list[str]:
     """WP's words. A goal that is the same text in two settings is asked once, by the cache."""
     machine, macros = setting
     flags = " ".join(["-std=c99", f"-I{source.parent}", f"-I{FOLDER}", *(f"-D{macro}" for macro in MACROS[macros])])
     provers = ",".join(f"{name}:{seconds}" for name, seconds in tries(asked))
     smoke = ["-wp-smoke-tests"] if asked.smoke else []
-    return ["frama-c", "-machdep", machine, f"-cpp-extra-args={flags}", "-kernel-warn-key", "annot-error=abort", str(source), "-wp", "-wp-rte",
+    return ["frama-c", "-machdep", machine, f"-cpp-extra-args={flags}", "-kernel-warn-key", FATAL, str(source), "-wp", "-wp-rte",
             *words, "-wp-prover", provers, "-wp-timeout", str(LONGEST), "-wp-par", "1", "-wp-cache", "update", "-wp-cache-dir", asked.keep, *smoke,
             *(["-wp-fct", ",".join(functions)] if functions else [])]
 
 
 def prove(source: Path, functions: list[str], words: list[str], setting: Setting, asked: argparse.Namespace) -> Answer:
-    """What WP says of the goals of some functions."""
+    """What WP says of the goals of some functions, each of which has some."""
     done = subprocess.run(command(source, functions, words, setting, asked), capture_output=True, text=True)
     counts = COUNTS.search(done.stdout)
-    if done.returncode != 0 or counts is None:
+    if done.returncode != 0 or counts is None or counts[2] == "0":
         cli.fail(f"frama-c failed on {', '.join(functions) or LEMMAS}\n{(done.stdout + done.stderr)[-2000:]}")
     return int(counts[1]), int(counts[2]), LEFT.findall(done.stdout)
 
@@ -196,7 +205,7 @@ def words() -> argparse.Namespace:
     parser.add_argument("--wrong", action="store_true", help="try the wrong bodies of runtime/c/test/wrong.py")
     parser.add_argument("--seconds", type=int, default=10, metavar="S", help="how much processor time a prover has for a goal (10)")
     parser.add_argument("--provers", type=int, default=1, metavar="N", help="how many provers work at a time (1)")
-    parser.add_argument("--keep", metavar="FOLDER", help="where to look for what provers have answered, and to keep it (nowhere)")
+    parser.add_argument("--keep", metavar="FOLDER", help="where to look for what provers have answered, and to keep it (nowhere, and never with --wrong)")
     return parser.parse_args()
 
 
@@ -262,8 +271,8 @@ def main() -> int:
         cli.fail(f"no function: {unknown[0]}")
     totals = [0, 0]
     with tempfile.TemporaryDirectory() as place:
-        asked.keep = asked.keep or str(Path(place) / "cache")
-        Path(asked.keep).mkdir(exist_ok=True)
+        asked.keep = str(answers_of(asked.keep if asked.keep and not asked.wrong else place))
+        Path(asked.keep).mkdir(parents=True, exist_ok=True)
         configure(Path(place), asked)
         if asked.wrong:
             return 1 if try_wrong(Path(place), asked) else 0
