@@ -168,7 +168,7 @@
     // and they are told
     predicate d_is_told{L}(cpg_node *n, integer now) = d_is_turning(n, now) && d_reports_ahead(n);
 
-    // D. opening, whole_range
+    // D. initial_dispatcher, whole_range
     predicate d_whole_range{L}(cpg_node *n, integer p) =
         n->heard[p].low == 0 && n->heard[p].high == (p < CPG_MAX_PROCESSES ? t_k : 1);
     predicate d_is_at{L}(cpg_node *n, integer from, integer next) = n->from == from && n->next == next;

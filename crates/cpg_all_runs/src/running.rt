@@ -65,7 +65,7 @@ pub fn runs(
     requires firsts { AreFirstAlike admitted.now.graph scenarios.now firsts.now }
     ensures { IfOk result (λ runs. AreRuns admitted.now.graph order.now frozen.now scenarios.now runs.items) }
 {
-    // its clause tells that the graph is admitted
+    // called for its contract: the graph is admitted
     let _problem = admitted.problem();
     let setting = Setting::of(admitted, order, plan);
     let mut runs = Vec::new(alloc);

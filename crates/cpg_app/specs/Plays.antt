@@ -5,7 +5,7 @@ use Rattle.cpg_base.specs.Graph.{Graph}
 use Rattle.cpg_words.specs.Parts.{Text}
 use Rattle.cpg_scenario.specs.declared.reading.Played.{Played}
 use Rattle.cpg_table.specs.Table.{NodeTable}
-use Rattle.cpg_cluster.specs.Cluster.{World, Cluster, open_cluster}
+use Rattle.cpg_cluster.specs.Cluster.{World, Cluster, initial_cluster}
 use Rattle.cpg_cluster.specs.Driving.{IsDriven}
 use Rattle.cpg_cluster.specs.Whole.{IsWholePlay}
 use Rattle.cpg_show.specs.TraceText.{IsTraceText}
@@ -22,7 +22,7 @@ waits_line waits = codes "waits " ++ decimal waits ++ codes "\n"
 pub record IsPlayText (g : Graph) (tables : List NodeTable) (w : World) (number : ℕ) (text : Text) : Type 0 where
   pub cluster : Cluster
   pub waits : ℕ
-  pub driven : IsDriven g w number (open_cluster g tables) cluster waits
+  pub driven : IsDriven g w number (initial_cluster g tables) cluster waits
   pub whole : IsWholePlay g tables w cluster
   pub trace : Text
   pub traced : IsTraceText g w.lengths cluster.acts cluster.ends trace

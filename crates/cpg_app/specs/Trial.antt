@@ -8,7 +8,7 @@ use Rattle.cpg_table.specs.Table.{NodeTable}
 use Rattle.cpg_table.specs.Lawful.{column_count, rows_of}
 use Rattle.cpg_core.specs.declared.compiling.Compiled.{Compiled}
 use Rattle.cpg_core.specs.Compilation.{IsCompilation}
-use Rattle.cpg_cluster.specs.Cluster.{World, Cluster, open_cluster}
+use Rattle.cpg_cluster.specs.Cluster.{World, Cluster, initial_cluster}
 use Rattle.cpg_cluster.specs.Driving.{IsDriven}
 use Rattle.cpg_cluster.specs.Whole.{IsWholePlay}
 use Rattle.cpg_show.specs.TraceText.{finish_of}
@@ -28,7 +28,7 @@ planned_world g s = record { scenario = s; lengths = full_lengths g s }
 -- to wait
 pub record IsEnding (g : Graph) (tables : List NodeTable) (s : Scenario) (number : ℕ) (e : Ending) : Type 0 where
   pub cluster : Cluster
-  pub driven : IsDriven g (planned_world g s) number (open_cluster g tables) cluster e.waits
+  pub driven : IsDriven g (planned_world g s) number (initial_cluster g tables) cluster e.waits
   pub whole : IsWholePlay g tables (planned_world g s) cluster
   pub finish : e.finish ≡ finish_of g cluster.ends
 

@@ -13,7 +13,7 @@ fn add_columns(before: u64, rows: &[Row]) -> u64
 {
     let mut count = before;
     for row in rows {
-        count += row.entries().len() as u64;
+        count += row.columns().len() as u64;
     }
     count
 }

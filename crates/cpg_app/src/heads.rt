@@ -6,7 +6,7 @@ ghost use Rattle.cpg_head.specs.GraphHead.{head_of};
 
 use cpg_base::{Name, Problem, Process};
 
-/// Names are names.
+/// For its contract alone: these names are lawful.
 fn nodes_are_named(names: &[Name])
     ensures { All IsName names.now }
 {

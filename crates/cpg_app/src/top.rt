@@ -1,6 +1,6 @@
 //! The top call.
 ghost use Rattle.std.specs.Prelude.{◌≡◌, All, List, map, string_bytes};
-ghost use Rattle.cpg_io.specs.Shelf.{KeepsShelf, SameLeave};
+ghost use Rattle.cpg_io.specs.Shelf.{KeepsShelf, SameAccess};
 ghost use Rattle.cpg_io.specs.State.{ShelfState};
 ghost use Rattle.cpg_words.specs.FileWords.{file_words_of};
 ghost use Rattle.cpg_words.specs.Parts.{Text};
@@ -31,7 +31,7 @@ fn finish<S: Shelf, O: Sink, E: Sink>(
     requires may { MayRun (S.may_fetch shelf.old) inputs }
     requires fit { AreFit inputs }
     ensures keeps { KeepsShelf (S.state shelf.old) (S.state shelf.new) }
-    ensures leave { SameLeave (S.may_fetch shelf.old) (S.may_fetch shelf.new) }
+    ensures access { SameAccess (S.may_fetch shelf.old) (S.may_fetch shelf.new) }
     ensures lawful { (words : List Text) (start : ShelfState) → HasAt words start (S.state shelf.old) inputs →
         IsLawful (record {
           words = words;
@@ -71,7 +71,7 @@ pub fn run<S: Shelf, O: Sink, E: Sink>(
 ) -> u8
     requires { All (λ w. S.may_fetch shelf.old w) (file_words_of (map string_bytes words.now)) }
     ensures keeps { KeepsShelf (S.state shelf.old) (S.state shelf.new) }
-    ensures leave { SameLeave (S.may_fetch shelf.old) (S.may_fetch shelf.new) }
+    ensures access { SameAccess (S.may_fetch shelf.old) (S.may_fetch shelf.new) }
     ensures lawful { IsLawful (record {
       words = map string_bytes words.now;
       shelf = seen (S.state shelf.old) (S.state shelf.new);

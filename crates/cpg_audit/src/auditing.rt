@@ -20,7 +20,7 @@ use crate::log_order::in_log_order;
 use crate::narrowing::{cube_of, narrow, take_off_all};
 use cpg_base::{OutOfMemory, Problem, Scenario};
 use cpg_cover::uncovered;
-use cpg_cube::{Cube, Entry};
+use cpg_cube::{Column, Cube};
 use cpg_log::Log;
 use cpg_rules::Admitted;
 use cpg_table::Tables;
@@ -42,7 +42,7 @@ fn excluded_cubes<'a>(
     alloc: Global,
     until: u64,
     logged: Option<u64>,
-    columns: &'a [Entry],
+    columns: &'a [Column],
 ) -> Result<Vec<&'a Cube>, OutOfMemory>
     ensures { IfOk result (λ by. map (λ b. b.now) by.items ≡ excluded_cubes until logged columns.now) }
 {
@@ -83,7 +83,7 @@ fn excluded<'a>(
 }
 
 /// Adds the cubes of columns.
-fn push_cubes<'a>(columns: &'a [Entry], by: &mut Vec<&'a Cube>) -> Result<(), OutOfMemory>
+fn push_cubes<'a>(columns: &'a [Column], by: &mut Vec<&'a Cube>) -> Result<(), OutOfMemory>
     ensures { IfOk result (λ _. map (λ b. b.now) by.new.items ≡ map (λ b. b.now) by.old.items ++ map (λ c. c.cube) columns.now) }
 {
     for column in columns {

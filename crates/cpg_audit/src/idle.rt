@@ -11,7 +11,7 @@ ghost use Rattle.cpg_audit.specs.Excluded.{idle_time, is_some_idle};
 ghost use Rattle.cpg_log.specs.Log.{IsActBy, is_act};
 
 use cpg_base::OutOfMemory;
-use cpg_cube::Entry;
+use cpg_cube::Column;
 use cpg_expand::active_item;
 use cpg_log::Logged;
 use cpg_rules::Admitted;
@@ -36,7 +36,7 @@ fn idle(active: &Tree<bool>) -> Result<Tree<Option<u64>>, OutOfMemory>
 }
 
 /// The cubes of the scenarios in which an item isn't active.
-fn idle_columns(alloc: Global, admitted: &Admitted, item: u32) -> Result<Vec<Entry>, OutOfMemory>
+fn idle_columns(alloc: Global, admitted: &Admitted, item: u32) -> Result<Vec<Column>, OutOfMemory>
     requires { is_act admitted.now.graph item ≡ true }
     ensures known { IfOk result (λ columns. All (λ c. IsKnown admitted.now.graph c.cube) columns.items) }
     ensures idle { IfOk result (λ columns. (s : Scenario) → IsScenario admitted.now.graph s →
@@ -53,7 +53,7 @@ pub fn all_idle(
     alloc: Global,
     admitted: &Admitted,
     acts: &[Logged],
-) -> Result<Vec<Entry>, OutOfMemory>
+) -> Result<Vec<Column>, OutOfMemory>
     requires { (until : ℕ) × All (IsActBy admitted.now.graph until) acts.now }
     ensures known { IfOk result (λ columns. All (λ c. IsKnown admitted.now.graph c.cube) columns.items) }
     ensures idle { IfOk result (λ columns. (s : Scenario) → IsScenario admitted.now.graph s →

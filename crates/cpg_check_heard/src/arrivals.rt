@@ -21,13 +21,13 @@ use crate::hearing::Hearing;
 use crate::parts::{add, part_of};
 use crate::tellers::{Teller, Telling, has_come};
 use cpg_base::{OutOfMemory, Problem};
-use cpg_cube::{Cube, Entry};
+use cpg_cube::{Column, Cube};
 use std::alloc::Global;
 
 /// A column, and how it tells.
 #[derive(Clone, Copy)]
 pub(crate) struct Arrival<'a> {
-    pub(crate) column: &'a Entry,
+    pub(crate) column: &'a Column,
     pub(crate) telling: Telling,
 }
 
@@ -45,7 +45,7 @@ pub(crate) fn may_have_come(telling: Telling, start: u64, time: u64) -> bool
 /// Adds the column at a place, if there is one and its frame may have come by a time.
 fn add_column<'a>(
     telling: Telling,
-    columns: &'a [Entry],
+    columns: &'a [Column],
     place: u32,
     time: u64,
     arrivals: &mut Vec<Arrival<'a>>,

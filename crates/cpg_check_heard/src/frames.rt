@@ -16,7 +16,7 @@ use crate::arrivals::{Arrival, tells_one_whole};
 use crate::bound::LiteralBound;
 use crate::hearing::Hearing;
 use cpg_base::{OutOfMemory, Problem};
-use cpg_cube::Entry;
+use cpg_cube::Column;
 use std::alloc::Global;
 use std::cmp::Reverse;
 
@@ -32,7 +32,7 @@ fn left_open(
     alloc: Global,
     problem: &Problem,
     arrivals: &[Arrival<'_>],
-    column: &Entry,
+    column: &Column,
     bounds: &[LiteralBound],
 ) -> Result<Vec<LiteralBound>, OutOfMemory>
     requires cube { IsKnown problem.now column.now.cube }
@@ -84,7 +84,7 @@ impl Hearing<'_> {
         alloc: Global,
         node: u32,
         ranks: &[RowRank],
-        column: &Entry,
+        column: &Column,
         bounds: Vec<LiteralBound>,
     ) -> Result<Vec<LiteralBound>, OutOfMemory>
         requires hearing { IsHearing self.now }

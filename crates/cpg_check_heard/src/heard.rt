@@ -16,7 +16,7 @@ ghost use Rattle.cpg_violation.specs.Violation.{AllHold, Holds, IsFirstColumn, I
 use crate::hearing::Hearing;
 use crate::tellers::tellers;
 use cpg_base::{OutOfMemory, Scenario};
-use cpg_cube::Entry;
+use cpg_cube::Column;
 use cpg_rules::Admitted;
 use cpg_table::{Fault, NodeItems, Rule, Tables};
 use cpg_violation::{SievedLine, is_marked};
@@ -28,7 +28,7 @@ fn first_unheard(
     alloc: Global,
     hearing: &Hearing<'_>,
     item: u32,
-    columns: &[Entry],
+    columns: &[Column],
 ) -> Result<Option<(u32, Scenario)>, OutOfMemory>
     requires hearing { IsHearing hearing.now }
     requires item { item < item_count hearing.now.admitted.now.graph }

@@ -23,7 +23,7 @@ use crate::parts::add_row;
 use crate::tellers::Teller;
 use cpg_base::{OutOfMemory, Problem, Scenario};
 use cpg_cover::{covers, earlier};
-use cpg_cube::{Cube, Entry, Literal};
+use cpg_cube::{Column, Cube, Literal};
 use cpg_rules::Admitted;
 use cpg_table::Tables;
 use std::alloc::Global;
@@ -145,7 +145,7 @@ impl Hearing<'_> {
         &self,
         alloc: Global,
         node: u32,
-        column: &Entry,
+        column: &Column,
         bound: LiteralBound,
         bounds: &mut Vec<LiteralBound>,
     ) -> Result<(), OutOfMemory>
@@ -171,7 +171,7 @@ impl Hearing<'_> {
         &self,
         alloc: Global,
         node: u32,
-        column: &Entry,
+        column: &Column,
         literal: &Literal,
         bounds: &mut Vec<LiteralBound>,
     ) -> Result<(), OutOfMemory>
@@ -201,7 +201,7 @@ impl Hearing<'_> {
         &self,
         alloc: Global,
         node: u32,
-        column: &Entry,
+        column: &Column,
     ) -> Result<Vec<LiteralBound>, OutOfMemory>
         requires hearing { IsHearing self.now }
         requires cube { IsKnown self.now.admitted.now.graph column.now.cube }
@@ -227,7 +227,7 @@ impl Hearing<'_> {
         node: u32,
         items: &[u32],
         arrivals: &[Arrival<'_>],
-        column: &Entry,
+        column: &Column,
         bound: LiteralBound,
     ) -> Result<Option<Scenario>, OutOfMemory>
         requires hearing { IsHearing self.now }
@@ -261,7 +261,7 @@ impl Hearing<'_> {
         node: u32,
         items: &[u32],
         arrivals: &[Arrival<'_>],
-        column: &Entry,
+        column: &Column,
         bounds: &[LiteralBound],
     ) -> Result<Option<Scenario>, OutOfMemory>
         requires hearing { IsHearing self.now }
@@ -290,7 +290,7 @@ impl Hearing<'_> {
         node: u32,
         items: &[u32],
         ranks: &[RowRank],
-        column: &Entry,
+        column: &Column,
     ) -> Result<Option<Scenario>, OutOfMemory>
         requires hearing { IsHearing self.now }
         requires items { items.now ≡ heard_by self.now.admitted.now.graph node }

@@ -16,7 +16,7 @@ use crate::arrivals::may_have_come;
 use crate::bound::LiteralBound;
 use crate::tellers::{Teller, Telling, has_come};
 use cpg_base::{FIRST_VALUE, OutOfMemory, Problem};
-use cpg_cube::{Cube, Entry, Literal};
+use cpg_cube::{Column, Cube, Literal};
 use std::alloc::Global;
 
 /// With how many of the fault counts, from 0 on, an execution that starts at a time has ended by another.
@@ -42,7 +42,7 @@ fn counts_by(problem: &Problem, process: u32, start: u64, time: u64) -> u8
 fn end_part(
     problem: &Problem,
     process: u32,
-    column: &Entry,
+    column: &Column,
     time: u64,
     bound: LiteralBound,
 ) -> Result<Option<Cube>, OutOfMemory>
@@ -85,7 +85,7 @@ fn frame_part(
     problem: &Problem,
     delay: u64,
     condition: Option<u32>,
-    column: &Entry,
+    column: &Column,
     time: u64,
     bound: LiteralBound,
 ) -> Result<Option<Cube>, OutOfMemory>
@@ -112,7 +112,7 @@ fn frame_part(
 pub(crate) fn part_of(
     problem: &Problem,
     telling: Telling,
-    column: &Entry,
+    column: &Column,
     time: u64,
     bound: LiteralBound,
 ) -> Result<Option<Cube>, OutOfMemory>
@@ -138,7 +138,7 @@ pub(crate) fn part_of(
 fn part_at(
     problem: &Problem,
     telling: Telling,
-    columns: &[Entry],
+    columns: &[Column],
     place: u32,
     time: u64,
     bound: LiteralBound,

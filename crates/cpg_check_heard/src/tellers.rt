@@ -7,7 +7,7 @@ ghost use Rattle.cpg_violation.specs.Lines.{AreLines};
 ghost use Rattle.cpg_check_heard.specs.Tellings.{AreTellers, telling_of};
 
 use cpg_base::{Item, OutOfMemory, Problem};
-use cpg_cube::Entry;
+use cpg_cube::Column;
 use cpg_rules::Admitted;
 use cpg_violation::SievedLine;
 use std::alloc::Global;
@@ -40,7 +40,7 @@ pub(crate) struct Teller<'a> {
 }
 
 /// The greatest number of literals of these columns; 0 if there is none.
-fn longest(columns: &[Entry]) -> usize {
+fn longest(columns: &[Column]) -> usize {
     let mut longest = 0;
     for column in columns {
         longest = column.cube.literals().len().max(longest);

@@ -15,7 +15,7 @@ use crate::course::{Course, Courses};
 use crate::span::ItemSpan;
 use crate::turns::Turns;
 use cpg_base::OutOfMemory;
-use cpg_cube::Entry;
+use cpg_cube::Column;
 use cpg_row_trees::Test;
 use cpg_tree::Space;
 use std::alloc::Global;
@@ -23,7 +23,7 @@ use std::alloc::Global;
 /// That what lasts so long is over by a time, from the column at each place, or what is at that time by the column's.
 #[derive(Drop)]
 struct TimeParts<'a> {
-    columns: &'a [Entry],
+    columns: &'a [Column],
     span: ItemSpan,
     other: ItemSpan,
     time: u64,
@@ -122,7 +122,7 @@ impl<'a> Courses<'a> {
     }
 
     /// Whether each of these items and another at one of its columns are apart, wherever that matches.
-    fn are_apart_at(&self, items: &[u32], other: &Course<'_>, column: &Entry) -> bool
+    fn are_apart_at(&self, items: &[u32], other: &Course<'_>, column: &Column) -> bool
         ensures { OnTrue result ((g : Graph) (tables : List NodeTable) (lasts : ℕ → Scenario → ℕ) (x : ℕ) (s : Scenario) →
             AreCourses lasts g tables self.now → IsCourse g tables (lasts x) x other.now → IsScenario g s →
             matches column.now.cube s ≡ true → All (λ y. IsApartAt tables (lasts y s) y (lasts x s) column.now.time s) items.now) }

@@ -13,14 +13,14 @@ ghost use Rattle.cpg_check_quick.specs.Order.{IsOver, IsOverBy};
 use crate::course::{Course, Courses};
 use crate::span::ItemSpan;
 use crate::speakers::has_come;
-use cpg_cube::Entry;
+use cpg_cube::Column;
 use cpg_row_trees::{PairTest, Places, Test};
 use cpg_tree::Space;
 
 /// That what lasts so long is over by a time, from the column at each place.
 #[derive(Drop)]
 struct Ends<'a> {
-    columns: &'a [Entry],
+    columns: &'a [Column],
     span: ItemSpan,
     time: u64,
 }
@@ -43,7 +43,7 @@ impl<'a> Test for Ends<'a> {
 #[derive(Drop)]
 struct Before<'a> {
     course: &'a Course<'a>,
-    columns: &'a [Entry],
+    columns: &'a [Column],
 }
 
 impl<'a> PairTest for Before<'a> {
@@ -164,7 +164,7 @@ impl<'a> Courses<'a> {
     }
 
     /// Whether each of these items is over by the time of a column, wherever that matches.
-    pub(crate) fn are_over_at(&self, items: &[u32], column: &Entry) -> bool
+    pub(crate) fn are_over_at(&self, items: &[u32], column: &Column) -> bool
         ensures { OnTrue result ((g : Graph) (tables : List NodeTable) (lasts : ℕ → Scenario → ℕ) (s : Scenario) →
             AreCourses lasts g tables self.now → IsScenario g s → matches column.now.cube s ≡ true →
             All (λ y. IsOverBy tables (lasts y s) y column.now.time s) items.now) }
@@ -180,7 +180,7 @@ impl<'a> Courses<'a> {
     }
 
     /// Whether each of these items is over before another, which has these columns: wherever a column of each matches.
-    pub(crate) fn come_before(&self, items: &[u32], columns: &[Entry]) -> bool
+    pub(crate) fn come_before(&self, items: &[u32], columns: &[Column]) -> bool
         ensures { OnTrue result ((g : Graph) (tables : List NodeTable) (lasts : ℕ → Scenario → ℕ) (x : ℕ) →
             AreCourses lasts g tables self.now → columns.now ≡ columns_of tables x → All (λ y. IsOver lasts g tables y x) items.now) }
     {

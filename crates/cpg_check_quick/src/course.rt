@@ -8,7 +8,7 @@ ghost use Rattle.cpg_row_trees.specs.Trees.{AreRowTrees};
 
 use crate::span::ItemSpan;
 use cpg_base::OutOfMemory;
-use cpg_cube::Entry;
+use cpg_cube::Column;
 use cpg_row_trees::Places;
 use cpg_rules::Admitted;
 use cpg_table::Tables;
@@ -19,7 +19,7 @@ use std::alloc::Global;
 /// The columns of an item with their tree.
 #[derive(Clone, Copy)]
 pub(crate) struct Course<'a> {
-    pub(crate) columns: &'a [Entry],
+    pub(crate) columns: &'a [Column],
     pub(crate) tree: &'a Option<Places>,
     /// No column is at an earlier time.
     pub(crate) first: u64,

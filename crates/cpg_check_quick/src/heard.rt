@@ -15,7 +15,7 @@ use crate::listening::{Listener, are_all_known, own_ended};
 use crate::speakers::speakers;
 use crate::turns::Turns;
 use cpg_base::{Item, OutOfMemory, Problem};
-use cpg_cube::Entry;
+use cpg_cube::Column;
 use cpg_rules::Admitted;
 use cpg_table::Tables;
 use cpg_violation::is_marked;
@@ -30,7 +30,7 @@ struct LengthRank {
 }
 
 /// The number of literals of the longest column.
-fn longest(columns: &[Entry]) -> usize {
+fn longest(columns: &[Column]) -> usize {
     let mut most = 0;
     for column in columns {
         most = column.cube.literals().len().max(most);
@@ -118,7 +118,7 @@ impl<'a> Hall<'a> {
         alloc: Global,
         item: u32,
         is_sent_in_time: bool,
-        columns: &[Entry],
+        columns: &[Column],
     ) -> Result<bool, OutOfMemory>
         requires item { item < item_count self.now.admitted.now.graph }
         ensures { IfOk result (λ sure. OnTrue sure ((tables : List NodeTable) →

@@ -16,7 +16,7 @@ use crate::course::Courses;
 use crate::turns::Turns;
 use crate::waiting::Waiting;
 use cpg_base::OutOfMemory;
-use cpg_cube::Entry;
+use cpg_cube::Column;
 use cpg_order::Links;
 use cpg_rules::Admitted;
 use cpg_table::Tables;
@@ -27,7 +27,7 @@ fn is_start_sure(
     alloc: Global,
     waiting: &Waiting<'_>,
     process: u32,
-    columns: &[Entry],
+    columns: &[Column],
 ) -> Result<bool, OutOfMemory>
     requires links { waiting.now.links ≡ links_of waiting.now.admitted.now.graph }
     requires process { process < process_count waiting.now.admitted.now.graph }
@@ -46,7 +46,7 @@ fn is_sure(
     alloc: Global,
     waiting: &Waiting<'_>,
     item: u32,
-    columns: &[Entry],
+    columns: &[Column],
 ) -> Result<bool, OutOfMemory>
     requires links { waiting.now.links ≡ links_of waiting.now.admitted.now.graph }
     requires item { item < item_count waiting.now.admitted.now.graph }

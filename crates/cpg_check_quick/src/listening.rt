@@ -19,7 +19,7 @@ use crate::bounds::list_unknown;
 use crate::speakers::Speaker;
 use crate::turns::Turns;
 use cpg_base::{OutOfMemory, Problem, Variable};
-use cpg_cube::{Cube, Entry, Literal, VARIABLES};
+use cpg_cube::{Column, Cube, Literal, VARIABLES};
 use cpg_rules::Admitted;
 use cpg_tree::Space;
 use std::alloc::Global;
@@ -168,7 +168,7 @@ fn is_cube_known(known: &[bool; VARIABLES], first: usize, cube: &Cube) -> bool
 }
 
 /// Whether all literals of all these columns are on known variables.
-pub(crate) fn are_all_known(known: &[bool; VARIABLES], columns: &[Entry]) -> bool
+pub(crate) fn are_all_known(known: &[bool; VARIABLES], columns: &[Column]) -> bool
     ensures { OnTrue result (All (λ c. All (λ l. get_or known.now l.variable false ≡ true) c.cube) columns.now) }
 {
     let first = marked_from_start(known);
@@ -243,7 +243,7 @@ impl<'a> Listener<'a> {
     /// column's time wherever that matches, in a space that has all these scenarios. `left` is for literals.
     fn listen(
         &self,
-        column: &Entry,
+        column: &Column,
         space: &Space,
         places: &mut Vec<u32>,
         wanted: &mut Vec<Literal>,
@@ -271,7 +271,7 @@ impl<'a> Listener<'a> {
     /// each and its high, which different items may have told.
     fn hears(
         &self,
-        column: &Entry,
+        column: &Column,
         places: &mut Vec<u32>,
         wanted: &mut Vec<Literal>,
         left: &mut Vec<Literal>,
@@ -293,7 +293,7 @@ impl<'a> Listener<'a> {
     }
 
     /// Whether it has heard all literals of all of the item's columns.
-    pub(crate) fn hears_all(&self, alloc: Global, columns: &[Entry]) -> Result<bool, OutOfMemory>
+    pub(crate) fn hears_all(&self, alloc: Global, columns: &[Column]) -> Result<bool, OutOfMemory>
         ensures { IfOk result (λ all. OnTrue all ((tables : List NodeTable) (x : ℕ) → IsListener tables x self.now →
             AllHold self.now.admitted.now.graph tables row_rules → columns.now ≡ columns_of tables x →
             All (IsAllHeard self.now.admitted.now.graph tables self.now.node) columns.now)) }

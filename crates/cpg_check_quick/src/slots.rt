@@ -19,7 +19,7 @@ use crate::course::sends;
 use crate::turns::{Turns, processes_on};
 use cpg_base::{OutOfMemory, Problem};
 use cpg_bus::is_slot_start;
-use cpg_cube::Entry;
+use cpg_cube::Column;
 use cpg_row_trees::Places;
 use cpg_rules::Admitted;
 use cpg_table::Tables;
@@ -27,7 +27,7 @@ use cpg_tree::Space;
 use std::alloc::Global;
 
 /// Whether a node's slot starts at the time of a column, if the column matches.
-fn is_in_slot(problem: &Problem, node: u32, column: &Entry) -> bool
+fn is_in_slot(problem: &Problem, node: u32, column: &Column) -> bool
     requires { HasSlot problem.now node }
     ensures { OnTrue result ((s : Scenario) → IsScenario problem.now s → matches column.now.cube s ≡ true →
         next_slot problem.now node column.now.time ≡ column.now.time) }
@@ -43,7 +43,7 @@ fn is_in_slot(problem: &Problem, node: u32, column: &Entry) -> bool
 }
 
 /// Whether a node's slot starts at the time of each of these columns, if the column matches.
-fn are_in_slots(problem: &Problem, node: u32, columns: &[Entry]) -> bool
+fn are_in_slots(problem: &Problem, node: u32, columns: &[Column]) -> bool
     requires { HasSlot problem.now node }
     ensures { OnTrue result (All (λ c. (s : Scenario) → IsScenario problem.now s → matches c.cube s ≡ true →
         next_slot problem.now node c.time ≡ c.time) columns.now) }

@@ -16,7 +16,7 @@ ghost use Rattle.cpg_check_quick.specs.Speakers.{AreToldIn, HasCome, IsSpeaker, 
 
 use crate::course::Courses;
 use cpg_base::{FIRST_VALUE, Item, OutOfMemory, Problem};
-use cpg_cube::{Entry, Literal};
+use cpg_cube::{Column, Literal};
 use cpg_row_trees::{Places, Test};
 use cpg_tree::Space;
 use std::alloc::Global;
@@ -25,7 +25,7 @@ use std::alloc::Global;
 #[derive(Clone, Copy)]
 pub(crate) struct Speaker<'a> {
     pub(crate) item: u32,
-    pub(crate) columns: &'a [Entry],
+    pub(crate) columns: &'a [Column],
     pub(crate) tree: &'a Places,
     /// No column is at an earlier time.
     pub(crate) first: u64,
@@ -48,7 +48,7 @@ pub(crate) fn has_come(start: u64, delay: u64, time: u64) -> bool
 /// That there is a place, and the frame of its column has come by a time.
 #[derive(Drop)]
 struct Arrivals<'a> {
-    columns: &'a [Entry],
+    columns: &'a [Column],
     delay: u64,
     time: u64,
 }
@@ -122,7 +122,7 @@ fn tells(literals: &[Literal], wanted: &Literal) -> bool
 }
 
 /// Whether a literal of the column at a place bounds the variable of a wanted one at least as closely.
-fn tells_at(columns: &[Entry], place: u32, wanted: &Literal) -> bool
+fn tells_at(columns: &[Column], place: u32, wanted: &Literal) -> bool
     ensures { OnTrue result (IsToldIn (column_at columns.now place).cube wanted.now) }
 {
     match columns.get(place as usize) {
@@ -132,7 +132,7 @@ fn tells_at(columns: &[Entry], place: u32, wanted: &Literal) -> bool
 }
 
 /// Whether the column at each of these places has a literal that bounds the variable of a wanted one at least as closely.
-fn tell_at_all(columns: &[Entry], places: &[u32], wanted: &Literal) -> bool
+fn tell_at_all(columns: &[Column], places: &[u32], wanted: &Literal) -> bool
     ensures { OnTrue result (All (λ i. IsToldIn (column_at columns.now i).cube wanted.now) places.now) }
 {
     for place in places {
@@ -144,7 +144,7 @@ fn tell_at_all(columns: &[Entry], places: &[u32], wanted: &Literal) -> bool
 }
 
 /// The column at the only place, if there is one.
-fn alone<'a>(columns: &'a [Entry], places: &[u32]) -> Option<&'a Entry>
+fn alone<'a>(columns: &'a [Column], places: &[u32]) -> Option<&'a Column>
     ensures { IfSome result (λ column. All (λ i. column_at columns.now i ≡ column.now) places.now) }
 {
     if places.len() != 1 {
@@ -261,7 +261,7 @@ impl<'a> Speaker<'a> {
     /// that match there are first written to `places`.
     pub(crate) fn tell(
         &self,
-        column: &Entry,
+        column: &Column,
         wanted: &[Literal],
         space: &Space,
         places: &mut Vec<u32>,

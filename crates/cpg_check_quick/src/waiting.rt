@@ -13,7 +13,7 @@ ghost use Rattle.cpg_check_quick.specs.Order.{IsBefore};
 use crate::course::{Course, Courses};
 use crate::turns::Turns;
 use cpg_base::OutOfMemory;
-use cpg_cube::Entry;
+use cpg_cube::Column;
 use cpg_order::Links;
 use cpg_rules::Admitted;
 use cpg_tree::Space;
@@ -102,12 +102,12 @@ impl<'a> Waiting<'a> {
     }
 
     /// Whether these inputs are there by the time of a column wherever it matches and they are live.
-    fn are_there(&self, edges: &[u32], column: &Entry) -> bool
+    fn are_there(&self, edges: &[u32], column: &Column) -> bool
         requires edges { All (λ e. e < edge_count self.now.admitted.now.graph) edges.now }
         ensures { OnTrue result ((tables : List NodeTable) → IsWaiting self.now.admitted.now.graph tables self.now →
             AllHold self.now.admitted.now.graph tables row_rules → All (IsInputThere self.now.admitted.now.graph tables column.now) edges.now) }
     {
-        // its clause tells that the graph is admitted
+        // called for its contract: the graph is admitted
         let _problem = self.admitted.problem();
         if self.are_early(edges, column.time) {
             return true;
@@ -120,7 +120,7 @@ impl<'a> Waiting<'a> {
     }
 
     /// Whether each of these columns is no earlier than a release, nor than these inputs.
-    pub(crate) fn are_late_enough(&self, edges: &[u32], release: u64, columns: &[Entry]) -> bool
+    pub(crate) fn are_late_enough(&self, edges: &[u32], release: u64, columns: &[Column]) -> bool
         requires edges { All (λ e. e < edge_count self.now.admitted.now.graph) edges.now }
         ensures { OnTrue result ((tables : List NodeTable) → IsWaiting self.now.admitted.now.graph tables self.now →
             AllHold self.now.admitted.now.graph tables row_rules → All (IsLateEnough self.now.admitted.now.graph tables edges.now release) columns.now) }
@@ -175,7 +175,7 @@ impl<'a> Waiting<'a> {
     }
 
     /// Whether the producer of a send is always over before each of its columns.
-    pub(crate) fn is_after_producer(&self, item: u32, columns: &[Entry]) -> bool
+    pub(crate) fn is_after_producer(&self, item: u32, columns: &[Column]) -> bool
         requires item { item < item_count self.now.admitted.now.graph }
         ensures { OnTrue result ((tables : List NodeTable) → IsWaiting self.now.admitted.now.graph tables self.now →
             columns.now ≡ columns_of tables item → IsBefore self.now.admitted.now.graph tables (producer self.now.admitted.now.graph item) item) }

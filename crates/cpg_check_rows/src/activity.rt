@@ -18,7 +18,7 @@ ghost use Rattle.cpg_violation.specs.Violation.{Holds, IsFirstColumn, IsFirstVio
 
 use cpg_base::{OutOfMemory, Problem, Scenario};
 use cpg_cover::earlier;
-use cpg_cube::{Cube, Entry, Literal};
+use cpg_cube::{Column, Cube, Literal};
 use cpg_rules::Admitted;
 use cpg_table::{Fault, Rule, Tables};
 use cpg_violation::{ItemSource, is_marked, item_source, least_at, value_literal};
@@ -150,7 +150,7 @@ fn least_unlawful(
     alloc: Global,
     admitted: &Admitted,
     item: u32,
-    column: &Entry,
+    column: &Column,
 ) -> Result<Option<Scenario>, OutOfMemory>
     requires item { item < item_count admitted.now.graph }
     requires cube { IsKnown admitted.now.graph column.now.cube }
@@ -168,7 +168,7 @@ fn first_idle(
     alloc: Global,
     admitted: &Admitted,
     item: u32,
-    columns: &[Entry],
+    columns: &[Column],
 ) -> Result<Option<(u32, Scenario)>, OutOfMemory>
     requires item { item < item_count admitted.now.graph }
     requires columns { All (λ c. IsKnown admitted.now.graph c.cube) columns.now }

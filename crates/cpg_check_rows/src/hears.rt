@@ -11,7 +11,7 @@ ghost use Rattle.cpg_violation.specs.Heads.{IsHeadFor};
 ghost use Rattle.cpg_check_rows.specs.Hears.{DifferFirstAt, HearsAt, HearsHold, IsFirstHear, IsFirstHearFault};
 
 use cpg_base::{OutOfMemory, Scenario};
-use cpg_cube::{Entry, Literal};
+use cpg_cube::{Column, Literal};
 use cpg_rules::Admitted;
 use cpg_table::{Fault, Rule, Tables, row_columns};
 use std::alloc::Global;
@@ -37,7 +37,7 @@ fn are_same(literals: &[Literal], others: &[Literal]) -> bool
 }
 
 /// Whether a column is another, later by a delay.
-fn is_later(heard: &Entry, sent: &Entry, delay: u64) -> bool
+fn is_later(heard: &Column, sent: &Column, delay: u64) -> bool
     ensures { IsTrue result ↔ (heard.now ≡ later_by delay sent.now) }
 {
     if heard.time < delay {
@@ -50,7 +50,7 @@ fn is_later(heard: &Entry, sent: &Entry, delay: u64) -> bool
 }
 
 /// The first column that isn't the sender's, later by the delay: the shorter length if all before it are.
-fn first_difference(heard: &[Entry], sent: &[Entry], delay: u64) -> Option<u32>
+fn first_difference(heard: &[Column], sent: &[Column], delay: u64) -> Option<u32>
     requires { length sent.now ≤ MOST_LOAD }
     ensures same { IfNone result (heard.now ≡ map (later_by delay) sent.now) }
     ensures differ { IfSome result (DifferFirstAt heard.now (map (later_by delay) sent.now)) }
@@ -68,7 +68,7 @@ fn first_difference(heard: &[Entry], sent: &[Entry], delay: u64) -> Option<u32>
 }
 
 /// The first column of an item's hear row at a node that isn't the sender's, later by the delay.
-fn difference_at(tables: &Tables, node: u32, item: u32, sent: &[Entry], delay: u64) -> Option<u32>
+fn difference_at(tables: &Tables, node: u32, item: u32, sent: &[Column], delay: u64) -> Option<u32>
     requires node { node < length tables.now.head.nodes }
     requires few { length sent.now ≤ MOST_LOAD }
     ensures same { IfNone result (HearsAt tables.now.nodes item (map (later_by delay) sent.now) node) }
@@ -83,7 +83,7 @@ fn difference_at(tables: &Tables, node: u32, item: u32, sent: &[Entry], delay: u
 }
 
 /// The first column that differs at the least node that hears the item otherwise.
-fn first_hear(tables: &Tables, nodes: u32, item: u32, sent: &[Entry], delay: u64) -> Option<u32>
+fn first_hear(tables: &Tables, nodes: u32, item: u32, sent: &[Column], delay: u64) -> Option<u32>
     requires nodes { nodes ≡ length tables.now.head.nodes }
     requires few { length sent.now ≤ MOST_LOAD }
     ensures same { IfNone result ((node : ℕ) → node < length tables.now.head.nodes → HearsAt tables.now.nodes item (map (later_by delay) sent.now) node) }

@@ -14,7 +14,7 @@ ghost use Rattle.cpg_violation.specs.Sure.{AreSure};
 ghost use Rattle.cpg_violation.specs.Violation.{Holds, IsFirstViolation};
 
 use cpg_base::{OutOfMemory, Scenario};
-use cpg_cube::{Cube, Entry, cubes_of};
+use cpg_cube::{Column, Cube, cubes_of};
 use cpg_rules::Admitted;
 use cpg_table::{Fault, Rule, Tables};
 use cpg_violation::{ItemSource, edge_cube, is_marked, item_source, least_at};
@@ -26,7 +26,7 @@ fn least_without(
     admitted: &Admitted,
     process: u32,
     cube: &Cube,
-    columns: &[Entry],
+    columns: &[Column],
 ) -> Result<Option<Scenario>, OutOfMemory>
     requires process { process < process_count admitted.now.graph }
     requires cube { IsKnown admitted.now.graph cube.now }
@@ -45,7 +45,7 @@ fn least_uncarried(
     alloc: Global,
     admitted: &Admitted,
     edge: u32,
-    columns: &[Entry],
+    columns: &[Column],
 ) -> Result<Option<Scenario>, OutOfMemory>
     requires edge { edge < edge_count admitted.now.graph }
     requires columns { All (λ c. IsKnown admitted.now.graph c.cube) columns.now }
@@ -63,7 +63,7 @@ fn least_unstarted(
     alloc: Global,
     admitted: &Admitted,
     process: u32,
-    columns: &[Entry],
+    columns: &[Column],
 ) -> Result<Option<Scenario>, OutOfMemory>
     requires process { process < process_count admitted.now.graph }
     requires columns { All (λ c. IsKnown admitted.now.graph c.cube) columns.now }
@@ -79,7 +79,7 @@ fn least_absent(
     alloc: Global,
     admitted: &Admitted,
     item: u32,
-    columns: &[Entry],
+    columns: &[Column],
 ) -> Result<Option<Scenario>, OutOfMemory>
     requires item { item < item_count admitted.now.graph }
     requires columns { All (λ c. IsKnown admitted.now.graph c.cube) columns.now }

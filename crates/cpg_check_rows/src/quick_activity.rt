@@ -15,7 +15,7 @@ ghost use Rattle.cpg_violation.specs.Sure.{AreSure, IsSure};
 ghost use Rattle.cpg_violation.specs.Always.{AllAlways, AreAlways, IsUnconditional};
 
 use cpg_base::{FIRST_VALUE, OutOfMemory};
-use cpg_cube::{Entry, Literal};
+use cpg_cube::{Column, Literal};
 use cpg_rules::Admitted;
 use cpg_table::Tables;
 use cpg_tree::Space;
@@ -69,7 +69,7 @@ fn is_lawful(
     always: &[bool],
     everywhere: &Space,
     item: u32,
-    column: &Entry,
+    column: &Column,
 ) -> bool
     requires everywhere { (s : Scenario) → IsScenario admitted.now.graph s → IsInSpace everywhere.now s }
     requires item { item < item_count admitted.now.graph }
@@ -95,7 +95,7 @@ fn are_lawful(
     always: &[bool],
     everywhere: &Space,
     item: u32,
-    columns: &[Entry],
+    columns: &[Column],
 ) -> bool
     requires everywhere { (s : Scenario) → IsScenario admitted.now.graph s → IsInSpace everywhere.now s }
     requires item { item < item_count admitted.now.graph }
@@ -142,7 +142,7 @@ fn is_sure(
     requires all { OnTrue all (AllAlways admitted.now.graph) }
     ensures { OnTrue result (IsSure admitted.now.graph tables.now.nodes Rule.Activity item) }
 {
-    // its clause tells that the graph is admitted
+    // called for its contract: the graph is admitted
     let _problem = admitted.problem();
     let columns = tables.columns_of(item);
     if is_plain(admitted, all, everywhere, item) {

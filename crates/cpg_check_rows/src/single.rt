@@ -18,7 +18,7 @@ ghost use Rattle.cpg_check_rows.specs.Single.{is_double};
 
 use cpg_base::{Order, OutOfMemory, Problem, Scenario};
 use cpg_cover::earlier;
-use cpg_cube::{Cube, Entry};
+use cpg_cube::{Column, Cube};
 use cpg_row_trees::tree_of;
 use cpg_rules::Admitted;
 use cpg_table::{Fault, Rule, Tables};
@@ -29,7 +29,7 @@ use std::alloc::Global;
 fn met_at(
     problem: &Problem,
     cube: &Cube,
-    columns: &[Entry],
+    columns: &[Column],
     place: u32,
     room: &mut Scenario,
 ) -> Result<Option<Scenario>, OutOfMemory>
@@ -52,7 +52,7 @@ fn shared(
     problem: &Problem,
     order: &Order,
     cube: &Cube,
-    columns: &[Entry],
+    columns: &[Column],
     places: &[u32],
 ) -> Result<Option<Scenario>, OutOfMemory>
     requires order { length order.now ≡ process_count problem.now }
@@ -75,7 +75,7 @@ fn shared_before(
     problem: &Problem,
     order: &Order,
     sieve: &Sieve,
-    columns: &[Entry],
+    columns: &[Column],
     column: usize,
 ) -> Result<Option<Scenario>, OutOfMemory>
     requires order { length order.now ≡ process_count problem.now }
@@ -95,7 +95,7 @@ fn shared_before(
 fn have_tree(
     alloc: Global,
     problem: &Problem,
-    columns: &[Entry],
+    columns: &[Column],
     count: usize,
 ) -> Result<bool, OutOfMemory>
     requires within { count ≤ length columns.now }
@@ -111,7 +111,7 @@ fn have_tree(
 fn first_with_tree(
     alloc: Global,
     problem: &Problem,
-    columns: &[Entry],
+    columns: &[Column],
 ) -> Result<usize, OutOfMemory>
     requires { length columns.now ≤ MOST_LOAD }
     ensures { IfOk result (λ count. (i : ℕ) (s : Scenario) → i < count → IsScenario problem.now s → is_double columns.now i s ≡ false) }
@@ -135,7 +135,7 @@ fn first_double(
     alloc: Global,
     problem: &Problem,
     order: &Order,
-    columns: &[Entry],
+    columns: &[Column],
 ) -> Result<Option<(u32, Scenario)>, OutOfMemory>
     requires order { length order.now ≡ process_count problem.now }
     requires columns { All (λ c. IsKnown problem.now c.cube) columns.now }

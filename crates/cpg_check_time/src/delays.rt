@@ -15,7 +15,7 @@ ghost use Rattle.cpg_violation.specs.Lines.{AreLines};
 use crate::lateness::least_late;
 use crate::questions::{Question, least_near};
 use cpg_base::{OutOfMemory, Problem, Scenario};
-use cpg_cube::{Cube, Entry};
+use cpg_cube::{Column, Cube};
 use cpg_rules::Admitted;
 use cpg_table::Tables;
 use cpg_violation::{SievedLine, met};
@@ -58,7 +58,7 @@ impl<'a> Question for Late<'a> {
     fn least(
         &self,
         problem: &Problem,
-        beside: &Entry,
+        beside: &Column,
         room: &mut Scenario,
     ) -> Result<Option<Scenario>, OutOfMemory> {
         let (cube, time) = (self.cube, self.time);
@@ -87,7 +87,7 @@ pub(crate) fn least_delay(
     tables: &Tables,
     lines: &[SievedLine<'_>],
     item: u32,
-    column: &Entry,
+    column: &Column,
     delay: Delay,
 ) -> Result<Option<Scenario>, OutOfMemory>
     requires lawful { AreTablesOf (head_of admitted.now.graph) tables.now.nodes }

@@ -9,7 +9,7 @@ ghost use Rattle.cpg_violation.specs.Violation.{Holds, IsFirstViolation};
 use crate::judge::{TimeJudge, first_violation};
 use crate::lateness::late_part;
 use cpg_base::{OutOfMemory, Scenario};
-use cpg_cube::Entry;
+use cpg_cube::Column;
 use cpg_rules::Admitted;
 use cpg_table::{Fault, Rule, Tables};
 use std::alloc::Global;
@@ -29,7 +29,7 @@ impl TimeJudge for Due {
         admitted: &Admitted,
         tables: &Tables,
         item: u32,
-        column: &Entry,
+        column: &Column,
     ) -> Result<Option<Scenario>, OutOfMemory> {
         let problem = admitted.problem();
         if item as usize >= problem.processes().len() {

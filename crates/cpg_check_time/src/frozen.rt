@@ -13,13 +13,13 @@ ghost use Rattle.cpg_check_time.specs.Frozen.{frozen_time, possible_time};
 
 use crate::judge::{TimeJudge, first_violation};
 use cpg_base::{OutOfMemory, Problem, Scenario};
-use cpg_cube::Entry;
+use cpg_cube::Column;
 use cpg_rules::Admitted;
 use cpg_table::{Fault, Rule, Tables};
 use std::alloc::Global;
 
 /// The time of the first column that matches in any scenario, if there is one.
-fn possible_time(problem: &Problem, columns: &[Entry]) -> Option<u64>
+fn possible_time(problem: &Problem, columns: &[Column]) -> Option<u64>
     requires { All (IsColumn problem.now) columns.now }
     ensures { result ≡ possible_time problem.now columns.now }
 {
@@ -81,7 +81,7 @@ impl TimeJudge for FrozenStarts {
         admitted: &Admitted,
         tables: &Tables,
         item: u32,
-        column: &Entry,
+        column: &Column,
     ) -> Result<Option<Scenario>, OutOfMemory> {
         let Some(time) = self.times[item as usize] else {
             return Ok(None);

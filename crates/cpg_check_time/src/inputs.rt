@@ -19,7 +19,7 @@ use crate::delays::{Delay, least_delay};
 use crate::judge::TimeJudge;
 use cpg_base::{OutOfMemory, Scenario};
 use cpg_cover::earlier;
-use cpg_cube::{Cube, Entry};
+use cpg_cube::{Column, Cube};
 use cpg_order::Links;
 use cpg_rules::Admitted;
 use cpg_table::Tables;
@@ -49,7 +49,7 @@ fn least_lacking(
     tables: &Tables,
     lines: &[SievedLine<'_>],
     edge: u32,
-    column: &Entry,
+    column: &Column,
 ) -> Result<Option<Scenario>, OutOfMemory>
     requires lawful { AreTablesOf (head_of admitted.now.graph) tables.now.nodes }
     requires lines { AreLines tables.now.nodes (item_count admitted.now.graph) lines.now }
@@ -70,7 +70,7 @@ fn least_lacking(
     let Some(part) = common(&column.cube, &asked)? else {
         return Ok(None);
     };
-    let part = Entry {
+    let part = Column {
         time: column.time,
         cube: part,
     };
@@ -86,7 +86,7 @@ fn least_of_lacking(
     tables: &Tables,
     lines: &[SievedLine<'_>],
     edges: &[u32],
-    column: &Entry,
+    column: &Column,
 ) -> Result<Option<Scenario>, OutOfMemory>
     requires lawful { AreTablesOf (head_of admitted.now.graph) tables.now.nodes }
     requires lines { AreLines tables.now.nodes (item_count admitted.now.graph) lines.now }
@@ -123,7 +123,7 @@ impl<'a> TimeJudge for WaitedInputs<'a> {
         admitted: &Admitted,
         tables: &Tables,
         item: u32,
-        column: &Entry,
+        column: &Column,
     ) -> Result<Option<Scenario>, OutOfMemory> {
         let problem = admitted.problem();
         let lines = self.lines;

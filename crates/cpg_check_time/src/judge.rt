@@ -15,7 +15,7 @@ ghost use Rattle.cpg_violation.specs.Violation.{Holds, IsFirstColumn, IsFirstVio
 ghost use Rattle.cpg_check_time.specs.Columns.{IsColumn, breaks_column, is_alone};
 
 use cpg_base::{OutOfMemory, Scenario};
-use cpg_cube::Entry;
+use cpg_cube::Column;
 use cpg_rules::Admitted;
 use cpg_table::{Fault, Rule, Tables};
 use cpg_violation::is_marked;
@@ -34,7 +34,7 @@ pub(crate) trait TimeJudge {
         admitted: &Admitted,
         tables: &Tables,
         item: u32,
-        column: &Entry,
+        column: &Column,
     ) -> Result<Option<Scenario>, OutOfMemory>
         requires suits { suits self.now admitted.now.graph tables.now.nodes }
         requires lawful { AreTablesOf (head_of admitted.now.graph) tables.now.nodes }

@@ -11,7 +11,7 @@ ghost use Rattle.cpg_check_time.specs.Columns.{IsColumn};
 ghost use Rattle.cpg_check_time.specs.Lateness.{IsLeastCount, ends_after};
 
 use cpg_base::{OutOfMemory, Problem, Scenario};
-use cpg_cube::{Cube, Entry, Literal};
+use cpg_cube::{Column, Cube, Literal};
 use cpg_violation::met;
 
 /// The least count of faults with which an execution that starts at a time ends after another; `None` if even the
@@ -66,7 +66,7 @@ pub(crate) fn late_part(
 pub(crate) fn least_late(
     problem: &Problem,
     cube: &Cube,
-    column: &Entry,
+    column: &Column,
     process: u32,
     time: u64,
     room: &mut Scenario,

@@ -7,15 +7,15 @@ ghost use Rattle.cpg_cube.specs.Column.{Column, column_at};
 ghost use Rattle.cpg_violation.specs.Lines.{IsLine};
 
 use cpg_base::OutOfMemory;
-use cpg_cube::{Cube, Entry};
+use cpg_cube::{Column, Cube};
 use cpg_violation::SievedLine;
 use std::alloc::Global;
 
 /// Adds the column at a place, if there is one.
 fn push_column<'a>(
-    columns: &'a [Entry],
+    columns: &'a [Column],
     place: u32,
-    found: &mut Vec<&'a Entry>,
+    found: &mut Vec<&'a Column>,
 ) -> Result<(), OutOfMemory>
     ensures there { IfOk result (λ _. place < length columns.now
         → map (λ b. b.now) found.new.items ≡ map (λ b. b.now) found.old.items ++ column_at columns.now place ∷ []) }
@@ -32,7 +32,7 @@ pub(crate) fn meeting<'a>(
     alloc: Global,
     line: &SievedLine<'a>,
     cube: &Cube,
-) -> Result<Vec<&'a Entry>, OutOfMemory>
+) -> Result<Vec<&'a Column>, OutOfMemory>
     requires { IsLine line.now.columns.now line.now }
     ensures same { IfOk result (λ found. (s : Scenario) (test : Column → Bool)
         → ((d : Column) → test d ≡ true → (matches cube.now s ≡ true) × (matches d.cube s ≡ true))

@@ -13,7 +13,7 @@ ghost use Rattle.cpg_check_time.specs.Columns.{IsColumn};
 
 use cpg_base::{OutOfMemory, Scenario};
 use cpg_cover::earlier;
-use cpg_cube::Entry;
+use cpg_cube::Column;
 use cpg_rules::Admitted;
 use cpg_table::Tables;
 use std::alloc::Global;
@@ -34,7 +34,7 @@ pub(crate) trait ColumnPairs {
         admitted: &Admitted,
         tables: &Tables,
         item: u32,
-        column: &Entry,
+        column: &Column,
         other: u32,
     ) -> Result<Option<Scenario>, OutOfMemory>
         requires fits { fits self.now admitted.now.graph tables.now.nodes }
@@ -52,7 +52,7 @@ pub(crate) fn least_of_lower<P: ColumnPairs>(
     tables: &Tables,
     pairs: &P,
     item: u32,
-    column: &Entry,
+    column: &Column,
 ) -> Result<Option<Scenario>, OutOfMemory>
     requires fits { P.fits pairs.now admitted.now.graph tables.now.nodes }
     requires lawful { AreTablesOf (head_of admitted.now.graph) tables.now.nodes }

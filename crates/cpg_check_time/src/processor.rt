@@ -11,7 +11,7 @@ use crate::lateness::least_late;
 use crate::pairs::{ColumnPairs, least_of_lower};
 use crate::questions::{Question, least_near};
 use cpg_base::{OutOfMemory, Problem, Scenario};
-use cpg_cube::Entry;
+use cpg_cube::Column;
 use cpg_rules::Admitted;
 use cpg_table::Tables;
 use cpg_violation::SievedLine;
@@ -21,7 +21,7 @@ use std::alloc::Global;
 #[derive(Drop)]
 pub(crate) struct Overlap<'a> {
     pub(crate) process: u32,
-    pub(crate) column: &'a Entry,
+    pub(crate) column: &'a Column,
     pub(crate) other: u32,
 }
 
@@ -33,7 +33,7 @@ impl<'a> Question for Overlap<'a> {
     fn least(
         &self,
         problem: &Problem,
-        beside: &Entry,
+        beside: &Column,
         room: &mut Scenario,
     ) -> Result<Option<Scenario>, OutOfMemory> {
         let column = self.column;
@@ -75,7 +75,7 @@ impl<'a> ColumnPairs for Processors<'a> {
         admitted: &Admitted,
         tables: &Tables,
         item: u32,
-        column: &Entry,
+        column: &Column,
         other: u32,
     ) -> Result<Option<Scenario>, OutOfMemory> {
         let problem = admitted.problem();
@@ -112,7 +112,7 @@ impl<'a> TimeJudge for Processors<'a> {
         admitted: &Admitted,
         tables: &Tables,
         item: u32,
-        column: &Entry,
+        column: &Column,
     ) -> Result<Option<Scenario>, OutOfMemory> {
         if item as usize >= admitted.problem().processes().len() {
             return Ok(None);

@@ -13,7 +13,7 @@ ghost use Rattle.cpg_check_time.specs.Columns.{IsColumn};
 use crate::lines::meeting;
 use cpg_base::{Order, OutOfMemory, Problem, Scenario};
 use cpg_cover::earlier;
-use cpg_cube::{Cube, Entry};
+use cpg_cube::{Column, Cube};
 use cpg_rules::Admitted;
 use cpg_violation::SievedLine;
 use std::alloc::Global;
@@ -28,7 +28,7 @@ pub(crate) trait Question {
     fn least(
         &self,
         problem: &Problem,
-        beside: &Entry,
+        beside: &Column,
         room: &mut Scenario,
     ) -> Result<Option<Scenario>, OutOfMemory>
         requires fits { fits self.now problem.now }
@@ -44,7 +44,7 @@ fn least_of<Q: Question>(
     problem: &Problem,
     order: &Order,
     question: &Q,
-    columns: &[&Entry],
+    columns: &[&Column],
 ) -> Result<Option<Scenario>, OutOfMemory>
     requires order { length order.now ≡ process_count problem.now }
     requires fits { Q.fits question.now problem.now }

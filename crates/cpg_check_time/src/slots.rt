@@ -11,7 +11,7 @@ use crate::pairs::{ColumnPairs, least_of_lower};
 use crate::questions::{Question, least_near};
 use cpg_base::{OutOfMemory, Problem, Scenario};
 use cpg_bus::is_slot_start;
-use cpg_cube::Entry;
+use cpg_cube::Column;
 use cpg_rules::Admitted;
 use cpg_table::Tables;
 use cpg_violation::{SievedLine, met};
@@ -20,7 +20,7 @@ use std::alloc::Global;
 /// That a column matches together with another at its time.
 #[derive(Drop)]
 pub(crate) struct Shared<'a> {
-    pub(crate) column: &'a Entry,
+    pub(crate) column: &'a Column,
 }
 
 impl<'a> Question for Shared<'a> {
@@ -31,7 +31,7 @@ impl<'a> Question for Shared<'a> {
     fn least(
         &self,
         problem: &Problem,
-        beside: &Entry,
+        beside: &Column,
         room: &mut Scenario,
     ) -> Result<Option<Scenario>, OutOfMemory> {
         let column = self.column;
@@ -65,7 +65,7 @@ impl<'a> ColumnPairs for Slots<'a> {
         admitted: &Admitted,
         tables: &Tables,
         item: u32,
-        column: &Entry,
+        column: &Column,
         other: u32,
     ) -> Result<Option<Scenario>, OutOfMemory> {
         let lines = self.lines;
@@ -100,7 +100,7 @@ impl<'a> TimeJudge for Slots<'a> {
         admitted: &Admitted,
         tables: &Tables,
         item: u32,
-        column: &Entry,
+        column: &Column,
     ) -> Result<Option<Scenario>, OutOfMemory> {
         let problem = admitted.problem();
         if !problem.is_sent(item) {

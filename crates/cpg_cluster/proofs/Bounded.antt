@@ -15,7 +15,7 @@ use Rattle.cpg_base.proofs.Ordered.{Rises, Rises-filter, numbers_go_up}
 use Rattle.cpg_table.specs.Lawful.{column_count, rows_of}
 use Rattle.cpg_table.specs.Shape.{processes_on}
 use Rattle.cpg_table.specs.Table.{NodeTable}
-use Rattle.cpg_node.specs.Dispatcher.{Dispatcher, Ended, Frame, Own, next, opening, turn}
+use Rattle.cpg_node.specs.Dispatcher.{Dispatcher, Ended, Frame, Own, next, initial_dispatcher, turn}
 use Rattle.cpg_table.specs.Items.{own_process}
 use Rattle.cpg_cluster.specs.Cluster.{World, Cluster, Answer, Took, Waits, Done, answer, dispatcher_at, reported, reports_now}
 use Rattle.cpg_cluster.specs.Driving.{choose, chosen, circle, remaining}
@@ -85,7 +85,7 @@ most_remaining g c within few own columns = omega (
   columns,
   most_of c.nodes (λ i d l.
       let same : (get_or c.nodes i d).table.own ≡ own_of_node g i = ap (λ (d : Dispatcher). d.table.own)
-      (get_or_default c.nodes i d (opening (record { faults = 0; first_broadcast = 0; own = []; starts = []; sends = []; hears = [] })) l) ∙ own i l in
+      (get_or_default c.nodes i d (initial_dispatcher (record { faults = 0; first_broadcast = 0; own = []; starts = []; sends = []; hears = [] })) l) ∙ own i l in
       (subst (λ (os : List Own). length os ≤ 128) (sym same) (few_own g i within), subst HaveFewEnds (sym same) (own_few_ends g i within))),
 )
 

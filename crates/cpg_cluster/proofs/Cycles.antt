@@ -24,7 +24,7 @@ use Rattle.cpg_table.specs.Valid.{hear_row, later_by}
 use Rattle.cpg_table.proofs.Rows.{not_both}
 use Rattle.cpg_table.proofs.Settings.{Match, match_due}
 use Rattle.cpg_node.specs.Dispatcher.{times_in}
-use Rattle.cpg_cluster.specs.Cluster.{World, Cluster, open_cluster, play, IsPlayed}
+use Rattle.cpg_cluster.specs.Cluster.{World, Cluster, initial_cluster, play, IsPlayed}
 use Rattle.cpg_cluster.specs.Cycles.{last_arrival, cycle_step, IsCycle, LeastCyclesAreLeast, IsOverBy, CyclesHoldAll, CyclesHaveTheSameSlots, CyclesAreApart}
 use Rattle.cpg_cluster.proofs.Asked.{asked_match}
 use Rattle.cpg_cluster.proofs.Nodes.{Played, hear_row_in}
@@ -110,9 +110,9 @@ module _ {g : Graph} {tables : List NodeTable} {w : World} (k : Played g tables 
   known : (node p : ℕ) → Contains (processes_on g node) p → p < process_count g
   known node p m = numbers-Contains (process_count g) p (Contains-filter_parts (λ p. node_of g p == node) (numbers_below (process_count g)) p m).0
 
-  pub over : (turns : List ℕ) → IsOverBy g w.scenario (play g w (open_cluster g tables) turns) time
+  pub over : (turns : List ℕ) → IsOverBy g w.scenario (play g w (initial_cluster g tables) turns) time
   over turns =
-      let c : Cluster = play g w (open_cluster g tables) turns in
+      let c : Cluster = play g w (initial_cluster g tables) turns in
       let played : IsPlayed g tables w c = record { turns = turns; is = refl } in
       record {
         starts = λ node a l m p. let q = ((reached k turns).holds node l).done.only a m in omega (arith, planned_end a.item q.0.column (asked_match q.0) p, q.0.time);

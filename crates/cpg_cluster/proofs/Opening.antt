@@ -18,9 +18,9 @@ use Rattle.cpg_head.specs.GraphHead.{head_of}
 use Rattle.cpg_table.specs.Lawful.{AreTablesOf}
 use Rattle.cpg_table.specs.Valid.{IsValid, hear_row, hear_rows}
 use Rattle.cpg_table.proofs.GraphTables.{has_shape}
-use Rattle.cpg_node.specs.Dispatcher.{Dispatcher, opening}
+use Rattle.cpg_node.specs.Dispatcher.{Dispatcher, initial_dispatcher}
 use Rattle.cpg_node.specs.State.{NodeState}
-use Rattle.cpg_cluster.specs.Cluster.{World, dispatchers_from, open_cluster}
+use Rattle.cpg_cluster.specs.Cluster.{World, dispatchers_from, initial_cluster}
 use Rattle.cpg_cluster.specs.Correct.{IsWorld, IsCorrect}
 use Rattle.cpg_cluster.specs.Playing.{IsPlaying, opened}
 use Rattle.cpg_cluster.specs.Keeping.{AreIndexed, noted_of, IsOpen, AreOpen, HearsItems, AllFit}
@@ -65,7 +65,7 @@ hears_items g tables v i l = subst (All (λ (row : Row). row.item < item_count g
     subst (λ (row : Row). row.item < item_count g) q.2 (numbers-Contains (item_count g) q.0 p.0)) (hear_rows g tables i) (All-contains_itself (hear_rows g tables i)))
 
 module _ (g : Graph) (tables : List NodeTable) (w : World) (within : IsWithinLimits g) (of : AreTablesOf (head_of g) tables) (ms : List Member) (open' : AreOpen g tables (length tables) ms) where
-  table_here : (i : ℕ) (d : Member) → i < length tables → (get_or ms i d).node.dispatcher ≡ opening (table_at tables i)
+  table_here : (i : ℕ) (d : Member) → i < length tables → (get_or ms i d).node.dispatcher ≡ initial_dispatcher (table_at tables i)
   table_here i d l = ap (λ (s : NodeState). s.dispatcher) (open'.each i d l).node
 
   pub tables_are : tables_of ms ≡ tables
@@ -78,7 +78,7 @@ module _ (g : Graph) (tables : List NodeTable) (w : World) (within : IsWithinLim
   nodes_are = same_lists (cluster_of ms).nodes (dispatchers_from g 0 tables) (length-map ms (λ (m : Member). m.node.dispatcher) ∙ open'.count ∙ sym (dispatchers_count g 0 tables)) (λ i d l.
       let k : i < length ms = omega (arith, l, length-map ms (λ (m : Member). m.node.dispatcher)) in
       let t : i < length tables = omega (arith, k, open'.count) in
-      get_or-map (λ (m : Member). m.node.dispatcher) ms i (get_member ms i k) d k ∙ table_here i (get_member ms i k) t ∙ ap opening (sym (own_is g tables within of i t)) ∙
+      get_or-map (λ (m : Member). m.node.dispatcher) ms i (get_member ms i k) d k ∙ table_here i (get_member ms i k) t ∙ ap initial_dispatcher (sym (own_is g tables within of i t)) ∙
       sym (dispatchers_at g 0 tables i i d empty_table t (omega arith)))
 
   -- nothing has been done
@@ -88,7 +88,7 @@ module _ (g : Graph) (tables : List NodeTable) (w : World) (within : IsWithinLim
       let t : i < length tables = omega (arith, k, open'.count) in
       get_or-map f ms i (get_member ms i k) d k ∙ h i (get_member ms i k) t ∙ sym (get_or-replicate (length tables) i [] d t))
 
-  pub cluster_is : cluster_of ms ≡ open_cluster g tables
+  pub cluster_is : cluster_of ms ≡ initial_cluster g tables
   cluster_is = λ i. record {
     nodes = nodes_are i;
     acts = none_are (λ (m : Member). m.acts.items) (λ i d l. (open'.each i d l).acts) i;

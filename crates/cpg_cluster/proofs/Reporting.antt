@@ -17,7 +17,7 @@ use Rattle.cpg_table.proofs.Settings.{Match, match_once}
 use Rattle.cpg_node.specs.Dispatcher.{Dispatcher, Own, Range, Running, Ended, next}
 use Rattle.cpg_node.proofs.Next.{by, not_by, still_by, zip_with-map, NextIs, next_is}
 use Rattle.cpg_table.specs.Items.{own_process}
-use Rattle.cpg_cluster.specs.Cluster.{World, Cluster, Answer, Took, Waits, Done as IsDone, ended_of, report_of, reports_now, open_cluster, dispatcher_at, take_turn, step_by, step, play, answer}
+use Rattle.cpg_cluster.specs.Cluster.{World, Cluster, Answer, Took, Waits, Done as IsDone, ended_of, report_of, reports_now, initial_cluster, dispatcher_at, take_turn, step_by, step, play, answer}
 use Rattle.cpg_cluster.specs.Cluster.{IsPlayed}
 use Rattle.cpg_cluster.proofs.Nodes.{Played, node_state, planned, own_of_node}
 use Rattle.cpg_cluster.proofs.Lawful.{runs_since, unreported}
@@ -154,12 +154,12 @@ module _ {g : Graph} {tables : List NodeTable} {w : World} (k : Played g tables 
   pub report_is : (c : Cluster) (r : Reached g tables w c) (a : ℕ) → a < length g.nodes → (time : ℕ) (q : ℕ × Ended) → Contains (reports_now g w (dispatcher_at c a) time) q → OneReport g tables w a q
   report_is c r a l time q h = (now_parts k a (r.holds a l).last time q (subst (λ rs. Contains rs q) (now_is c r a l time) h)).0
 
-  hold_open : ReportsHold (open_cluster g tables)
+  hold_open : ReportsHold (initial_cluster g tables)
   hold_open = record {
     count = length-replicate (length tables) [] ∙ k.setting.shape.count;
     each = λ node l.
         let none = get_or-replicate {A = List (ℕ × Ended)} (length tables) node [] [] (omega (arith, k.setting.shape.count)) in
-        subst (HasReported g tables w node (dispatcher_at (open_cluster g tables) node).last) (sym none) (record { only = λ q h. absurd (Contains-nil q h); apart = tt });
+        subst (HasReported g tables w node (dispatcher_at (initial_cluster g tables) node).last) (sym none) (record { only = λ q h. absurd (Contains-nil q h); apart = tt });
   }
 
   module _ (c : Cluster) (r : Reached g tables w c) (h : ReportsHold c) where
@@ -202,4 +202,4 @@ module _ {g : Graph} {tables : List NodeTable} {w : World} (k : Played g tables 
   hold_play (a ∷ rest) c r h = hold_play rest (step g w c a) (reached_step k c r a) (hold_step c r h a)
 
   pub reports_hold : (c : Cluster) → IsPlayed g tables w c → ReportsHold c
-  reports_hold c p = subst ReportsHold p.is (hold_play p.turns (open_cluster g tables) (reached_open k) hold_open)
+  reports_hold c p = subst ReportsHold p.is (hold_play p.turns (initial_cluster g tables) (reached_open k) hold_open)

@@ -11,7 +11,7 @@ use Rattle.cpg_base.specs.Graph.{Graph, home, item_count}
 use Rattle.cpg_base.specs.Numbers.{numbers_below}
 use Rattle.cpg_table.specs.Table.{NodeTable, Row, table_at, empty_table}
 use Rattle.cpg_table.specs.Shape.{processes_on}
-use Rattle.cpg_node.specs.Dispatcher.{opening, Dispatcher, Own, OwnTable, Ended, Frame, Act, next, turn, acts_of_turn, due_reports}
+use Rattle.cpg_node.specs.Dispatcher.{initial_dispatcher, Dispatcher, Own, OwnTable, Ended, Frame, Act, next, turn, acts_of_turn, due_reports}
 use Rattle.cpg_node.specs.State.{MayTurn}
 use Rattle.cpg_table.specs.Items.{own_process}
 use Rattle.cpg_cluster.specs.Cluster.{World, Cluster, Answer, Took, Waits, Done, dispatcher_at, answer_by, answer_at, answer, reported, reports_now, frames_now, take_turn, step_by, step, IsPlayed}
@@ -264,6 +264,6 @@ module _ (g : Graph) (w : World) (ms : List Member) (p : IsPlaying (play_of g w 
           nearer_then = subst (λ (d : Cluster). remaining d < remaining (cluster_of ms)) (sym cluster_then)
               (nearer_set (cluster_of ms).nodes a (turn (reported g w (dispatcher_at (cluster_of ms) a) time) time []
               (frames_now g w (cluster_of ms) (reported g w (dispatcher_at (cluster_of ms) a) time) time))
-              (opening (record { faults = 0; first_broadcast = 0; own = []; starts = []; sends = []; hears = [] })) (omega (arith, l, length-map ms (λ (m : Member). m.node.dispatcher)))
+              (initial_dispatcher (record { faults = 0; first_broadcast = 0; own = []; starts = []; sends = []; hears = [] })) (omega (arith, l, length-map ms (λ (m : Member). m.node.dispatcher)))
               (less_turn g w a (dispatcher_at (cluster_of ms) a) time (frames_now g w (cluster_of ms) (reported g w (dispatcher_at (cluster_of ms) a) time) time) p.limits
               (ap (λ (d : Dispatcher). d.table.own) (r.holds a on).is) next_at))

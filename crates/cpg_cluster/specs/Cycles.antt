@@ -11,7 +11,7 @@ use Rattle.cpg_table.specs.Table.{NodeTable}
 use Rattle.cpg_table.specs.Shape.{HasShape}
 use Rattle.cpg_table.specs.Valid.{IsValid}
 use Rattle.cpg_node.specs.Dispatcher.{Act, Ended, times_in}
-use Rattle.cpg_cluster.specs.Cluster.{World, Cluster, open_cluster, play}
+use Rattle.cpg_cluster.specs.Cluster.{World, Cluster, initial_cluster, play}
 use Rattle.cpg_cluster.specs.Correct.{IsWorld, end_of_act, arrival_of_act}
 
 -- the greatest time of anything that a node hears, or 0 if nothing is sent
@@ -53,7 +53,7 @@ pub record IsOverBy (g : Graph) (s : Scenario) (c : Cluster) (time : ℕ) : Type
 -- In every state of every play of valid tables, all that nodes do is over at the end of a cycle.
 abbrev pub CyclesHoldAll : Type 0
 CyclesHoldAll = (g : Graph) (tables : List NodeTable) (time : ℕ) → WellFormed g → HasShape g tables → IsValid g tables → IsCycle g tables time →
-    (w : World) (turns : List ℕ) → IsWorld g w → IsOverBy g w.scenario (play g w (open_cluster g tables) turns) time
+    (w : World) (turns : List ℕ) → IsWorld g w → IsOverBy g w.scenario (play g w (initial_cluster g tables) turns) time
 
 -- a time at which a slot of the node starts
 abbrev pub IsOccurrence : Graph → ℕ → ℕ → Type 0
@@ -80,4 +80,4 @@ pub record AreApart (g : Graph) (s : Scenario) (one other : Cluster) (begin late
 abbrev pub CyclesAreApart : Type 0
 CyclesAreApart = (g : Graph) (tables : List NodeTable) (time : ℕ) → WellFormed g → HasShape g tables → IsValid g tables → IsCycle g tables time →
     (w v : World) (turns others : List ℕ) (cycle later : ℕ) → IsWorld g w → IsWorld g v → cycle < later →
-    AreApart g w.scenario (play g w (open_cluster g tables) turns) (play g v (open_cluster g tables) others) (cycle * time) (later * time)
+    AreApart g w.scenario (play g w (initial_cluster g tables) turns) (play g v (initial_cluster g tables) others) (cycle * time) (later * time)

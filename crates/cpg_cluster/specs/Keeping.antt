@@ -9,7 +9,7 @@ use Rattle.cpg_base.specs.Graph.{Graph, home, item_at, item_count}
 use Rattle.cpg_base.specs.Bus.{slot_length}
 use Rattle.cpg_table.specs.Table.{Row, NodeTable, table_at}
 use Rattle.cpg_cube.specs.Column.{Column}
-use Rattle.cpg_node.specs.Dispatcher.{Act, Frame, next, opening, zip_with}
+use Rattle.cpg_node.specs.Dispatcher.{Act, Frame, next, initial_dispatcher, zip_with}
 use Rattle.cpg_cluster.specs.Cluster.{Answer, Took, Waits}
 use Rattle.cpg_cluster.specs.Taking.{value_of_item, frames_from}
 use Rattle.cpg_cluster.specs.declared.member.Member.{Member}
@@ -92,7 +92,7 @@ AllFit g members = (i : ℕ) (d : Member) → i < length members → Fits g i (g
 
 -- a node before its first turn, with its table
 pub record IsOpen (g : Graph) (number : ℕ) (t : NodeTable) (m : Member) : Type 0 where
-  pub node : m.node ≡ record { dispatcher = opening t; acts = [] }
+  pub node : m.node ≡ record { dispatcher = initial_dispatcher t; acts = [] }
   pub senders : m.senders.items ≡ map (λ (row : Row). home g row.item) t.hears
   pub slot : m.slot ≡ slot_length g number
   pub arrivals : AreIndexed t.hears m.senders.items (length g.nodes) m.arrivals.items

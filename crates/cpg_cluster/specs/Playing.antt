@@ -9,7 +9,7 @@ use Rattle.cpg_table.specs.Table.{NodeTable}
 use Rattle.cpg_table.specs.Shape.{HasShape}
 use Rattle.cpg_table.specs.Valid.{IsValid}
 use Rattle.cpg_node.specs.Dispatcher.{Act, next}
-use Rattle.cpg_cluster.specs.Cluster.{World, Cluster, Answer, Took, Waits, Done, open_cluster, dispatcher_at, step, IsPlayed}
+use Rattle.cpg_cluster.specs.Cluster.{World, Cluster, Answer, Took, Waits, Done, initial_cluster, dispatcher_at, step, IsPlayed}
 use Rattle.cpg_cluster.specs.Correct.{IsWorld, IsDue}
 use Rattle.cpg_cluster.specs.declared.answered.AskStep.{AskStep}
 use Rattle.cpg_cluster.specs.declared.answered.AskStep.TheVariants.{Took as StepTook, Waits as StepWaits, Done as StepDone}
@@ -23,7 +23,7 @@ pub record Playing : Type 0 where
 
 -- a play before the first turn
 abbrev pub opened : Graph → List NodeTable → World → Playing
-opened g tables w = record { graph = g; tables = tables; world = w; cluster = open_cluster g tables }
+opened g tables w = record { graph = g; tables = tables; world = w; cluster = initial_cluster g tables }
 
 -- a play after a node is asked
 abbrev pub stepped : Playing → ℕ → Playing

@@ -20,7 +20,7 @@ fn add_times_of(
 {
     for (place, row) in rows.iter().enumerate() {
         if senders[place] == other {
-            add_times(times, row.entries())?;
+            add_times(times, row.columns())?;
         }
     }
     Ok(())

@@ -4,7 +4,7 @@ ghost use Rattle.std.specs.Vec.{vec_capacity};
 ghost use Rattle.cpg_base.specs.Bus.{slot_length};
 ghost use Rattle.cpg_base.specs.Graph.{home, item_count, process_count};
 ghost use Rattle.cpg_base.specs.Scenario.{IsScenario};
-ghost use Rattle.cpg_node.specs.Dispatcher.{opening, next, turn, acts_of_turn};
+ghost use Rattle.cpg_node.specs.Dispatcher.{initial_dispatcher, next, turn, acts_of_turn};
 ghost use Rattle.cpg_node.specs.State.{MayTurn};
 ghost use Rattle.cpg_table.specs.Lawful.{AreTablesOf};
 ghost use Rattle.cpg_table.specs.Table.{table_at};

@@ -15,7 +15,7 @@ use Rattle.cpg_table.specs.Lawful.{IsLawfulLiteral, IsLawfulColumn}
 use Rattle.cpg_table.specs.declared.space.VariableSpace.{VariableSpace}
 use Rattle.cpg_codec.specs.Reading.{down}
 use Rattle.cpg_codec.specs.Spelling.{byte, literal_bytes, column_bytes}
-use Rattle.cpg_codec.specs.Grammar.{IsSpace, limit, fault_end, is_variable, room, variable_may, low_end, high_end, literal_at, literals_at, front_at, column_at}
+use Rattle.cpg_codec.specs.Grammar.{IsSpace, limit, fault_end, is_variable, variable_count_from, variable_may, low_end, high_end, read_literal, read_literals, read_front, read_column}
 use Rattle.cpg_codec.proofs.Laws.{Reads, pure_reads, seq, adapt, byte_reads}
 use Rattle.cpg_codec.proofs.Numbers.{small_reads}
 use Rattle.cpg_codec.proofs.Lists.{each_reads, down_is}
@@ -61,7 +61,7 @@ step_value : (e c least v : ℕ) → e ≤ 128 → least ≤ v → 128 ≤ v →
 step_value e c least v few le a b = omega arith
 
 -- each allowed variable takes room
-pub room_step : (s : VariableSpace) (least v : ℕ) → fault_end s ≤ 128 → least ≤ v → is_variable s v ≡ true → suc (room s (suc v)) ≤ room s least
+pub room_step : (s : VariableSpace) (least v : ℕ) → fault_end s ≤ 128 → least ≤ v → is_variable s v ≡ true → suc (variable_count_from s (suc v)) ≤ variable_count_from s least
 room_step s least v few le h = elim (is_variable_cases s v h) [
   | inl a ↦ step_fault (fault_end s) s.conditions least v few le a
   | inr a ↦ step_value (fault_end s) s.conditions least v few le a.0 a.1
@@ -77,13 +77,13 @@ some_there : (e c least : ℕ) → e ≤ least → 0 < (e - least) + ((128 + c) 
 some_there e c least h some = omega arith
 
 -- if there is room, there is a variable that takes no more than its own
-room_some : (s : VariableSpace) (least : ℕ) → fault_end s ≤ 128 → 0 < room s least → (v : ℕ) × (least ≤ v) × (is_variable s v ≡ true) × (room s least ≤ suc (room s (suc v)))
+room_some : (s : VariableSpace) (least : ℕ) → fault_end s ≤ 128 → 0 < variable_count_from s least → (v : ℕ) × (least ≤ v) × (is_variable s v ≡ true) × (variable_count_from s least ≤ suc (variable_count_from s (suc v)))
 room_some s least few some = elim (cases_lt least (fault_end s)) [
   | inl h ↦ (least, omega arith, is_fault_variable s least h, some_fault (fault_end s) s.conditions least few h)
   | inr h ↦ (max 128 least, omega arith, is_value_variable s (max 128 least) (omega arith) (some_there (fault_end s) s.conditions least h some), some_value (fault_end s) s.conditions least few h)
 ]
 
-pub literals_room : (s : VariableSpace) (least : ℕ) (ls : List Literal) → fault_end s ≤ 128 → AreLiterals s least ls → length ls ≤ room s least
+pub literals_room : (s : VariableSpace) (least : ℕ) (ls : List Literal) → fault_end s ≤ 128 → AreLiterals s least ls → length ls ≤ variable_count_from s least
 literals_room s least [] few h = omega arith
 literals_room s least (l ∷ ls) few h =
     let a = literals_room s (suc l.variable) ls few h.2 in
@@ -137,19 +137,19 @@ range_from false s low high r = (omega (arith, r.0, r.1), omega (arith, r.0), om
 pub record FitsLiteral (s : VariableSpace) (left least : ℕ) (l : Literal) : Type 0 where
   pub rises : least ≤ l.variable
   pub lawful : IsLiteral s l
-  pub leaves : left ≤ room s (suc l.variable)
+  pub leaves : left ≤ variable_count_from s (suc l.variable)
 
-may_from : (s : VariableSpace) (least left v : ℕ) → least ≤ v → is_variable s v ≡ true → left ≤ room s (suc v) → variable_may s least left v ≡ true
-may_from s least left v a b c = and_from (leb least v && is_variable s v) (leb left (room s (suc v))) (and_from (leb least v) (is_variable s v) (le-leb least v a) b) (le-leb left (room s (suc v)) c)
+may_from : (s : VariableSpace) (least left v : ℕ) → least ≤ v → is_variable s v ≡ true → left ≤ variable_count_from s (suc v) → variable_may s least left v ≡ true
+may_from s least left v a b c = and_from (leb least v && is_variable s v) (leb left (variable_count_from s (suc v))) (and_from (leb least v) (is_variable s v) (le-leb least v a) b) (le-leb left (variable_count_from s (suc v)) c)
 
-pub may_to : (s : VariableSpace) (least left v : ℕ) → variable_may s least left v ≡ true → (least ≤ v) × (is_variable s v ≡ true) × (left ≤ room s (suc v))
+pub may_to : (s : VariableSpace) (least left v : ℕ) → variable_may s least left v ≡ true → (least ≤ v) × (is_variable s v ≡ true) × (left ≤ variable_count_from s (suc v))
 may_to s least left v h =
-    let p = and_parts (leb least v && is_variable s v) (leb left (room s (suc v))) h in
+    let p = and_parts (leb least v && is_variable s v) (leb left (variable_count_from s (suc v))) h in
     let q = and_parts (leb least v) (is_variable s v) p.0 in
-    (leb-true least v q.0, q.1, leb-true left (room s (suc v)) p.1)
+    (leb-true least v q.0, q.1, leb-true left (variable_count_from s (suc v)) p.1)
 
-pub literal_reads : (s : VariableSpace) (left least : ℕ) → IsSpace s → left < room s least → Reads (FitsLiteral s left least) literal_bytes (literal_at s left least)
-unfolding literal_at
+pub literal_reads : (s : VariableSpace) (left least : ℕ) → IsSpace s → left < variable_count_from s least → Reads (FitsLiteral s left least) literal_bytes (read_literal s left least)
+unfolding read_literal
 literal_reads s left least i there =
     let v0 = room_some s least (few_fault s i) (omega arith) in
     adapt
@@ -179,12 +179,12 @@ pub record LiteralsFor (s : VariableSpace) (count least : ℕ) (ls : List Litera
   pub count_is : length ls ≡ count
   pub lawful : AreLiterals s least ls
 
-pub literals_reads : (s : VariableSpace) (count : ℕ) → IsSpace s → count ≤ room s 0 → Reads (LiteralsFor s count 0) (flat_map literal_bytes) (literals_at s count)
-unfolding literals_at
+pub literals_reads : (s : VariableSpace) (count : ℕ) → IsSpace s → count ≤ variable_count_from s 0 → Reads (LiteralsFor s count 0) (flat_map literal_bytes) (read_literals s count)
+unfolding read_literals
 literals_reads s count i le =
     adapt
-    (each_reads (λ (least : ℕ) (l : Literal). suc l.variable) (literal_at s)
-    (λ ls least. (ls ≡ down (length ls)) × (length ls ≤ room s least)) (λ l ls least. FitsLiteral s l least) literal_bytes (λ ls least xs. LiteralsFor s (length ls) least xs)
+    (each_reads (λ (least : ℕ) (l : Literal). suc l.variable) (read_literal s)
+    (λ ls least. (ls ≡ down (length ls)) × (length ls ≤ variable_count_from s least)) (λ l ls least. FitsLiteral s l least) literal_bytes (λ ls least xs. LiteralsFor s (length ls) least xs)
     (λ l ls least inv. let d = down_head l ls inv.0 in literal_reads s l least i (omega (arith, d.0, inv.1)))
     (λ l ls least x inv f. let d = down_head l ls inv.0 in (d.1, omega (arith, d.0, f.leaves)))
     (λ least inv. record { count_is = refl; lawful = tt })
@@ -256,12 +256,12 @@ regroup_3 a b c = simp (append_assoc, append-nil)
 room_small : (e c : ℕ) → e ≤ 128 → c ≤ 32 → (e - 0) + ((128 + c) - max 128 0) < 256
 room_small e c a b = omega arith
 
-pub front_reads : (s : VariableSpace) → IsSpace s → Reads (λ (f : ℕ × ℕ). (f.0 < 2 ^ 60) × (f.1 ≤ room s 0)) (λ (f : ℕ × ℕ). to_be_bytes w64 f.0 ++ byte f.1) (front_at s)
-unfolding front_at
+pub front_reads : (s : VariableSpace) → IsSpace s → Reads (λ (f : ℕ × ℕ). (f.0 < 2 ^ 60) × (f.1 ≤ variable_count_from s 0)) (λ (f : ℕ × ℕ). to_be_bytes w64 f.0 ++ byte f.1) (read_front s)
+unfolding read_front
 front_reads s i =
     adapt
     (seq (λ (f : ℕ × ℕ). f.0) time_reads
-    (λ t ft. seq (λ (f : ℕ × ℕ). f.1) (small_reads 0 (room s 0) (omega arith) (room_small (fault_end s) s.conditions (few_fault s i) i.conditions))
+    (λ t ft. seq (λ (f : ℕ × ℕ). f.1) (small_reads 0 (variable_count_from s 0) (omega arith) (room_small (fault_end s) s.conditions (few_fault s i) i.conditions))
     (λ n fn. pure_reads (t, n))
     (λ n f fn h. ap (λ (q : ℕ × ℕ). q.1) h))
     (λ t f ft h. ap (λ (q : ℕ × ℕ). q.0) h.1))
@@ -269,8 +269,8 @@ front_reads s i =
     (λ f h. (h.0, ((omega arith, h.1), refl)))
     (λ f h. refl)
 
-pub column_reads : (s : VariableSpace) → IsSpace s → Reads (IsLawfulColumn s) column_bytes (column_at s)
-unfolding column_at
+pub column_reads : (s : VariableSpace) → IsSpace s → Reads (IsLawfulColumn s) column_bytes (read_column s)
+unfolding read_column
 column_reads s i =
     adapt
     (seq (λ (c : Column). (c.time, length c.cube)) (front_reads s i)
@@ -283,7 +283,7 @@ column_reads s i =
     (λ c h. regroup_3 (to_be_bytes w64 c.time) (byte (length c.cube)) (flat_map literal_bytes c.cube))
 
 -- literals that were read rise
-pub literals_rise : (s : VariableSpace) (count : ℕ) (bytes : List ℕ) (ls : List Literal) (rest : List ℕ) → IsSpace s → count ≤ room s 0 → literals_at s count bytes ≡ Ok (ls, rest) → IsRising ls
+pub literals_rise : (s : VariableSpace) (count : ℕ) (bytes : List ℕ) (ls : List Literal) (rest : List ℕ) → IsSpace s → count ≤ variable_count_from s 0 → read_literals s count bytes ≡ Ok (ls, rest) → IsRising ls
 literals_rise s count bytes ls rest i le e =
     let k = (literals_reads s count i le).takes bytes ls rest e in
     rising_from 0 ls (literals_to s 0 ls i k.0.lawful).1

@@ -6,29 +6,29 @@ use Rattle.std.proofs.lemmas.Nat.{be_bytes_8, mul-le, pow-add}
 use Rattle.std.proofs.Math.Nat.{one-le-pow, div-mul-le_self, lt-div-mul-add, pow-suc}
 use Rattle.std.proofs.Math.Seq.{take-length}
 use Rattle.cpg_io.proofs.Writes.{rest_of}
-use Rattle.cpg_codec.specs.Reading.{digit_may, digits_at, number_at, within}
+use Rattle.cpg_codec.specs.Reading.{digit_may, read_digits, read_number, within}
 use Rattle.cpg_codec.specs.Fields.{field}
 use Rattle.cpg_codec.proofs.Numbers.{field_reads}
 
 -- ---- one digit
 
 digit_good : (low high w n b : ℕ) (rest : List ℕ) → b < 256 → low < (n * 256 + b + 1) * 256 ^ w → (n * 256 + b) * 256 ^ w ≤ high →
-    digits_at (within low high) (suc w) n (b ∷ rest) ≡ digits_at (within low high) w (n * 256 + b) rest
-unfolding digits_at
+    read_digits (within low high) (suc w) n (b ∷ rest) ≡ read_digits (within low high) w (n * 256 + b) rest
+unfolding read_digits
 digit_good low high w n b rest lt lo le =
     let t : digit_may (within low high) w n b ≡ true = and_from (ltb b 256) (within low high ((n * 256 + b) * 256 ^ w) ((n * 256 + b + 1) * 256 ^ w)) (lt-ltb b 256 lt)
     (and_from (ltb low ((n * 256 + b + 1) * 256 ^ w)) (leb ((n * 256 + b) * 256 ^ w) high) (lt-ltb low ((n * 256 + b + 1) * 256 ^ w) lo) (le-leb ((n * 256 + b) * 256 ^ w) high le)) in
     rw t refl
 
-digit_under : (low high w n b : ℕ) (rest : List ℕ) → (n * 256 + b + 1) * 256 ^ w ≤ low → digits_at (within low high) (suc w) n (b ∷ rest) ≡ Err (suc (length rest))
-unfolding digits_at
+digit_under : (low high w n b : ℕ) (rest : List ℕ) → (n * 256 + b + 1) * 256 ^ w ≤ low → read_digits (within low high) (suc w) n (b ∷ rest) ≡ Err (suc (length rest))
+unfolding read_digits
 digit_under low high w n b rest le =
     let t : digit_may (within low high) w n b ≡ false = and_right (ltb b 256) (within low high ((n * 256 + b) * 256 ^ w) ((n * 256 + b + 1) * 256 ^ w))
     (and_left (ltb low ((n * 256 + b + 1) * 256 ^ w)) (leb ((n * 256 + b) * 256 ^ w) high) (le-ltb low ((n * 256 + b + 1) * 256 ^ w) le)) in
     rw t refl
 
-digit_bad : (low high w n b : ℕ) (rest : List ℕ) → high < (n * 256 + b) * 256 ^ w → digits_at (within low high) (suc w) n (b ∷ rest) ≡ Err (suc (length rest))
-unfolding digits_at
+digit_bad : (low high w n b : ℕ) (rest : List ℕ) → high < (n * 256 + b) * 256 ^ w → read_digits (within low high) (suc w) n (b ∷ rest) ≡ Err (suc (length rest))
+unfolding read_digits
 digit_bad low high w n b rest lt =
     let t : digit_may (within low high) w n b ≡ false = and_right (ltb b 256) (within low high ((n * 256 + b) * 256 ^ w) ((n * 256 + b + 1) * 256 ^ w))
     (and_right (ltb low ((n * 256 + b + 1) * 256 ^ w)) (leb ((n * 256 + b) * 256 ^ w) high) (lt-leb ((n * 256 + b) * 256 ^ w) high lt)) in
@@ -38,29 +38,29 @@ digit_bad low high w n b rest lt =
 
 pub digit_goes_on : (low high k w n : ℕ) (bytes : List ℕ) → k ≡ suc w → 1 ≤ length bytes → get_or bytes 0 0 < 256 → low < (n * 256 + get_or bytes 0 0 + 1) * 256 ^ w →
     (n * 256 + get_or bytes 0 0) * 256 ^ w ≤ high
-    → digits_at (within low high) k n bytes ≡ digits_at (within low high) w (n * 256 + get_or bytes 0 0) (take (length bytes - 1) (drop 1 bytes))
+    → read_digits (within low high) k n bytes ≡ read_digits (within low high) w (n * 256 + get_or bytes 0 0) (take (length bytes - 1) (drop 1 bytes))
 digit_goes_on low high k w n [] e some lt lo le = absurd (omega arith)
 digit_goes_on low high k w n (b ∷ rest) e some lt lo le =
-    rw e (digit_good low high w n b rest lt lo le ∙ ap (digits_at (within low high) w (n * 256 + b)) (sym (take_rest rest))) where
+    rw e (digit_good low high w n b rest lt lo le ∙ ap (read_digits (within low high) w (n * 256 + b)) (sym (take_rest rest))) where
       take_rest : (rest : List ℕ) → take (suc (length rest) - 1) rest ≡ rest
       take_rest rest = let e : suc (length rest) - 1 ≡ length rest = omega arith in rw e (take-length rest)
 
-pub digit_stops : (low high k w n : ℕ) (bytes : List ℕ) → k ≡ suc w → 1 ≤ length bytes → high < (n * 256 + get_or bytes 0 0) * 256 ^ w → digits_at (within low high) k n bytes ≡ Err (length bytes)
+pub digit_stops : (low high k w n : ℕ) (bytes : List ℕ) → k ≡ suc w → 1 ≤ length bytes → high < (n * 256 + get_or bytes 0 0) * 256 ^ w → read_digits (within low high) k n bytes ≡ Err (length bytes)
 digit_stops low high k w n [] e some lt = absurd (omega arith)
 digit_stops low high k w n (b ∷ rest) e some lt = rw e (digit_bad low high w n b rest lt)
 
 pub digit_falls_short : (low high k w n : ℕ) (bytes : List ℕ) → k ≡ suc w → 1 ≤ length bytes → (n * 256 + get_or bytes 0 0 + 1) * 256 ^ w ≤ low →
-    digits_at (within low high) k n bytes ≡ Err (length bytes)
+    read_digits (within low high) k n bytes ≡ Err (length bytes)
 digit_falls_short low high k w n [] e some le = absurd (omega arith)
 digit_falls_short low high k w n (b ∷ rest) e some le = rw e (digit_under low high w n b rest le)
 
-pub digit_none : (low high k w n : ℕ) (bytes : List ℕ) → k ≡ suc w → length bytes < 1 → digits_at (within low high) k n bytes ≡ Err 0
-unfolding digits_at
+pub digit_none : (low high k w n : ℕ) (bytes : List ℕ) → k ≡ suc w → length bytes < 1 → read_digits (within low high) k n bytes ≡ Err 0
+unfolding read_digits
 digit_none low high k w n [] e none = rw e refl
 digit_none low high k w n (b ∷ rest) e none = absurd (omega arith)
 
-pub digit_done : (low high k n : ℕ) (bytes : List ℕ) → k ≡ 0 → digits_at (within low high) k n bytes ≡ Ok (n, bytes)
-unfolding digits_at
+pub digit_done : (low high k n : ℕ) (bytes : List ℕ) → k ≡ 0 → read_digits (within low high) k n bytes ≡ Ok (n, bytes)
+unfolding read_digits
 digit_done low high k n bytes e = rw e refl
 
 -- ---- the test by a shift
@@ -133,14 +133,14 @@ first_fits bytes fits (suc (suc (suc (suc (suc (suc (suc zero))))))) = fits 7
 first_fits bytes fits (suc (suc (suc (suc (suc (suc (suc (suc i)))))))) = omega arith
 
 pub long_found : (low high n : ℕ) (bytes : List ℕ) → low ≤ high → high < 2 ^ 64 → 8 ≤ length bytes → IsBytes bytes → n ≡ from_be_bytes w64 (first_8 bytes) → (low ≤ n) × (n ≤ high)
-    → number_at 8 (within low high) bytes ≡ Ok (n, take (length bytes - 8) (drop 8 bytes))
+    → read_number 8 (within low high) bytes ≡ Ok (n, take (length bytes - 8) (drop 8 bytes))
 long_found low high n bytes some top long fits e le =
     let r = field_reads 8 low high some (omega arith) in
     let s : to_be_bytes w64 n ≡ first_8 bytes = be_bytes_8 (first_8 bytes) n refl (first_fits bytes fits) e in
     let p : bytes ≡ to_be_bytes w64 n ++ drop 8 bytes = eight bytes long ∙ ap (λ (t : List ℕ). t ++ drop 8 bytes) (sym s) in
-    ap (number_at 8 (within low high)) p ∙ r.again n (drop 8 bytes) le ∙ ap (λ (t : List ℕ). Ok (n, t)) (sym (rest_of 8 bytes))
+    ap (read_number 8 (within low high)) p ∙ r.again n (drop 8 bytes) le ∙ ap (λ (t : List ℕ). Ok (n, t)) (sym (rest_of 8 bytes))
 
-pub number_only : (w low high : ℕ) (bytes : List ℕ) (n : ℕ) (rest : List ℕ) → low ≤ high → high < 256 ^ w → number_at w (within low high) bytes ≡ Ok (n, rest) → (low ≤ n) × (n ≤ high)
+pub number_only : (w low high : ℕ) (bytes : List ℕ) (n : ℕ) (rest : List ℕ) → low ≤ high → high < 256 ^ w → read_number w (within low high) bytes ≡ Ok (n, rest) → (low ≤ n) × (n ≤ high)
 number_only w low high bytes n rest some top e = ((field_reads w low high some top).takes bytes n rest e).0
 
 -- the field's number is that of std

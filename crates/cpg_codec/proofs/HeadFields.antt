@@ -11,8 +11,8 @@ use Rattle.cpg_base.specs.Name.{IsName, is_name_byte}
 use Rattle.cpg_head.specs.Head.{Head, IsHeadEdge, version_of}
 use Rattle.cpg_head.specs.declared.head_parts.Extra.{Extra}
 use Rattle.cpg_codec.specs.Reading.{byte_by, within, down}
-use Rattle.cpg_codec.specs.Spelling.{Written, written, magic, bit, byte, name_bytes, own_number, extra_bytes, process_bytes, edge_bytes, head_bytes}
-use Rattle.cpg_codec.specs.Grammar.{name_at, time_at, own_may, own_at, extra_at, place_at, process_at, processes_at, edge_at, limit, head_from, head_at}
+use Rattle.cpg_codec.specs.Spelling.{Written, written, magic, bit, byte, name_bytes, deadline_number, extra_bytes, process_bytes, edge_bytes, head_bytes}
+use Rattle.cpg_codec.specs.Grammar.{read_name, read_time, deadline_may, read_deadline, read_extra, read_place, read_process, read_processes, read_edge, limit, head_from, read_head}
 use Rattle.cpg_codec.specs.Packs.{IsPackHead}
 use Rattle.cpg_codec.proofs.Laws.{Reads, pure_reads, seq, adapt, byte_reads}
 use Rattle.cpg_codec.proofs.Numbers.{IsChoice, within_chooses, number_reads, field_reads, small_reads}
@@ -26,8 +26,8 @@ singles : (bs : List ℕ) → flat_map (λ (b : ℕ). b ∷ []) bs ≡ bs
 singles [] = refl
 singles (b ∷ bs) = ap (λ (t : List ℕ). b ∷ t) (singles bs)
 
-pub name_reads : Reads IsName name_bytes name_at
-unfolding name_at
+pub name_reads : Reads IsName name_bytes read_name
+unfolding read_name
 name_reads =
     adapt
     (seq length (small_reads 1 32 (omega arith) (omega arith))
@@ -39,19 +39,19 @@ name_reads =
 
 -- ---- numbers of eight bytes
 
-pub time_reads : Reads (λ t. t < 2 ^ 60) (to_be_bytes w64) time_at
-unfolding time_at
+pub time_reads : Reads (λ t. t < 2 ^ 60) (to_be_bytes w64) read_time
+unfolding read_time
 time_reads = adapt (field_reads 8 0 1152921504606846975 (omega arith) (omega arith)) (λ t h. omega (arith, h.1)) (λ t h. (omega arith, omega arith)) (λ t h. refl)
 
 abbrev pub IsOwn : Option ℕ → Type 0
 IsOwn o = IfSome o (λ (d : ℕ). d ≤ 1000000000)
 
-Owned : ℕ → Type 0
-Owned n = ((0 ≤ n) × (n ≤ 1000000000)) ⊎ ((18446744073709551615 ≤ n) × (n ≤ 18446744073709551615))
+IsDeadlineNumber : ℕ → Type 0
+IsDeadlineNumber n = ((0 ≤ n) × (n ≤ 1000000000)) ⊎ ((18446744073709551615 ≤ n) × (n ≤ 18446744073709551615))
 
-own_chooses : IsChoice Owned own_may
-unfolding Owned
-own_chooses = record {
+deadline_chooses : IsChoice IsDeadlineNumber deadline_may
+unfolding IsDeadlineNumber
+deadline_chooses = record {
   found = λ from below lt e. elim (or_cases (within 0 1000000000 from below) (within 18446744073709551615 18446744073709551615 from below) e) [
     | inl h ↦ let f = (within_chooses 0 1000000000 (omega arith)).found from below lt h in (f.0, f.1, f.2, inl f.3)
     | inr h ↦ let f = (within_chooses 18446744073709551615 18446744073709551615 (omega arith)).found from below lt h in (f.0, f.1, f.2, inr f.3)
@@ -63,41 +63,41 @@ own_chooses = record {
   ];
 }
 
-owned_fits : (n : ℕ) → Owned n → n < 256 ^ 8
-unfolding Owned
-owned_fits n (inl h) = omega (arith, h.1)
-owned_fits n (inr h) = omega (arith, h.1)
+deadline_fits : (n : ℕ) → IsDeadlineNumber n → n < 256 ^ 8
+unfolding IsDeadlineNumber
+deadline_fits n (inl h) = omega (arith, h.1)
+deadline_fits n (inr h) = omega (arith, h.1)
 
 abbrev chosen : ℕ → Option ℕ
 chosen n = cond (eqb n 18446744073709551615) None (Some n)
 
-chosen_back : (n : ℕ) → own_number (chosen n) ≡ n
+chosen_back : (n : ℕ) → deadline_number (chosen n) ≡ n
 chosen_back n = elim (cases_Bool (eqb n 18446744073709551615)) [
   | inl h ↦ rw h (sym (eqb-true n 18446744073709551615 h))
   | inr h ↦ rw h refl
 ]
 
-own_to : (o : Option ℕ) → Owned (own_number o) → o ≡ chosen (own_number o) → IsOwn o
-unfolding Owned
-own_to None h e = tt
-own_to (Some d) (inl h) e = h.1
-own_to (Some d) (inr h) e = let k : d ≡ 18446744073709551615 = omega (arith, h.0, h.1) in absurd (let q : Some d ≡ None = e ∙ rw k refl in cc)
+deadline_to : (o : Option ℕ) → IsDeadlineNumber (deadline_number o) → o ≡ chosen (deadline_number o) → IsOwn o
+unfolding IsDeadlineNumber
+deadline_to None h e = tt
+deadline_to (Some d) (inl h) e = h.1
+deadline_to (Some d) (inr h) e = let k : d ≡ 18446744073709551615 = omega (arith, h.0, h.1) in absurd (let q : Some d ≡ None = e ∙ rw k refl in cc)
 
-own_from : (o : Option ℕ) → IsOwn o → Owned (own_number o) × (o ≡ chosen (own_number o))
-unfolding Owned
-own_from None h = (inr (omega arith, omega arith), refl)
-own_from (Some d) h = (inl (omega arith, h), let k : eqb d 18446744073709551615 ≡ false = ne_eqb d 18446744073709551615 (λ e. omega arith) in rw k refl)
+deadline_from : (o : Option ℕ) → IsOwn o → IsDeadlineNumber (deadline_number o) × (o ≡ chosen (deadline_number o))
+unfolding IsDeadlineNumber
+deadline_from None h = (inr (omega arith, omega arith), refl)
+deadline_from (Some d) h = (inl (omega arith, h), let k : eqb d 18446744073709551615 ≡ false = ne_eqb d 18446744073709551615 (λ e. omega arith) in rw k refl)
 
-owned_zero : Owned 0
-unfolding Owned
-owned_zero = inl (omega arith, omega arith)
+deadline_zero : IsDeadlineNumber 0
+unfolding IsDeadlineNumber
+deadline_zero = inl (omega arith, omega arith)
 
-pub own_reads : Reads IsOwn (λ o. to_be_bytes w64 (own_number o)) own_at
-unfolding own_at
-own_reads =
+pub deadline_reads : Reads IsOwn (λ o. to_be_bytes w64 (deadline_number o)) read_deadline
+unfolding read_deadline
+deadline_reads =
     adapt
-    (seq own_number (number_reads Owned own_may own_chooses 8 0 owned_zero owned_fits) (λ n fn. pure_reads (chosen n)) (λ n o fn e. ap own_number e ∙ chosen_back n))
-    (λ o h. own_to o h.0 h.1) own_from (λ o h. append-nil (to_be_bytes w64 (own_number o)))
+    (seq deadline_number (number_reads IsDeadlineNumber deadline_may deadline_chooses 8 0 deadline_zero deadline_fits) (λ n fn. pure_reads (chosen n)) (λ n o fn e. ap deadline_number e ∙ chosen_back n))
+    (λ o h. deadline_to o h.0 h.1) deadline_from (λ o h. append-nil (to_be_bytes w64 (deadline_number o)))
 
 -- ---- what version 2 adds
 
@@ -120,27 +120,27 @@ extra_some_from : (x : Option Extra) → IsExtraOf 2 x → ((0 ≤ release_of x)
 extra_some_from None h = absurd (omega (arith, h))
 extra_some_from (Some e) h = ((omega arith, h.1.release), (h.1.deadline, refl))
 
-extra_some_spell : (x : Option Extra) → IsExtraOf 2 x → to_be_bytes w64 (release_of x) ++ (to_be_bytes w64 (own_number (deadline_of x)) ++ []) ≡ extra_bytes x
+extra_some_spell : (x : Option Extra) → IsExtraOf 2 x → to_be_bytes w64 (release_of x) ++ (to_be_bytes w64 (deadline_number (deadline_of x)) ++ []) ≡ extra_bytes x
 extra_some_spell None h = absurd (omega (arith, h))
-extra_some_spell (Some e) h = ap (λ (t : List ℕ). to_be_bytes w64 e.release ++ t) (append-nil (to_be_bytes w64 (own_number e.deadline)))
+extra_some_spell (Some e) h = ap (λ (t : List ℕ). to_be_bytes w64 e.release ++ t) (append-nil (to_be_bytes w64 (deadline_number e.deadline)))
 
 extra_none_to : (x : Option Extra) → x ≡ None → IsExtraOf 1 x
 extra_none_to x e = rw e refl
 
-extra_two : Reads (IsExtraOf 2) extra_bytes (extra_at 2)
-unfolding extra_at
+extra_two : Reads (IsExtraOf 2) extra_bytes (read_extra 2)
+unfolding read_extra
 extra_two =
     adapt
     (seq release_of (field_reads 8 0 1000000000 (omega arith) (omega arith))
-    (λ r fr. seq deadline_of own_reads (λ d fd. pure_reads (make_extra r d)) (λ d x fd e. ap deadline_of e))
+    (λ r fr. seq deadline_of deadline_reads (λ d fd. pure_reads (make_extra r d)) (λ d x fd e. ap deadline_of e))
     (λ r x fr h. ap release_of h.1))
     extra_some_to extra_some_from extra_some_spell
 
-extra_one : Reads (IsExtraOf 1) extra_bytes (extra_at 1)
-unfolding extra_at
+extra_one : Reads (IsExtraOf 1) extra_bytes (read_extra 1)
+unfolding read_extra
 extra_one = adapt (pure_reads None) extra_none_to none_of (λ x h. ap extra_bytes (sym (none_of x h)))
 
-pub extra_reads : (version : ℕ) → 1 ≤ version → version ≤ 2 → Reads (IsExtraOf version) extra_bytes (extra_at version)
+pub extra_reads : (version : ℕ) → 1 ≤ version → version ≤ 2 → Reads (IsExtraOf version) extra_bytes (read_extra version)
 extra_reads zero a b = absurd (omega arith)
 extra_reads (suc zero) a b = extra_one
 extra_reads (suc (suc zero)) a b = extra_two
@@ -196,8 +196,8 @@ same_process w = ap (λ (c : Bool). record { process = record { name = w.process
 abbrev pub FitsBehind : ℕ → ℕ → ℕ → ℕ → Written → Type 0
 FitsBehind version faults nodes ones w = IsWritten version faults nodes w × (ones + bit w.process.condition ≤ 32)
 
-pub place_reads : (nodes ones : ℕ) → 0 < nodes → nodes ≤ 256 → Reads (λ (p : ℕ × ℕ). (p.0 ≤ nodes - 1) × (p.1 ≤ cond (ltb ones 32) 1 0)) (λ (p : ℕ × ℕ). byte p.0 ++ byte p.1) (place_at nodes ones)
-unfolding place_at
+pub place_reads : (nodes ones : ℕ) → 0 < nodes → nodes ≤ 256 → Reads (λ (p : ℕ × ℕ). (p.0 ≤ nodes - 1) × (p.1 ≤ cond (ltb ones 32) 1 0)) (λ (p : ℕ × ℕ). byte p.0 ++ byte p.1) (read_place nodes ones)
+unfolding read_place
 place_reads nodes ones some few =
     adapt
     (seq (λ (p : ℕ × ℕ). p.0) (small_reads 0 (nodes - 1) (omega arith) (omega arith))
@@ -210,13 +210,13 @@ place_reads nodes ones some few =
     (λ p h. refl)
 
 pub process_reads : (version faults nodes ones : ℕ) → 1 ≤ version → version ≤ 2 → 0 < nodes → nodes ≤ 16 → ones ≤ 32 →
-    Reads (FitsBehind version faults nodes ones) process_bytes (process_at version faults nodes ones)
-unfolding process_at
+    Reads (FitsBehind version faults nodes ones) process_bytes (read_process version faults nodes ones)
+unfolding read_process
 process_reads version faults nodes ones v1 v2 some few le =
     adapt
     (seq (λ (w : Written). w.process.name) name_reads
     (λ n fn. seq (λ (w : Written). (w.process.node, bit w.process.condition)) (place_reads nodes ones some (omega arith))
-    (λ a fa. seq (λ (w : Written). w.process.times) (times_reads (λ t. t < 2 ^ 60) (to_be_bytes w64) time_at (faults + 1) (λ _. time_reads))
+    (λ a fa. seq (λ (w : Written). w.process.times) (times_reads (λ t. t < 2 ^ 60) (to_be_bytes w64) read_time (faults + 1) (λ _. time_reads))
     (λ ts fts. seq (λ (w : Written). w.extra) (extra_reads version v1 v2)
     (λ e fe. pure_reads (make_process n a.0 a.1 ts e))
     (λ e w fe h. ap (λ (q : Written). q.extra) h))
@@ -242,11 +242,11 @@ process_reads version faults nodes ones v1 v2 some few le =
     (λ w h. regroup_5 (name_bytes w.process.name) (byte w.process.node) (byte (bit w.process.condition)) (flat_map (to_be_bytes w64) w.process.times) (extra_bytes w.extra))
 
 pub processes_reads : (version faults nodes count : ℕ) → 1 ≤ version → version ≤ 2 → nodes ≤ 16 → count ≤ limit nodes 128 →
-    Reads (AreProcesses version faults nodes count 0) (flat_map process_bytes) (processes_at version faults nodes count)
-unfolding processes_at
+    Reads (AreProcesses version faults nodes count 0) (flat_map process_bytes) (read_processes version faults nodes count)
+unfolding read_processes
 processes_reads version faults nodes count v1 v2 few le =
     adapt
-    (each_reads (λ (ones : ℕ) (w : Written). ones + bit w.process.condition) (λ (left : ℕ) ones. process_at version faults nodes ones)
+    (each_reads (λ (ones : ℕ) (w : Written). ones + bit w.process.condition) (λ (left : ℕ) ones. read_process version faults nodes ones)
     (λ ls ones. (ones ≤ 32) × (0 < length ls → 0 < nodes)) (λ l ls ones. FitsBehind version faults nodes ones) process_bytes (λ ls ones ws. AreProcesses version faults nodes (length ls) ones ws)
     (λ l ls ones i. process_reads version faults nodes ones v1 v2 (i.1 (omega arith)) few i.0)
     (λ l ls ones w i f. (f.1, λ h. i.1 (omega arith)))
@@ -263,8 +263,8 @@ processes_reads version faults nodes count v1 v2 few le =
 
 -- ---- edges
 
-pub edge_reads : (processes : ℕ) → 0 < processes → processes ≤ 256 → Reads (IsHeadEdge processes) edge_bytes (edge_at processes)
-unfolding edge_at
+pub edge_reads : (processes : ℕ) → 0 < processes → processes ≤ 256 → Reads (IsHeadEdge processes) edge_bytes (read_edge processes)
+unfolding read_edge
 edge_reads processes some few =
     adapt
     (seq (λ (e : ℕ × ℕ). e.0) (small_reads 0 (processes - 1) (omega arith) (omega arith))
@@ -319,19 +319,19 @@ parts_of h q = record {
   same = head_again h q.within;
 }
 
-pub head_reads : Reads IsPackHead head_bytes head_at
-unfolding head_at
+pub head_reads : Reads IsPackHead head_bytes read_head
+unfolding read_head
 head_reads =
     adapt
     (seq (λ (h : Head). magic) (field_reads 4 magic magic (omega arith) (omega arith))
     (λ m fm. seq version_of (small_reads 1 2 (omega arith) (omega arith))
     (λ v fv. seq (λ (h : Head). h.faults) (small_reads 0 8 (omega arith) (omega arith))
     (λ k fk. seq (λ (h : Head). length h.nodes) (small_reads 0 16 (omega arith) (omega arith))
-    (λ n fn. seq (λ (h : Head). h.nodes) (times_reads IsName name_bytes name_at n (λ _. name_reads))
+    (λ n fn. seq (λ (h : Head). h.nodes) (times_reads IsName name_bytes read_name n (λ _. name_reads))
     (λ ns fns. seq (λ (h : Head). length h.processes) (small_reads 0 (limit n 128) (omega arith) (omega (arith, limit_most n 128)))
     (λ c fc. seq written (processes_reads v k n c fv.0 fv.1 fn.1 fc.1)
     (λ ws fws. seq (λ (h : Head). length h.edges) (field_reads 2 0 (limit c 256) (omega arith) (omega (arith, limit_most c 256)))
-    (λ e fe. seq (λ (h : Head). h.edges) (times_reads (IsHeadEdge c) edge_bytes (edge_at c) e (λ some. edge_reads c (limit_some c 256 e fe.1 some) (omega (arith, fc.1, limit_most n 128))))
+    (λ e fe. seq (λ (h : Head). h.edges) (times_reads (IsHeadEdge c) edge_bytes (read_edge c) e (λ some. edge_reads c (limit_some c 256 e fe.1 some) (omega (arith, fc.1, limit_most n 128))))
     (λ es fes. pure_reads (head_from v k ns ws es))
     (λ es h fes q. ap (λ (x : Head). x.edges) q))
     (λ e h fe q. q.0.0))

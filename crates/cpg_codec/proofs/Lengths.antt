@@ -21,7 +21,7 @@ use Rattle.cpg_cube.specs.Column.{Column}
 use Rattle.cpg_codec.specs.Grammar.{IsSpace, fault_end}
 use Rattle.cpg_codec.specs.Lengths.{AllShort}
 use Rattle.cpg_codec.specs.Packs.{IsPackHead}
-use Rattle.cpg_codec.specs.Spelling.{head_bytes, name_bytes, process_bytes, extra_bytes, edge_bytes, literal_bytes, column_bytes, row_bytes, table_bytes, byte, bit, own_number, magic, Written}
+use Rattle.cpg_codec.specs.Spelling.{head_bytes, name_bytes, process_bytes, extra_bytes, edge_bytes, literal_bytes, column_bytes, row_bytes, table_bytes, byte, bit, deadline_number, magic, Written}
 use Rattle.cpg_codec.specs.Spelling.{written, written_by}
 use Rattle.cpg_codec.proofs.TableFields.{head_space}
 use Rattle.cpg_codec.proofs.ColumnFields.{few_fault, literals_room, column_literals}
@@ -164,7 +164,7 @@ name_long text n = let parts = length-append (byte (length text)) text in omega 
 
 extra_long : (o : Option Extra) → length (extra_bytes o) ≤ 16
 extra_long None = omega arith
-extra_long (Some e) = let parts = length-append (to_be_bytes w64 e.release) (to_be_bytes w64 (own_number e.deadline)) in omega (arith, parts)
+extra_long (Some e) = let parts = length-append (to_be_bytes w64 e.release) (to_be_bytes w64 (deadline_number e.deadline)) in omega (arith, parts)
 
 times_long : (ts : List ℕ) → length (flat_map (to_be_bytes w64) ts) ≤ length ts * 8
 times_long ts = pieces (to_be_bytes w64) 8 ts (each ts) where

@@ -2,7 +2,7 @@
 use Rattle.std.proofs.Common.{◌≡◌, ℕ, zero, suc, ◌<◌, List, [], ◌∷◌, ◌++◌, length, refl, sym, ap, subst, ◌∙◌, arith}
 use Rattle.std.specs.List.{flat_map, AllByRecursion}
 use Rattle.std.proofs.lemmas.List.{append-nil}
-use Rattle.cpg_codec.specs.Reading.{Reader, pure, ◌>>=◌, each_at, down, times_at}
+use Rattle.cpg_codec.specs.Reading.{Reader, pure, ◌>>=◌, read_each, down, read_repeated}
 use Rattle.cpg_codec.proofs.Laws.{Reads, pure_reads, then_reads, adapt}
 
 abbrev head_or : {A : Type 0} → A → List A → A
@@ -50,7 +50,7 @@ module _ {L S A : Type 0} (step : S → A → S) (one : L → S → Reader A)
   nil_spell : (s : S) (ys : List A) → G [] s ys → [] ≡ flat_map spell ys
   nil_spell s ys g = ap (flat_map spell) (sym (nil_from s ys g))
 
-  pub each_reads : (ls : List L) (s : S) → Inv ls s → Reads (G ls s) (flat_map spell) (each_at step one ls s)
+  pub each_reads : (ls : List L) (s : S) → Inv ls s → Reads (G ls s) (flat_map spell) (read_each step one ls s)
   unfolding Parts
   each_reads [] s inv = adapt (pure_reads []) (nil_to s inv) (nil_from s) (nil_spell s)
   each_reads (l ∷ ls) s inv =
@@ -58,9 +58,9 @@ module _ {L S A : Type 0} (step : S → A → S) (one : L → S → Reader A)
       adapt
       (then_reads (Fits l ls s) spell (one l s)
       (λ x ys. G ls (step s x) (tail_of ys) × (ys ≡ x ∷ tail_of ys)) (λ x ys. flat_map spell (tail_of ys) ++ [])
-      (λ x. each_at step one ls (step s x) >>= λ xs. pure (x ∷ xs)) (head_or d)
+      (λ x. read_each step one ls (step s x) >>= λ xs. pure (x ∷ xs)) (head_or d)
       (item l ls s inv)
-      (λ x fx. then_reads (G ls (step s x)) (flat_map spell) (each_at step one ls (step s x))
+      (λ x fx. then_reads (G ls (step s x)) (flat_map spell) (read_each step one ls (step s x))
       (λ xs ys. ys ≡ x ∷ xs) (λ xs ys. []) (λ xs. pure (x ∷ xs)) tail_of
       (each_reads ls (step s x) (keeps l ls s x inv fx)) (λ xs g. pure_reads (x ∷ xs)) (λ xs ys g e. ap tail_of e))
       (λ x ys fx p. ap (head_or d) p.1))
@@ -75,7 +75,7 @@ unfolding down
 down_is zero = refl
 down_is (suc n) = ap suc (down_is n)
 
-pub times_reads : {A : Type 0} (Fits : A → Type 0) (spell : A → List ℕ) (r : Reader A) (n : ℕ) → (0 < n → Reads Fits spell r) → Reads (AreAll Fits n) (flat_map spell) (times_at r n)
+pub times_reads : {A : Type 0} (Fits : A → Type 0) (spell : A → List ℕ) (r : Reader A) (n : ℕ) → (0 < n → Reads Fits spell r) → Reads (AreAll Fits n) (flat_map spell) (read_repeated r n)
 times_reads Fits spell r n one =
     adapt
     (each_reads (λ (s : ℕ) x. s) (λ (l : ℕ) s. r) (λ ls s. 0 < length ls → Reads Fits spell r) (λ l ls s x. Fits x) spell (λ ls s xs. AreAll Fits (length ls) xs)

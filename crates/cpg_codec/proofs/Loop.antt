@@ -1,7 +1,7 @@
 -- A loop that reads value after value.
 use Rattle.std.proofs.Common.{◌≡◌, ℕ, suc, ◌+◌, ◌-◌, ◌<◌, ◌≤◌, List, [], ◌∷◌, ◌++◌, Result, Ok, Err, refl, sym, ap, ◌∙◌, append_assoc, arith}
 use Rattle.std.proofs.lemmas.List.{append-nil}
-use Rattle.cpg_codec.specs.Reading.{Reader, pure, onward, ◌>>=◌, each_at, down}
+use Rattle.cpg_codec.specs.Reading.{Reader, pure, onward, ◌>>=◌, read_each, down}
 use Rattle.cpg_codec.specs.declared.fault.ReadError.{ReadError}
 use Rattle.cpg_codec.specs.declared.fault.ReadError.TheVariants as errors
 use Rattle.cpg_codec.specs.Gives.{Fails}
@@ -21,23 +21,23 @@ module _ {L S A : Type 0} (step : S → A → S) (one : L → S → Reader A) wh
 
   pub goes_on : (front : List A) (labels : List L) (l : L) (ls : List L) (s : S) (bytes : List ℕ) (x : A) (after : List ℕ) (total : Result (List A × List ℕ) ℕ) → labels ≡ l ∷ ls →
       one l s bytes ≡ Ok (x, after)
-      → with_front front (each_at step one labels s bytes) ≡ total → with_front (front ++ x ∷ []) (each_at step one ls (step s x) after) ≡ total
+      → with_front front (read_each step one labels s bytes) ≡ total → with_front (front ++ x ∷ []) (read_each step one ls (step s x) after) ≡ total
   goes_on front labels l ls s bytes x after total e h so_far =
-      sym (regroup front x (each_at step one ls (step s x) after)) ∙
-      sym (ap (λ (ms : List L). with_front front (each_at step one ms s bytes)) e ∙
-      ap (λ (r : Result (A × List ℕ) ℕ). with_front front (onward (λ (y : A). each_at step one ls (step s y) >>= λ ys. pure (y ∷ ys)) r)) h) ∙ so_far
+      sym (regroup front x (read_each step one ls (step s x) after)) ∙
+      sym (ap (λ (ms : List L). with_front front (read_each step one ms s bytes)) e ∙
+      ap (λ (r : Result (A × List ℕ) ℕ). with_front front (onward (λ (y : A). read_each step one ls (step s y) >>= λ ys. pure (y ∷ ys)) r)) h) ∙ so_far
 
   pub ends : (error : ReadError) (front : List A) (labels : List L) (l : L) (ls : List L) (s : S) (bytes : List ℕ) (total : Result (List A × List ℕ) ℕ) → labels ≡ l ∷ ls → Fails error (one l s bytes)
-      → with_front front (each_at step one labels s bytes) ≡ total → Fails error total
+      → with_front front (read_each step one labels s bytes) ≡ total → Fails error total
   ends errors.Memory front labels l ls s bytes total e h so_far = tt
   ends (errors.Left n) front labels l ls s bytes total e h so_far =
-      sym so_far ∙ ap (λ (ms : List L). with_front front (each_at step one ms s bytes)) e ∙
-      ap (λ (r : Result (A × List ℕ) ℕ). with_front front (onward (λ (y : A). each_at step one ls (step s y) >>= λ ys. pure (y ∷ ys)) r)) h
+      sym so_far ∙ ap (λ (ms : List L). with_front front (read_each step one ms s bytes)) e ∙
+      ap (λ (r : Result (A × List ℕ) ℕ). with_front front (onward (λ (y : A). read_each step one ls (step s y) >>= λ ys. pure (y ∷ ys)) r)) h
 
-  pub is_done : (front : List A) (labels : List L) (s : S) (bytes : List ℕ) (total : Result (List A × List ℕ) ℕ) → labels ≡ [] → with_front front (each_at step one labels s bytes) ≡ total →
+  pub is_done : (front : List A) (labels : List L) (s : S) (bytes : List ℕ) (total : Result (List A × List ℕ) ℕ) → labels ≡ [] → with_front front (read_each step one labels s bytes) ≡ total →
       total ≡ Ok (front, bytes)
   is_done front labels s bytes total e so_far =
-      sym so_far ∙ ap (λ (ms : List L). with_front front (each_at step one ms s bytes)) e ∙ ap (λ (xs : List A). Ok (xs, bytes)) (append-nil front)
+      sym so_far ∙ ap (λ (ms : List L). with_front front (read_each step one ms s bytes)) e ∙ ap (λ (xs : List A). Ok (xs, bytes)) (append-nil front)
 
 -- the labels of a counted loop
 pub down_more : (count i : ℕ) → i < count → down (count - i) ≡ (count - (i + 1)) ∷ down (count - (i + 1))
@@ -52,7 +52,7 @@ down_none count i le = let k : count - i ≡ 0 = omega arith in ap down k
 
 -- what is left to read of `count` values after i
 abbrev pub left_of : {A : Type 0} → Reader A → ℕ → ℕ → Reader (List A)
-left_of one count i = each_at (λ (s : ℕ) x. s) (λ (l : ℕ) s. one) (down (count - i)) 0
+left_of one count i = read_each (λ (s : ℕ) x. s) (λ (l : ℕ) s. one) (down (count - i)) 0
 
 pub times_on : {A : Type 0} (one : Reader A) (front : List A) (count i : ℕ) (bytes : List ℕ) (x : A) (after : List ℕ) (total : Result (List A × List ℕ) ℕ) → i < count → one bytes ≡ Ok (x, after)
     → with_front front (left_of one count i bytes) ≡ total → with_front (front ++ x ∷ []) (left_of one count (i + 1) after) ≡ total

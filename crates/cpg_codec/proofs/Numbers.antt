@@ -4,7 +4,7 @@ use Rattle.std.specs.Int.{byte_at, bytes_high_first}
 use Rattle.std.proofs.lemmas.Bool.{ltb-true, lt-ltb, leb-true, le-leb, and_parts, and_from}
 use Rattle.std.proofs.lemmas.Nat.{le-div, div_below, mul-le}
 use Rattle.std.proofs.Math.Nat.{pow-suc, one-le-pow, div-mul-le_self, lt-div-mul-add}
-use Rattle.cpg_codec.specs.Reading.{byte_by, digit_may, digits_at, number_at, within}
+use Rattle.cpg_codec.specs.Reading.{byte_by, digit_may, read_digits, read_number, within}
 use Rattle.cpg_codec.proofs.Laws.{Reads, pure_reads, then_reads, adapt, byte_reads}
 
 -- `may` tells whether a lawful number stands between two
@@ -106,14 +106,14 @@ module _ (Lawful : ℕ → Type 0) (may : ℕ → ℕ → Bool) (choice : IsChoi
   last_back : (n m : ℕ) → Continues 0 n m → m ≡ n
   last_back n m c = omega (arith, c.low, c.high)
 
-  pub digits_reads : (w n : ℕ) → may (n * 256 ^ w) ((n + 1) * 256 ^ w) ≡ true → Reads (Continues w n) (bytes_high_first w) (digits_at may w n)
-  unfolding digits_at
+  pub digits_reads : (w n : ℕ) → may (n * 256 ^ w) ((n + 1) * 256 ^ w) ≡ true → Reads (Continues w n) (bytes_high_first w) (read_digits may w n)
+  unfolding read_digits
   digits_reads zero n h = adapt (pure_reads n) (λ m e. last_is n m e h) (λ m c. last_back n m c) (λ m c. refl)
   digits_reads (suc w) n h =
       let some = digit_some w n h in
       adapt
       (then_reads (λ b. digit_may may w n b ≡ true) (λ b. b ∷ []) (byte_by (digit_may may w n))
-      (λ b m. Continues w (n * 256 + b) m) (λ b m. bytes_high_first w m) (λ b. digits_at may w (n * 256 + b)) (byte_at w)
+      (λ b m. Continues w (n * 256 + b) m) (λ b m. bytes_high_first w m) (λ b. read_digits may w (n * 256 + b)) (byte_at w)
       (byte_reads (digit_may may w n) some.0 some.1)
       (λ b fb. digits_reads w (n * 256 + b) (may_go_on w n b fb))
       (λ b m fb c. digit_is w m n b (below_256 w n b fb) c.low c.high))
@@ -122,18 +122,18 @@ module _ (Lawful : ℕ → Type 0) (may : ℕ → ℕ → Bool) (choice : IsChoi
       (λ m c. refl)
 
   -- a number of w bytes, if each lawful one has so many and one is there
-  pub number_reads : (w some : ℕ) → Lawful some → ((m : ℕ) → Lawful m → m < 256 ^ w) → Reads Lawful (bytes_high_first w) (number_at w may)
+  pub number_reads : (w some : ℕ) → Lawful some → ((m : ℕ) → Lawful m → m < 256 ^ w) → Reads Lawful (bytes_high_first w) (read_number w may)
   number_reads w some lawful fit =
       adapt (digits_reads w 0 (choice.all (0 * 256 ^ w) ((0 + 1) * 256 ^ w) some (omega arith) (omega (arith, fit some lawful)) lawful))
       (λ m c. c.lawful) (λ m l. record { lawful = l; low = omega arith; high = omega (arith, fit m l) }) (λ m l. refl)
 
 -- a number of w bytes from low to high
-pub field_reads : (w low high : ℕ) → low ≤ high → high < 256 ^ w → Reads (λ n. (low ≤ n) × (n ≤ high)) (bytes_high_first w) (number_at w (within low high))
+pub field_reads : (w low high : ℕ) → low ≤ high → high < 256 ^ w → Reads (λ n. (low ≤ n) × (n ≤ high)) (bytes_high_first w) (read_number w (within low high))
 field_reads w low high le fit =
     number_reads (λ n. (low ≤ n) × (n ≤ high)) (within low high) (within_chooses low high le) w low (omega arith, le) (λ m l. omega (arith, l.1, fit))
 
 -- a byte from low to high
-pub small_reads : (low high : ℕ) → low ≤ high → high < 256 → Reads (λ n. (low ≤ n) × (n ≤ high)) (λ n. n ∷ []) (number_at 1 (within low high))
+pub small_reads : (low high : ℕ) → low ≤ high → high < 256 → Reads (λ n. (low ≤ n) × (n ≤ high)) (λ n. n ∷ []) (read_number 1 (within low high))
 small_reads low high le fit =
     adapt (field_reads 1 low high le (omega arith)) (λ n l. l) (λ n l. l) (λ n l. ap (λ (b : ℕ). b ∷ []) (small_is n (omega (arith, l.1, fit)))) where
       small_is : (n : ℕ) → n < 256 → n % 256 ≡ n

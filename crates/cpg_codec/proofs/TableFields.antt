@@ -16,7 +16,7 @@ use Rattle.cpg_table.specs.Items.{starts_of, sends_of, hears_of}
 use Rattle.cpg_table.specs.Lawful.{Tables, space_of, IsLawfulColumn, IsLawfulRow, IsTableOf, AreRowsOf, AreTablesOf, rows_of, column_count}
 use Rattle.cpg_table.specs.declared.space.VariableSpace.{VariableSpace}
 use Rattle.cpg_codec.specs.Spelling.{column_bytes, row_bytes, table_bytes, head_bytes, spelling}
-use Rattle.cpg_codec.specs.Grammar.{IsSpace, column_at, most, row_at, rows_at, items_of_node, table_from, node_table_at, numbers_from, nodes_at, tables_at}
+use Rattle.cpg_codec.specs.Grammar.{IsSpace, read_column, most, read_row, read_rows, items_of_node, table_from, read_node_table, numbers_from, read_nodes, read_tables}
 use Rattle.cpg_codec.specs.Packs.{AreLawful}
 use Rattle.cpg_codec.proofs.Laws.{Reads, pure_reads, seq, adapt}
 use Rattle.cpg_codec.proofs.Numbers.{field_reads}
@@ -34,12 +34,12 @@ pub record FitsRow (s : VariableSpace) (item before : ℕ) (r : Row) : Type 0 wh
   pub lawful : IsLawfulRow s r
   pub room : before + length r.columns ≤ most
 
-pub row_reads : (s : VariableSpace) (item before : ℕ) → IsSpace s → before ≤ most → Reads (FitsRow s item before) row_bytes (row_at s item before)
-unfolding row_at
+pub row_reads : (s : VariableSpace) (item before : ℕ) → IsSpace s → before ≤ most → Reads (FitsRow s item before) row_bytes (read_row s item before)
+unfolding read_row
 row_reads s item before i le =
     adapt
     (seq (λ (r : Row). length r.columns) (field_reads 2 0 (min MOST_COLUMNS (most - before)) (omega arith) (omega arith))
-    (λ n fn. seq (λ (r : Row). r.columns) (times_reads (IsLawfulColumn s) column_bytes (column_at s) n (λ _. column_reads s i))
+    (λ n fn. seq (λ (r : Row). r.columns) (times_reads (IsLawfulColumn s) column_bytes (read_column s) n (λ _. column_reads s i))
     (λ cs fcs. pure_reads (record { item = item; columns = cs }))
     (λ cs r fcs h. ap (λ (q : Row). q.columns) h))
     (λ n r fn h. h.0.0))
@@ -69,10 +69,10 @@ none_first a xs e = cc
 none_last : (a : ℕ) (xs : List ℕ) → [] ≡ a ∷ xs → ⊥
 none_last a xs e = cc
 
-pub rows_reads : (s : VariableSpace) (items : List ℕ) (before : ℕ) → IsSpace s → before ≤ most → Reads (FitRows s items before) (flat_map row_bytes) (rows_at s items before)
-unfolding rows_at
+pub rows_reads : (s : VariableSpace) (items : List ℕ) (before : ℕ) → IsSpace s → before ≤ most → Reads (FitRows s items before) (flat_map row_bytes) (read_rows s items before)
+unfolding read_rows
 rows_reads s items before i le =
-    each_reads (λ (c : ℕ) (r : Row). c + length r.columns) (row_at s)
+    each_reads (λ (c : ℕ) (r : Row). c + length r.columns) (read_row s)
     (λ ls c. c ≤ most) (λ l ls c. FitsRow s l c) row_bytes (λ ls c rs. FitRows s ls c rs)
     (λ l ls c inv. row_reads s l c i inv)
     (λ l ls c r inv f. f.room)
@@ -159,8 +159,8 @@ pub record FitsTable (h : Head) (a before : ℕ) (t : NodeTable) : Type 0 where
   pub lawful : IsTableOf h a t
   pub room : before + column_count (rows_of t) ≤ most
 
-pub table_reads : (h : Head) (a before : ℕ) → IsSpace (space_of h) → before ≤ most → Reads (FitsTable h a before) table_bytes (node_table_at h a before)
-unfolding node_table_at
+pub table_reads : (h : Head) (a before : ℕ) → IsSpace (space_of h) → before ≤ most → Reads (FitsTable h a before) table_bytes (read_node_table h a before)
+unfolding read_node_table
 table_reads h a before i le =
     adapt
     (seq rows_of (rows_reads (space_of h) (items_of_node h a) before i le)
@@ -186,10 +186,10 @@ pub record FitNodes (h : Head) (labels : List ℕ) (before : ℕ) (ts : List Nod
   pub lawful : AreFor (IsTableOf h) labels ts
   pub room : before + sum_by columns_of ts ≤ most
 
-pub nodes_reads : (h : Head) → IsSpace (space_of h) → Reads (FitNodes h (numbers_from 0 (length h.nodes)) 0) (flat_map table_bytes) (nodes_at h)
-unfolding nodes_at
+pub nodes_reads : (h : Head) → IsSpace (space_of h) → Reads (FitNodes h (numbers_from 0 (length h.nodes)) 0) (flat_map table_bytes) (read_nodes h)
+unfolding read_nodes
 nodes_reads h i =
-    each_reads (λ (c : ℕ) (t : NodeTable). c + column_count (rows_of t)) (node_table_at h)
+    each_reads (λ (c : ℕ) (t : NodeTable). c + column_count (rows_of t)) (read_node_table h)
     (λ ls c. c ≤ most) (λ l ls c. FitsTable h l c) table_bytes (λ ls c ts. FitNodes h ls c ts)
     (λ l ls c inv. table_reads h l c i inv)
     (λ l ls c t inv f. f.room)
@@ -249,8 +249,8 @@ nodes_from h ts q = record {
   room = omega (arith, q.few);
 }
 
-pub tables_reads : Reads AreLawful spelling tables_at
-unfolding tables_at
+pub tables_reads : Reads AreLawful spelling read_tables
+unfolding read_tables
 tables_reads =
     adapt
     (seq (λ (t : Tables). t.head) head_reads
@@ -264,7 +264,7 @@ tables_reads =
 
 -- rows that were read are those of their node
 pub rows_are_of : (h : Head) (a : ℕ) (s : VariableSpace) (items : List ℕ) (before : ℕ) (bytes : List ℕ) (rs : List Row) (rest : List ℕ) → IsSpace s → before ≤ most → s ≡ space_of h →
-    items ≡ items_of_node h a → rows_at s items before bytes ≡ Ok (rs, rest) → AreRowsOf h a rs
+    items ≡ items_of_node h a → read_rows s items before bytes ≡ Ok (rs, rest) → AreRowsOf h a rs
 rows_are_of h a s items before bytes rs rest i le f g e =
     let k = (rows_reads s items before i le).takes bytes rs rest e in
     record { items = k.0.items_are ∙ g; lawful = subst (λ (t : VariableSpace). All (IsLawfulRow t) rs) f (All-from_recursion (IsLawfulRow s) rs k.0.lawful) }
@@ -273,7 +273,7 @@ pub table_is : (h : Head) (a : ℕ) (t : NodeTable) (rs : List Row) → IsTableO
 table_is h a t rs q e = ap (table_from h a) (sym e) ∙ sym (table_again h a t q)
 
 -- tables that were read are those of their head
-pub tables_are_of : (h : Head) (s : VariableSpace) (bytes : List ℕ) (ts : List NodeTable) (rest : List ℕ) → IsSpace s → s ≡ space_of h → nodes_at h bytes ≡ Ok (ts, rest) → AreTablesOf h ts
+pub tables_are_of : (h : Head) (s : VariableSpace) (bytes : List ℕ) (ts : List NodeTable) (rest : List ℕ) → IsSpace s → s ≡ space_of h → read_nodes h bytes ≡ Ok (ts, rest) → AreTablesOf h ts
 tables_are_of h s bytes ts rest i e r = nodes_to h ts ((nodes_reads h (subst IsSpace e i)).takes bytes ts rest r).0
 
 pub numbers_more : (i n : ℕ) → i < n → numbers_from i (n - i) ≡ i ∷ numbers_from (i + 1) (n - (i + 1))

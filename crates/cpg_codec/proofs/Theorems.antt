@@ -5,7 +5,7 @@ use Rattle.std.proofs.lemmas.List.{append-nil, length-append}
 use Rattle.std.proofs.Math.Seq.{take-append_seam, take-append-add}
 use Rattle.cpg_table.specs.Lawful.{Tables}
 use Rattle.cpg_codec.specs.Spelling.{spelling}
-use Rattle.cpg_codec.specs.Grammar.{tables_at, whole, read}
+use Rattle.cpg_codec.specs.Grammar.{read_tables, whole, read}
 use Rattle.cpg_codec.specs.Packs.{AreLawful, BeginsPack, IsBadPack, OneValue, NoProperPrefix}
 use Rattle.cpg_codec.proofs.TableFields.{tables_reads}
 
@@ -26,13 +26,13 @@ whole_err size (Err left) n e = inl (left, refl, cc)
 pub read_is_spelled : (bytes : List ℕ) (t : Tables) → read bytes ≡ Ok t → AreLawful t × (bytes ≡ spelling t)
 unfolding read
 read_is_spelled bytes t e =
-    let k = tables_reads.takes bytes t [] (whole_ok (length bytes) (tables_at bytes) t e) in
+    let k = tables_reads.takes bytes t [] (whole_ok (length bytes) (read_tables bytes) t e) in
     (k.0, k.1 ∙ append-nil (spelling t))
 
-read_front : (t : Tables) (rest bytes : List ℕ) → AreLawful t → bytes ≡ spelling t ++ rest → tables_at bytes ≡ Ok (t, rest)
-read_front t rest bytes h e = ap tables_at e ∙ tables_reads.again t rest h
+read_front : (t : Tables) (rest bytes : List ℕ) → AreLawful t → bytes ≡ spelling t ++ rest → read_tables bytes ≡ Ok (t, rest)
+read_front t rest bytes h e = ap read_tables e ∙ tables_reads.again t rest h
 
-read_all : (t : Tables) (bytes : List ℕ) → AreLawful t → bytes ≡ spelling t → tables_at bytes ≡ Ok (t, [])
+read_all : (t : Tables) (bytes : List ℕ) → AreLawful t → bytes ≡ spelling t → read_tables bytes ≡ Ok (t, [])
 read_all t bytes h e = read_front t [] bytes h (e ∙ sym (append-nil (spelling t)))
 
 -- what is spelled so is read
@@ -67,7 +67,7 @@ record Cut (bytes : List ℕ) (n : ℕ) : Type 0 where
   begins : BeginsPack good
   ends : (b : ℕ) (tail : List ℕ) → bad ≡ b ∷ tail → (t : Tables) (rest : List ℕ) → AreLawful t → spelling t ≡ good ++ b ∷ rest → ⊥
 
-cut_stopped : (bytes : List ℕ) (left n : ℕ) → tables_at bytes ≡ Err left → n ≡ length bytes - left → Cut bytes n
+cut_stopped : (bytes : List ℕ) (left n : ℕ) → read_tables bytes ≡ Err left → n ≡ length bytes - left → Cut bytes n
 cut_stopped bytes left n e k =
     let s = tables_reads.stops bytes left e in
     record {
@@ -79,7 +79,7 @@ cut_stopped bytes left n e k =
       ends = λ b tail h t rest f p. let q : Ok (t, []) ≡ Err (suc (length rest)) = sym (read_all t (s.good ++ b ∷ rest) f (sym p)) ∙ s.stays b tail rest h in cc;
     }
 
-cut_trailing : (bytes : List ℕ) (n : ℕ) → Trails (length bytes) (tables_at bytes) n → Cut bytes n
+cut_trailing : (bytes : List ℕ) (n : ℕ) → Trails (length bytes) (read_tables bytes) n → Cut bytes n
 cut_trailing bytes n w =
     let k = tables_reads.takes bytes w.0 (w.1 ∷ w.2) w.3 in
     record {
@@ -132,7 +132,7 @@ cut_is bytes n e c =
 -- a refusal shows the place of the first byte that no pack can have
 pub refused_is_bad : (bytes : List ℕ) (n : ℕ) → read bytes ≡ Err n → IsBadPack bytes n
 unfolding read
-refused_is_bad bytes n e = elim (whole_err (length bytes) (tables_at bytes) n e) [
+refused_is_bad bytes n e = elim (whole_err (length bytes) (read_tables bytes) n e) [
   | inl s ↦ cut_is bytes n e (cut_stopped bytes s.0 n s.1 s.2)
   | inr w ↦ cut_is bytes n e (cut_trailing bytes n w)
 ]

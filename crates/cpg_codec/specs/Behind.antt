@@ -2,14 +2,14 @@
 use Rattle.std.specs.Prelude.{ℕ, List}
 use Rattle.cpg_base.specs.declared.limits.TheConstants.{MOST_PROCESSES, MOST_EDGES}
 use Rattle.cpg_head.specs.Head.{Head}
-use Rattle.cpg_codec.specs.Reading.{Reader, pure, ◌>>=◌, number_at, within, times_at}
-use Rattle.cpg_codec.specs.Grammar.{small_at, limit, processes_at, edge_at, head_from}
+use Rattle.cpg_codec.specs.Reading.{Reader, pure, ◌>>=◌, read_number, within, read_repeated}
+use Rattle.cpg_codec.specs.Grammar.{read_small, limit, read_processes, read_edge, head_from}
 
 -- the processes and the edges, after the names of the nodes
 unfoldable pub behind_names : ℕ → ℕ → ℕ → List (List ℕ) → Reader Head
 behind_names version faults nodes names = do
-  count ← small_at 0 (limit nodes MOST_PROCESSES)
-  processes ← processes_at version faults nodes count
-  ends ← number_at 2 (within 0 (limit count MOST_EDGES))
-  edges ← times_at (edge_at count) ends
+  count ← read_small 0 (limit nodes MOST_PROCESSES)
+  processes ← read_processes version faults nodes count
+  ends ← read_number 2 (within 0 (limit count MOST_EDGES))
+  edges ← read_repeated (read_edge count) ends
   pure (head_from version faults names processes edges)

@@ -12,62 +12,62 @@ use Rattle.cpg_cube.specs.Column.{Column}
 use Rattle.cpg_table.specs.Items.{first_broadcast, own_of, starts_of, sends_of, hears_of}
 use Rattle.cpg_table.specs.Lawful.{Tables, space_of, column_count, rows_of}
 use Rattle.cpg_table.specs.declared.space.VariableSpace.{VariableSpace}
-use Rattle.cpg_codec.specs.Reading.{Reader, pure, ◌>>=◌, byte_by, number_at, within, each_at, down, times_at}
+use Rattle.cpg_codec.specs.Reading.{Reader, pure, ◌>>=◌, byte_by, read_number, within, read_each, down, read_repeated}
 use Rattle.cpg_codec.specs.Spelling.{Written, magic, bit}
 
 -- a byte from low to high
-abbrev pub small_at : ℕ → ℕ → Reader ℕ
-small_at low high = number_at 1 (within low high)
+abbrev pub read_small : ℕ → ℕ → Reader ℕ
+read_small low high = read_number 1 (within low high)
 
-unfoldable pub name_at : Reader (List ℕ)
-name_at = do
-  count ← small_at 1 32
-  times_at (byte_by is_name_byte) count
+unfoldable pub read_name : Reader (List ℕ)
+read_name = do
+  count ← read_small 1 32
+  read_repeated (byte_by is_name_byte) count
 
-unfoldable pub time_at : Reader ℕ
-time_at = number_at 8 (within 0 1152921504606846975)
+unfoldable pub read_time : Reader ℕ
+read_time = read_number 8 (within 0 1152921504606846975)
 
 -- an own deadline, or eight bytes ff
-abbrev pub own_may : ℕ → ℕ → Bool
-own_may low below = within 0 LONGEST low below || within 18446744073709551615 18446744073709551615 low below
+abbrev pub deadline_may : ℕ → ℕ → Bool
+deadline_may low below = within 0 LONGEST low below || within 18446744073709551615 18446744073709551615 low below
 
-unfoldable pub own_at : Reader (Option ℕ)
-own_at = do
-  number ← number_at 8 own_may
+unfoldable pub read_deadline : Reader (Option ℕ)
+read_deadline = do
+  number ← read_number 8 deadline_may
   pure (if number == 18446744073709551615 then None else Some number)
 
 -- only version 2 has this
-unfoldable pub extra_at : ℕ → Reader (Option Extra)
-extra_at version = if version == 2
+unfoldable pub read_extra : ℕ → Reader (Option Extra)
+read_extra version = if version == 2
     then (do
-      release ← number_at 8 (within 0 LONGEST)
-      deadline ← own_at
+      release ← read_number 8 (within 0 LONGEST)
+      deadline ← read_deadline
       pure (Some (record { release = release; deadline = deadline })))
     else pure None
 
 -- the node of a process, and 1 if it has a condition; `ones` is how many processes before it have one
-unfoldable pub place_at : ℕ → ℕ → Reader (ℕ × ℕ)
-place_at nodes ones = do
-  node ← small_at 0 (nodes - 1)
-  flag ← small_at 0 (if nat_lt ones MOST_CONDITIONS then 1 else 0)
+unfoldable pub read_place : ℕ → ℕ → Reader (ℕ × ℕ)
+read_place nodes ones = do
+  node ← read_small 0 (nodes - 1)
+  flag ← read_small 0 (if nat_lt ones MOST_CONDITIONS then 1 else 0)
   pure (node, flag)
 
-unfoldable pub process_at : ℕ → ℕ → ℕ → ℕ → Reader Written
-process_at version faults nodes ones = do
-  name ← name_at
-  place ← place_at nodes ones
-  times ← times_at time_at (faults + 1)
-  extra ← extra_at version
+unfoldable pub read_process : ℕ → ℕ → ℕ → ℕ → Reader Written
+read_process version faults nodes ones = do
+  name ← read_name
+  place ← read_place nodes ones
+  times ← read_repeated read_time (faults + 1)
+  extra ← read_extra version
   pure (record { process = record { name = name; node = place.0; condition = place.1 == 1; times = times }; extra = extra })
 
-unfoldable pub processes_at : ℕ → ℕ → ℕ → ℕ → Reader (List Written)
-processes_at version faults nodes count =
-    each_at (λ (ones : ℕ) (w : Written). ones + bit w.process.condition) (λ (left : ℕ) ones. process_at version faults nodes ones) (down count) 0
+unfoldable pub read_processes : ℕ → ℕ → ℕ → ℕ → Reader (List Written)
+read_processes version faults nodes count =
+    read_each (λ (ones : ℕ) (w : Written). ones + bit w.process.condition) (λ (left : ℕ) ones. read_process version faults nodes ones) (down count) 0
 
-unfoldable pub edge_at : ℕ → Reader (ℕ × ℕ)
-edge_at processes = do
-  from ← small_at 0 (processes - 1)
-  to ← small_at 0 (processes - 1)
+unfoldable pub read_edge : ℕ → Reader (ℕ × ℕ)
+read_edge processes = do
+  from ← read_small 0 (processes - 1)
+  to ← read_small 0 (processes - 1)
   pure (from, to)
 
 -- the most, or none if there are none of what it refers to
@@ -90,17 +90,17 @@ head_from version faults nodes ws edges = record {
   extras = if version == 2 then Some (flat_map (λ (w : Written). listed w.extra) ws) else None;
 }
 
-unfoldable pub head_at : Reader Head
-head_at = do
-  text ← number_at 4 (within magic magic)
-  version ← small_at 1 2
-  faults ← small_at 0 MOST_FAULTS
-  nodes ← small_at 0 MOST_NODES
-  names ← times_at name_at nodes
-  count ← small_at 0 (limit nodes MOST_PROCESSES)
-  processes ← processes_at version faults nodes count
-  ends ← number_at 2 (within 0 (limit count MOST_EDGES))
-  edges ← times_at (edge_at count) ends
+unfoldable pub read_head : Reader Head
+read_head = do
+  text ← read_number 4 (within magic magic)
+  version ← read_small 1 2
+  faults ← read_small 0 MOST_FAULTS
+  nodes ← read_small 0 MOST_NODES
+  names ← read_repeated read_name nodes
+  count ← read_small 0 (limit nodes MOST_PROCESSES)
+  processes ← read_processes version faults nodes count
+  ends ← read_number 2 (within 0 (limit count MOST_EDGES))
+  edges ← read_repeated (read_edge count) ends
   pure (head_from version faults names processes edges)
 
 -- a space as heads have it
@@ -117,12 +117,12 @@ abbrev pub is_variable : VariableSpace → ℕ → Bool
 is_variable s v = nat_lt v (fault_end s) || (nat_le 128 v && nat_lt v (128 + s.conditions))
 
 -- how many allowed variables there are from v on
-abbrev pub room : VariableSpace → ℕ → ℕ
-room s v = (fault_end s - v) + ((128 + s.conditions) - max 128 v)
+abbrev pub variable_count_from : VariableSpace → ℕ → ℕ
+variable_count_from s v = (fault_end s - v) + ((128 + s.conditions) - max 128 v)
 
 -- an allowed variable from `least` on, with room for `left` more above it
 abbrev pub variable_may : VariableSpace → ℕ → ℕ → ℕ → Bool
-variable_may s least left v = (nat_le least v && is_variable s v) && nat_le left (room s (suc v))
+variable_may s least left v = (nat_le least v && is_variable s v) && nat_le left (variable_count_from s (suc v))
 
 -- the greatest low
 abbrev pub low_end : VariableSpace → ℕ → ℕ
@@ -132,28 +132,28 @@ low_end s v = top s.faults v
 abbrev pub high_end : VariableSpace → ℕ → ℕ → ℕ
 high_end s v low = if nat_lt v 128 then (if low == 0 then s.faults - 1 else s.faults) else low
 
-unfoldable pub literal_at : VariableSpace → ℕ → ℕ → Reader Literal
-literal_at s left least = do
+unfoldable pub read_literal : VariableSpace → ℕ → ℕ → Reader Literal
+read_literal s left least = do
   variable ← byte_by (variable_may s least left)
-  low ← small_at 0 (low_end s variable)
-  high ← small_at low (high_end s variable low)
+  low ← read_small 0 (low_end s variable)
+  high ← read_small low (high_end s variable low)
   pure (record { variable = variable; low = low; high = high })
 
 -- this many literals, by rising variable
-unfoldable pub literals_at : VariableSpace → ℕ → Reader (List Literal)
-literals_at s count = each_at (λ (least : ℕ) (l : Literal). suc l.variable) (literal_at s) (down count) 0
+unfoldable pub read_literals : VariableSpace → ℕ → Reader (List Literal)
+read_literals s count = read_each (λ (least : ℕ) (l : Literal). suc l.variable) (read_literal s) (down count) 0
 
 -- the time of a column, and how many literals it has
-unfoldable pub front_at : VariableSpace → Reader (ℕ × ℕ)
-front_at s = do
-  time ← time_at
-  count ← small_at 0 (room s 0)
+unfoldable pub read_front : VariableSpace → Reader (ℕ × ℕ)
+read_front s = do
+  time ← read_time
+  count ← read_small 0 (variable_count_from s 0)
   pure (time, count)
 
-unfoldable pub column_at : VariableSpace → Reader Column
-column_at s = do
-  front ← front_at s
-  literals ← literals_at s front.1
+unfoldable pub read_column : VariableSpace → Reader Column
+read_column s = do
+  front ← read_front s
+  literals ← read_literals s front.1
   pure (record { time = front.0; cube = literals })
 
 -- all columns of a pack
@@ -161,14 +161,14 @@ abbrev pub most : ℕ
 most = MOST_LOAD
 
 -- `before` columns have been read
-unfoldable pub row_at : VariableSpace → ℕ → ℕ → Reader Row
-row_at s item before = do
-  count ← number_at 2 (within 0 (min MOST_COLUMNS (most - before)))
-  columns ← times_at (column_at s) count
+unfoldable pub read_row : VariableSpace → ℕ → ℕ → Reader Row
+read_row s item before = do
+  count ← read_number 2 (within 0 (min MOST_COLUMNS (most - before)))
+  columns ← read_repeated (read_column s) count
   pure (record { item = item; columns = columns })
 
-unfoldable pub rows_at : VariableSpace → List ℕ → ℕ → Reader (List Row)
-rows_at s items before = each_at (λ (c : ℕ) (r : Row). c + length r.columns) (row_at s) items before
+unfoldable pub read_rows : VariableSpace → List ℕ → ℕ → Reader (List Row)
+read_rows s items before = read_each (λ (c : ℕ) (r : Row). c + length r.columns) (read_row s) items before
 
 -- the items of a node's rows
 abbrev pub items_of_node : Head → ℕ → List ℕ
@@ -185,9 +185,9 @@ table_from h node rows = record {
   hears = drop (length (sends_of h node)) (drop (length (starts_of h node)) rows);
 }
 
-unfoldable pub node_table_at : Head → ℕ → ℕ → Reader NodeTable
-node_table_at h node before = do
-  rows ← rows_at (space_of h) (items_of_node h node) before
+unfoldable pub read_node_table : Head → ℕ → ℕ → Reader NodeTable
+read_node_table h node before = do
+  rows ← read_rows (space_of h) (items_of_node h node) before
   pure (table_from h node rows)
 
 -- i, i + 1 .., n of them
@@ -195,13 +195,13 @@ unfoldable pub numbers_from : ℕ → ℕ → List ℕ
 numbers_from i zero = []
 numbers_from i (suc n) = i ∷ numbers_from (suc i) n
 
-unfoldable pub nodes_at : Head → Reader (List NodeTable)
-nodes_at h = each_at (λ (c : ℕ) (t : NodeTable). c + column_count (rows_of t)) (node_table_at h) (numbers_from 0 (length h.nodes)) 0
+unfoldable pub read_nodes : Head → Reader (List NodeTable)
+read_nodes h = read_each (λ (c : ℕ) (t : NodeTable). c + column_count (rows_of t)) (read_node_table h) (numbers_from 0 (length h.nodes)) 0
 
-unfoldable pub tables_at : Reader Tables
-tables_at = do
-  head ← head_at
-  nodes ← nodes_at head
+unfoldable pub read_tables : Reader Tables
+read_tables = do
+  head ← read_head
+  nodes ← read_nodes head
   pure (record { head = head; nodes = nodes })
 
 -- all of the bytes: the tables, or the place of the first byte that no pack can have after those before it
@@ -211,4 +211,4 @@ whole size (Ok (tables, b ∷ rest)) = Err (size - suc (length rest))
 whole size (Err left) = Err (size - left)
 
 unfoldable pub read : List ℕ → Result Tables ℕ
-read bytes = whole (length bytes) (tables_at bytes)
+read bytes = whole (length bytes) (read_tables bytes)

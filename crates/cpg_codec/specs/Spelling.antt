@@ -24,13 +24,13 @@ abbrev pub name_bytes : List ℕ → List ℕ
 name_bytes text = byte (length text) ++ text
 
 -- a process without a deadline of its own has eight bytes ff
-abbrev pub own_number : Option ℕ → ℕ
-own_number None = 18446744073709551615
-own_number (Some d) = d
+abbrev pub deadline_number : Option ℕ → ℕ
+deadline_number None = 18446744073709551615
+deadline_number (Some d) = d
 
 abbrev pub extra_bytes : Option Extra → List ℕ
 extra_bytes None = []
-extra_bytes (Some e) = to_be_bytes w64 e.release ++ to_be_bytes w64 (own_number e.deadline)
+extra_bytes (Some e) = to_be_bytes w64 e.release ++ to_be_bytes w64 (deadline_number e.deadline)
 
 -- a process, with what version 2 adds to it
 pub record Written : Type 0 where

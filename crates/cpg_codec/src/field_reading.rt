@@ -1,8 +1,8 @@
 //! Fields, read.
 ghost use Rattle.std.specs.Prelude.{◌≡◌, ◌≤◌, ◌<◌, ◌+◌, ℕ, List, length, Ok, Err, IfOk, ◌^◌, IsTrue, slice_index_or, ◌↔◌, ◌==◌, is_some};
 ghost use Rattle.cpg_base.specs.Name.{IsName, is_name_byte};
-ghost use Rattle.cpg_codec.specs.Reading.{number_at, within, times_at, byte_by};
-ghost use Rattle.cpg_codec.specs.Grammar.{small_at, time_at, name_at, own_may, own_at, extra_at};
+ghost use Rattle.cpg_codec.specs.Reading.{read_number, within, read_repeated, byte_by};
+ghost use Rattle.cpg_codec.specs.Grammar.{read_small, read_time, read_name, deadline_may, read_deadline, read_extra};
 ghost use Rattle.cpg_codec.specs.Gives.{Gives};
 
 use crate::fault::ReadError;
@@ -13,7 +13,7 @@ use std::alloc::Global;
 
 /// A byte from low to high, and the bytes after it.
 pub fn small_of(bytes: &[u8], low: u8, high: u8) -> Result<(u8, &[u8]), ReadError>
-    ensures gives { Gives (λ x. (x.0, x.1.now)) result (small_at low high bytes.now) }
+    ensures gives { Gives (λ x. (x.0, x.1.now)) result (read_small low high bytes.now) }
     ensures range { IfOk result (λ x. (low ≤ x.0) × (x.0 ≤ high)) }
 {
     match bytes {
@@ -35,7 +35,7 @@ pub fn number_of(bytes: &[u8], width: u32, low: u64, high: u64) -> Result<(u64, 
     requires narrow { width ≤ 8 }
     requires some { low ≤ high }
     requires fits { high < 256 ^ width }
-    ensures gives { Gives (λ x. (x.0, x.1.now)) result (number_at width (within low high) bytes.now) }
+    ensures gives { Gives (λ x. (x.0, x.1.now)) result (read_number width (within low high) bytes.now) }
     ensures range { IfOk result (λ x. (low ≤ x.0) × (x.0 ≤ high)) }
 {
     let mut number: u64 = 0;
@@ -69,7 +69,7 @@ fn is_within(number: u64, low: u64, high: u64) -> bool
 /// A number of eight bytes from low to high.
 pub fn long_of(bytes: &[u8], low: u64, high: u64) -> Result<(u64, &[u8]), ReadError>
     requires { low ≤ high }
-    ensures { Gives (λ x. (x.0, x.1.now)) result (number_at 8 (within low high) bytes.now) }
+    ensures { Gives (λ x. (x.0, x.1.now)) result (read_number 8 (within low high) bytes.now) }
 {
     if let [a, b, c, d, e, f, g, h, rest @ ..] = bytes {
         let number = long_number(&Fixed::new([*a, *b, *c, *d, *e, *f, *g, *h]));
@@ -81,16 +81,16 @@ pub fn long_of(bytes: &[u8], low: u64, high: u64) -> Result<(u64, &[u8]), ReadEr
 }
 
 /// A time below 2^60.
-#[tactic(auto, unfolding(crate::specs::Grammar::time_at))]
+#[tactic(auto, unfolding(crate::specs::Grammar::read_time))]
 pub fn time_of(bytes: &[u8]) -> Result<(u64, &[u8]), ReadError>
-    ensures { Gives (λ x. (x.0, x.1.now)) result (time_at bytes.now) }
+    ensures { Gives (λ x. (x.0, x.1.now)) result (read_time bytes.now) }
 {
     long_of(bytes, 0, 1152921504606846975)
 }
 
 /// Reads `count` times, and gives them with the bytes behind them.
 pub fn times_of(alloc: Global, bytes: &[u8], count: u32) -> Result<(Vec<u64>, &[u8]), ReadError>
-    ensures { Gives (λ x. (x.0.items, x.1.now)) result (times_at time_at count bytes.now) }
+    ensures { Gives (λ x. (x.0.items, x.1.now)) result (read_repeated read_time count bytes.now) }
 {
     let mut times = Vec::new(alloc);
     let mut rest = bytes;
@@ -103,9 +103,9 @@ pub fn times_of(alloc: Global, bytes: &[u8], count: u32) -> Result<(Vec<u64>, &[
 }
 
 /// The bytes of a name.
-#[tactic(auto, unfolding(crate::specs::Grammar::name_at))]
+#[tactic(auto, unfolding(crate::specs::Grammar::read_name))]
 fn text_of(alloc: Global, bytes: &[u8]) -> Result<(Vec<u8>, &[u8]), ReadError>
-    ensures { Gives (λ x. (x.0.items, x.1.now)) result (name_at bytes.now) }
+    ensures { Gives (λ x. (x.0.items, x.1.now)) result (read_name bytes.now) }
 {
     let (count, rest) = small_of(bytes, 1, 32)?;
     letters_of(alloc, rest, count as u32)
@@ -127,7 +127,7 @@ fn named(alloc: Global, text: &[u8]) -> Result<Name, OutOfMemory>
 
 /// A name.
 pub fn name_of(alloc: Global, bytes: &[u8]) -> Result<(Name, &[u8]), ReadError>
-    ensures { Gives (λ x. (x.0, x.1.now)) result (name_at bytes.now) }
+    ensures { Gives (λ x. (x.0, x.1.now)) result (read_name bytes.now) }
 {
     let (text, rest) = text_of(alloc, bytes)?;
     let name = named(alloc, text.as_slice())?;
@@ -136,7 +136,7 @@ pub fn name_of(alloc: Global, bytes: &[u8]) -> Result<(Name, &[u8]), ReadError>
 
 /// Reads `count` letters of a name, and gives them with the bytes behind them.
 fn letters_of(alloc: Global, bytes: &[u8], count: u32) -> Result<(Vec<u8>, &[u8]), ReadError>
-    ensures { Gives (λ x. (x.0.items, x.1.now)) result (times_at (byte_by is_name_byte) count bytes.now) }
+    ensures { Gives (λ x. (x.0.items, x.1.now)) result (read_repeated (byte_by is_name_byte) count bytes.now) }
 {
     let mut letters = Vec::new(alloc);
     let mut rest = bytes;
@@ -177,8 +177,8 @@ fn begins_none(bytes: &[u8]) -> bool
     !bytes.is_empty() && bytes[0] == 255
 }
 
-fn own_number_of(bytes: &[u8]) -> Result<(u64, &[u8]), ReadError>
-    ensures { Gives (λ x. (x.0, x.1.now)) result (number_at 8 own_may bytes.now) }
+fn deadline_number_of(bytes: &[u8]) -> Result<(u64, &[u8]), ReadError>
+    ensures { Gives (λ x. (x.0, x.1.now)) result (read_number 8 deadline_may bytes.now) }
 {
     if begins_none(bytes) {
         long_of(bytes, u64::MAX, u64::MAX)
@@ -188,11 +188,11 @@ fn own_number_of(bytes: &[u8]) -> Result<(u64, &[u8]), ReadError>
 }
 
 /// An own deadline, or none.
-#[tactic(auto, unfolding(crate::specs::Grammar::own_at))]
+#[tactic(auto, unfolding(crate::specs::Grammar::read_deadline))]
 pub fn own_deadline_of(bytes: &[u8]) -> Result<(Option<u64>, &[u8]), ReadError>
-    ensures { Gives (λ x. (x.0, x.1.now)) result (own_at bytes.now) }
+    ensures { Gives (λ x. (x.0, x.1.now)) result (read_deadline bytes.now) }
 {
-    let (number, rest) = own_number_of(bytes)?;
+    let (number, rest) = deadline_number_of(bytes)?;
     if number == u64::MAX {
         return Ok((None, rest));
     }
@@ -200,9 +200,9 @@ pub fn own_deadline_of(bytes: &[u8]) -> Result<(Option<u64>, &[u8]), ReadError>
 }
 
 /// What version 2 adds.
-#[tactic(auto, unfolding(crate::specs::Grammar::extra_at))]
+#[tactic(auto, unfolding(crate::specs::Grammar::read_extra))]
 pub fn extra_of(bytes: &[u8], version: u8) -> Result<(Option<Extra>, &[u8]), ReadError>
-    ensures gives { Gives (λ x. (x.0, x.1.now)) result (extra_at version bytes.now) }
+    ensures gives { Gives (λ x. (x.0, x.1.now)) result (read_extra version bytes.now) }
     ensures kind { IfOk result (λ x. is_some x.0 ≡ (version == 2)) }
 {
     if version != 2 {

@@ -1,9 +1,9 @@
 //! The head of a pack, read.
 ghost use Rattle.std.specs.Prelude.{◌≡◌, ◌≤◌, ◌<◌, ◌+◌, ◌*◌, ◌^◌, ◌==◌, is_some, IfSome, ℕ, List, length, Ok, Err, IfOk, OnOk, IsTrue, ◌↔◌, ◌++◌, nat_lt, if◌then◌else◌};
 ghost use Rattle.cpg_head.specs.Head.{IsHead};
-ghost use Rattle.cpg_codec.specs.Reading.{number_at, within, times_at};
+ghost use Rattle.cpg_codec.specs.Reading.{read_number, within, read_repeated};
 ghost use Rattle.cpg_codec.specs.Spelling.{magic, bit, written_by, written_with};
-ghost use Rattle.cpg_codec.specs.Grammar.{place_at, process_at, processes_at, edge_at, limit, listed, name_at, head_at};
+ghost use Rattle.cpg_codec.specs.Grammar.{read_place, read_process, read_processes, read_edge, limit, listed, read_name, read_head};
 ghost use Rattle.cpg_codec.specs.Behind.{behind_names};
 ghost use Rattle.cpg_codec.specs.Gives.{Gives};
 ghost use Rattle.cpg_codec.specs.Packs.{IsPackHead};
@@ -33,10 +33,10 @@ fn flag_end(ones: u32) -> u8
 }
 
 /// The node of a process, and its condition flag, if `ones` processes before have a condition; field by field.
-#[tactic(auto, unfolding(crate::specs::Grammar::place_at))]
+#[tactic(auto, unfolding(crate::specs::Grammar::read_place))]
 fn place_by_fields(bytes: &[u8], nodes: u8, ones: u32) -> Result<(u8, u8, &[u8]), ReadError>
     requires { 0 < nodes }
-    ensures { Gives (λ x. ((x.0, x.1), x.2.now)) result (place_at nodes ones bytes.now) }
+    ensures { Gives (λ x. ((x.0, x.1), x.2.now)) result (read_place nodes ones bytes.now) }
 {
     let (node, rest) = small_of(bytes, 0, nodes - 1)?;
     let (flag, rest) = small_of(rest, 0, flag_end(ones))?;
@@ -52,7 +52,7 @@ fn are_within(node: u8, flag: u8, nodes: u8, ones: u32) -> bool
 /// The node of a process, and its condition flag, if `ones` processes before have a condition.
 fn node_and_flag(bytes: &[u8], nodes: u8, ones: u32) -> Result<(u8, u8, &[u8]), ReadError>
     requires { 0 < nodes }
-    ensures { Gives (λ x. ((x.0, x.1), x.2.now)) result (place_at nodes ones bytes.now) }
+    ensures { Gives (λ x. ((x.0, x.1), x.2.now)) result (read_place nodes ones bytes.now) }
 {
     if let [a, b, rest @ ..] = bytes {
         let place = Fixed::new([*a, *b]);
@@ -66,7 +66,7 @@ fn node_and_flag(bytes: &[u8], nodes: u8, ones: u32) -> Result<(u8, u8, &[u8]), 
 }
 
 /// A process behind `ones` with a condition, and what version 2 says of it.
-#[tactic(auto, unfolding(crate::specs::Grammar::process_at))]
+#[tactic(auto, unfolding(crate::specs::Grammar::read_process))]
 fn process_of(
     alloc: Global,
     bytes: &[u8],
@@ -76,7 +76,7 @@ fn process_of(
     ones: u32,
 ) -> Result<(HeadProcess, Option<Extra>, &[u8]), ReadError>
     requires { 0 < nodes }
-    ensures gives { Gives (λ x. (written_with x.0 x.1, x.2.now)) result (process_at version faults nodes ones bytes.now) }
+    ensures gives { Gives (λ x. (written_with x.0 x.1, x.2.now)) result (read_process version faults nodes ones bytes.now) }
     ensures kind { IfOk result (λ x. is_some x.1 ≡ (version == 2)) }
 {
     let (name, rest) = name_of(alloc, bytes)?;
@@ -120,7 +120,7 @@ fn processes_of(
     count: u8,
 ) -> Result<(Vec<HeadProcess>, Vec<Extra>, &[u8]), ReadError>
     requires { 0 < count → 0 < nodes }
-    ensures gives { Gives (λ x. (written_by x.0.items x.1.items, x.2.now)) result (processes_at version faults nodes count bytes.now) }
+    ensures gives { Gives (λ x. (written_by x.0.items x.1.items, x.2.now)) result (read_processes version faults nodes count bytes.now) }
     ensures kept { IfOk result (λ x. length x.1.items ≡ (if version == 2 then length x.0.items else 0)) }
 {
     let mut processes = Vec::with_capacity(alloc, count as usize)?;
@@ -139,7 +139,7 @@ fn processes_of(
 
 /// Reads `count` names, and gives them with the bytes behind them.
 fn names_of(alloc: Global, bytes: &[u8], count: u8) -> Result<(Vec<Name>, &[u8]), ReadError>
-    ensures { Gives (λ x. (x.0.items, x.1.now)) result (times_at name_at count bytes.now) }
+    ensures { Gives (λ x. (x.0.items, x.1.now)) result (read_repeated read_name count bytes.now) }
 {
     let mut names = Vec::with_capacity(alloc, count as usize)?;
     let mut rest = bytes;
@@ -152,10 +152,10 @@ fn names_of(alloc: Global, bytes: &[u8], count: u8) -> Result<(Vec<Name>, &[u8])
 }
 
 /// Reads an edge between two of `processes` processes, field by field.
-#[tactic(auto, unfolding(crate::specs::Grammar::edge_at))]
+#[tactic(auto, unfolding(crate::specs::Grammar::read_edge))]
 fn edge_by_fields(bytes: &[u8], processes: u8) -> Result<((u32, u32), &[u8]), ReadError>
     requires { 0 < processes }
-    ensures { Gives (λ x. (x.0, x.1.now)) result (edge_at processes bytes.now) }
+    ensures { Gives (λ x. (x.0, x.1.now)) result (read_edge processes bytes.now) }
 {
     let (from, rest) = small_of(bytes, 0, processes - 1)?;
     let (to, rest) = small_of(rest, 0, processes - 1)?;
@@ -171,7 +171,7 @@ fn are_ends(from: u8, to: u8, processes: u8) -> bool
 /// An edge between two of `processes` processes.
 fn edge_of(bytes: &[u8], processes: u8) -> Result<((u32, u32), &[u8]), ReadError>
     requires { 0 < processes }
-    ensures { Gives (λ x. (x.0, x.1.now)) result (edge_at processes bytes.now) }
+    ensures { Gives (λ x. (x.0, x.1.now)) result (read_edge processes bytes.now) }
 {
     if let [a, b, rest @ ..] = bytes {
         let edge = Fixed::new([*a, *b]);
@@ -192,7 +192,7 @@ fn edges_of(
     processes: u8,
 ) -> Result<(Vec<(u32, u32)>, &[u8]), ReadError>
     requires { 0 < count → 0 < processes }
-    ensures { Gives (λ x. (x.0.items, x.1.now)) result (times_at (edge_at processes) count bytes.now) }
+    ensures { Gives (λ x. (x.0.items, x.1.now)) result (read_repeated (read_edge processes) count bytes.now) }
 {
     let mut edges = Vec::with_capacity(alloc, count as usize)?;
     let mut rest = bytes;
@@ -251,9 +251,9 @@ fn parts_behind(
     ))
 }
 
-#[tactic(auto, unfolding(crate::specs::Grammar::head_at, crate::specs::Behind::behind_names))]
+#[tactic(auto, unfolding(crate::specs::Grammar::read_head, crate::specs::Behind::behind_names))]
 fn parts_of(alloc: Global, bytes: &[u8]) -> Result<(HeadParts, &[u8]), ReadError>
-    ensures gives { Gives (λ x. (head_of_parts x.0, x.1.now)) result (head_at bytes.now) }
+    ensures gives { Gives (λ x. (head_of_parts x.0, x.1.now)) result (read_head bytes.now) }
     ensures kept { IfOk result (λ x. length x.0.extras.items ≡ (if x.0.version == 2 then length x.0.processes.items else 0)) }
 {
     let (_text, rest) = number_of(bytes, 4, MAGIC, MAGIC)?;
@@ -284,7 +284,7 @@ fn joined(parts: HeadParts) -> Head
 
 /// A head.
 pub fn head_of(alloc: Global, bytes: &[u8]) -> Result<(Head, &[u8]), ReadError>
-    ensures { Gives (λ x. (x.0, x.1.now)) result (head_at bytes.now) }
+    ensures { Gives (λ x. (x.0, x.1.now)) result (read_head bytes.now) }
 {
     let (parts, rest) = parts_of(alloc, bytes)?;
     Ok((joined(parts), rest))

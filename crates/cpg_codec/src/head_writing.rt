@@ -4,7 +4,7 @@ ghost use Rattle.std.specs.List.{flat_map};
 ghost use Rattle.std.specs.Int.{w16, w64, to_be_bytes};
 ghost use Rattle.cpg_io.specs.Causes.{HasCause};
 ghost use Rattle.cpg_head.specs.Head.{extra_at};
-ghost use Rattle.cpg_codec.specs.Spelling.{byte, bit, name_bytes, own_number, extra_bytes, written, process_bytes, edge_bytes, head_bytes};
+ghost use Rattle.cpg_codec.specs.Spelling.{byte, bit, name_bytes, deadline_number, extra_bytes, written, process_bytes, edge_bytes, head_bytes};
 ghost use Rattle.cpg_codec.specs.Writing.{Puts, IsShortEdge};
 
 use crate::buffer::Buffer;
@@ -49,8 +49,8 @@ fn put_times<O: Sink>(buffer: &mut Buffer, sink: &mut O, times: &[u64]) -> Resul
     Ok(())
 }
 
-fn own_number(deadline: Option<u64>) -> u64
-    ensures { result ≡ own_number deadline }
+fn deadline_number(deadline: Option<u64>) -> u64
+    ensures { result ≡ deadline_number deadline }
 {
     match deadline {
         Some(deadline) => deadline,
@@ -66,7 +66,7 @@ fn put_extra<O: Sink>(buffer: &mut Buffer, sink: &mut O, extra: Option<Extra>) -
         return Ok(());
     };
     put_long(buffer, sink, extra.release)?;
-    put_long(buffer, sink, own_number(extra.deadline))
+    put_long(buffer, sink, deadline_number(extra.deadline))
 }
 
 fn bit_of(condition: bool) -> u8

@@ -7,12 +7,12 @@ use cpg_base::Name;
 use cpg_head::HeadProcess;
 use cpg_table::Tables;
 
-/// Names are names.
+/// For its contract alone: these names are lawful.
 fn nodes_are_named(names: &[Name])
     ensures { All IsName names.now }
 {
     for name in names {
-        // its clause tells that a name is lawful
+        // called for its contract: a name is lawful
         let _text = name.as_str();
     }
 }
@@ -22,7 +22,7 @@ fn processes_are_named(processes: &[HeadProcess])
     ensures { All (λ p. IsName p.name) processes.now }
 {
     for process in processes {
-        // its clause tells that a name is lawful
+        // called for its contract: a name is lawful
         let _text = process.name.as_str();
     }
 }

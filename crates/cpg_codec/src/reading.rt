@@ -2,7 +2,7 @@
 ghost use Rattle.std.specs.Prelude.{◌≡◌, ◌≤◌, ◌<◌, ◌+◌, ℕ, List, length, Ok, Err, IfOk};
 ghost use Rattle.cpg_table.specs.Lawful.{Tables, space_of};
 ghost use Rattle.cpg_codec.specs.Spelling.{spelling};
-ghost use Rattle.cpg_codec.specs.Grammar.{IsSpace, head_at, nodes_at, tables_at, read};
+ghost use Rattle.cpg_codec.specs.Grammar.{IsSpace, read_head, read_nodes, read_tables, read};
 ghost use Rattle.cpg_codec.specs.Packs.{AreLawful, IsBadPack};
 ghost use Rattle.cpg_codec.specs.Gives.{Gives, Answers, OnBadPack, UnlessMemory};
 
@@ -25,7 +25,7 @@ fn nodes_of(
 ) -> Result<Vec<NodeTable>, ReadError>
     requires space { space.now ≡ space_of head.now }
     requires within { IsSpace space.now }
-    ensures { Gives (λ x. (x.items, unread.new)) result (nodes_at head.now unread.old) }
+    ensures { Gives (λ x. (x.items, unread.new)) result (read_nodes head.now unread.old) }
 {
     let mut nodes = Vec::new(alloc);
     let mut total: u64 = 0;
@@ -41,7 +41,7 @@ fn nodes_of(
 
 /// The head, which is read then.
 fn next_head(alloc: Global, unread: &mut Unread) -> Result<Head, ReadError>
-    ensures { Gives (λ x. (x, unread.new)) result (head_at unread.old) }
+    ensures { Gives (λ x. (x, unread.new)) result (read_head unread.old) }
 {
     let (head, rest) = head_of(alloc, unread.rest())?;
     let left = rest.len();
@@ -49,9 +49,9 @@ fn next_head(alloc: Global, unread: &mut Unread) -> Result<Head, ReadError>
     Ok(head)
 }
 
-#[tactic(auto, unfolding(crate::specs::Grammar::tables_at))]
+#[tactic(auto, unfolding(crate::specs::Grammar::read_tables))]
 fn tables_of(alloc: Global, unread: &mut Unread) -> Result<Tables, ReadError>
-    ensures { Gives (λ x. (x, unread.new)) result (tables_at unread.old) }
+    ensures { Gives (λ x. (x, unread.new)) result (read_tables unread.old) }
 {
     let head = next_head(alloc, unread)?;
     let space = space_of(&head);

@@ -3,8 +3,8 @@ ghost use Rattle.std.specs.Prelude.{◌≡◌, ◌≤◌, ◌<◌, ◌+◌, ◌-
 ghost use Rattle.cpg_cube.specs.declared.literal.Literal.{Literal};
 ghost use Rattle.cpg_cube.specs.Cube.{IsRising};
 ghost use Rattle.cpg_table.specs.Lawful.{space_of, column_count, rows_of};
-ghost use Rattle.cpg_codec.specs.Reading.{number_at, within, times_at, byte_by, each_at, down};
-ghost use Rattle.cpg_codec.specs.Grammar.{IsSpace, room, variable_may, low_end, high_end, literal_at, literals_at, front_at, column_at, row_at, rows_at, items_of_node, node_table_at};
+ghost use Rattle.cpg_codec.specs.Reading.{read_number, within, read_repeated, byte_by, read_each, down};
+ghost use Rattle.cpg_codec.specs.Grammar.{IsSpace, variable_count_from, variable_may, low_end, high_end, read_literal, read_literals, read_front, read_column, read_row, read_rows, items_of_node, read_node_table};
 ghost use Rattle.cpg_codec.specs.Gives.{Gives};
 
 use crate::fault::{ReadError, Untaken};
@@ -13,10 +13,10 @@ use crate::fixed::{
     Fixed, column_literals, column_time, literal_high, literal_low, literal_variable,
 };
 use crate::row_taking::take_lawful;
-use crate::space::{high_end, is_range, is_variable, low_end, room};
+use crate::space::{high_end, is_range, is_variable, low_end, variable_count_from};
 use crate::unread::Unread;
 use cpg_base::{MOST_COLUMNS, MOST_LOAD, OutOfMemory};
-use cpg_cube::{Cube, Entry, Literal};
+use cpg_cube::{Column, Cube, Literal};
 use cpg_head::{Head, TIME_END};
 use cpg_table::{NodeTable, Row, VariableSpace};
 use std::alloc::Global;
@@ -27,7 +27,8 @@ fn variable_may(space: &VariableSpace, least: u32, left: u32, variable: u8) -> b
     ensures { result ≡ variable_may space.now least left variable }
 {
     let variable = variable as u32;
-    (least <= variable && is_variable(space, variable)) && left <= room(space, variable + 1)
+    (least <= variable && is_variable(space, variable))
+        && left <= variable_count_from(space, variable + 1)
 }
 
 fn variable_of<'a>(
@@ -51,7 +52,7 @@ fn variable_of<'a>(
 }
 
 /// A literal with `left` more behind it, field by field.
-#[tactic(auto, unfolding(crate::specs::Grammar::literal_at))]
+#[tactic(auto, unfolding(crate::specs::Grammar::read_literal))]
 fn literal_by_fields<'a>(
     bytes: &'a [u8],
     space: &VariableSpace,
@@ -59,7 +60,7 @@ fn literal_by_fields<'a>(
     least: u32,
 ) -> Result<(Literal, &'a [u8]), ReadError>
     requires { IsSpace space.now }
-    ensures { Gives (λ x. (x.0, x.1.now)) result (literal_at space.now left least bytes.now) }
+    ensures { Gives (λ x. (x.0, x.1.now)) result (read_literal space.now left least bytes.now) }
 {
     let (variable, rest) = variable_of(bytes, space, least, left)?;
     let (low, rest) = small_of(rest, 0, low_end(space, variable))?;
@@ -94,7 +95,7 @@ fn literal_of<'a>(
     least: u32,
 ) -> Result<(Literal, &'a [u8]), ReadError>
     requires { IsSpace space.now }
-    ensures { Gives (λ x. (x.0, x.1.now)) result (literal_at space.now left least bytes.now) }
+    ensures { Gives (λ x. (x.0, x.1.now)) result (read_literal space.now left least bytes.now) }
 {
     if let [a, b, c, rest @ ..] = bytes {
         let fields = Fixed::new([*a, *b, *c]);
@@ -118,7 +119,7 @@ fn literals_of<'a>(
     count: u8,
 ) -> Result<(Vec<Literal>, &'a [u8]), ReadError>
     requires { IsSpace space.now }
-    ensures { Gives (λ x. (x.0.items, x.1.now)) result (literals_at space.now count bytes.now) }
+    ensures { Gives (λ x. (x.0.items, x.1.now)) result (read_literals space.now count bytes.now) }
 {
     let mut literals = Vec::with_capacity(alloc, count as usize)?;
     let mut rest = bytes;
@@ -145,30 +146,30 @@ fn cube_of(alloc: Global, literals: &[Literal]) -> Result<Cube, OutOfMemory>
 }
 
 /// The time of a column, and how many literals it has; field by field.
-#[tactic(auto, unfolding(crate::specs::Grammar::front_at))]
+#[tactic(auto, unfolding(crate::specs::Grammar::read_front))]
 fn front_by_fields<'a>(
     bytes: &'a [u8],
     space: &VariableSpace,
 ) -> Result<(u64, u8, &'a [u8]), ReadError>
     requires { IsSpace space.now }
-    ensures { Gives (λ x. ((x.0, x.1), x.2.now)) result (front_at space.now bytes.now) }
+    ensures { Gives (λ x. ((x.0, x.1), x.2.now)) result (read_front space.now bytes.now) }
 {
     let (time, rest) = time_of(bytes)?;
-    let (count, rest) = small_of(rest, 0, room(space, 0) as u8)?;
+    let (count, rest) = small_of(rest, 0, variable_count_from(space, 0) as u8)?;
     Ok((time, count, rest))
 }
 
 fn is_front(space: &VariableSpace, time: u64, count: u8) -> bool
     requires { IsSpace space.now }
-    ensures { IsTrue result → (time < 2 ^ 60) × (count ≤ room space.now 0) }
+    ensures { IsTrue result → (time < 2 ^ 60) × (count ≤ variable_count_from space.now 0) }
 {
-    time < TIME_END && u32::from(count) <= room(space, 0)
+    time < TIME_END && u32::from(count) <= variable_count_from(space, 0)
 }
 
 /// The time of a column, and how many literals it has.
 fn front_of<'a>(bytes: &'a [u8], space: &VariableSpace) -> Result<(u64, u8, &'a [u8]), ReadError>
     requires { IsSpace space.now }
-    ensures { Gives (λ x. ((x.0, x.1), x.2.now)) result (front_at space.now bytes.now) }
+    ensures { Gives (λ x. ((x.0, x.1), x.2.now)) result (read_front space.now bytes.now) }
 {
     if let [a, b, c, d, e, f, g, h, i, rest @ ..] = bytes {
         let front = Fixed::new([*a, *b, *c, *d, *e, *f, *g, *h, *i]);
@@ -182,19 +183,19 @@ fn front_of<'a>(bytes: &'a [u8], space: &VariableSpace) -> Result<(u64, u8, &'a 
 }
 
 /// A column.
-#[tactic(auto, unfolding(crate::specs::Grammar::column_at))]
+#[tactic(auto, unfolding(crate::specs::Grammar::read_column))]
 fn column_of<'a>(
     alloc: Global,
     bytes: &'a [u8],
     space: &VariableSpace,
-) -> Result<(Entry, &'a [u8]), ReadError>
+) -> Result<(Column, &'a [u8]), ReadError>
     requires { IsSpace space.now }
-    ensures { Gives (λ x. (x.0, x.1.now)) result (column_at space.now bytes.now) }
+    ensures { Gives (λ x. (x.0, x.1.now)) result (read_column space.now bytes.now) }
 {
     let (time, count, rest) = front_of(bytes, space)?;
     let (literals, rest) = literals_of(alloc, rest, space, count)?;
     let cube = cube_of(alloc, literals.as_slice())?;
-    Ok((Entry { time, cube }, rest))
+    Ok((Column { time, cube }, rest))
 }
 
 /// Reads `count` columns, and gives them with the bytes behind them.
@@ -203,9 +204,9 @@ fn columns_of<'a>(
     bytes: &'a [u8],
     space: &VariableSpace,
     count: u16,
-) -> Result<(Vec<Entry>, &'a [u8]), ReadError>
+) -> Result<(Vec<Column>, &'a [u8]), ReadError>
     requires { IsSpace space.now }
-    ensures gives { Gives (λ x. (x.0.items, x.1.now)) result (times_at (column_at space.now) count bytes.now) }
+    ensures gives { Gives (λ x. (x.0.items, x.1.now)) result (read_repeated (read_column space.now) count bytes.now) }
     ensures count { IfOk result (λ x. length x.0.items ≡ count) }
 {
     let mut columns = Vec::with_capacity(alloc, count as usize)?;
@@ -219,7 +220,7 @@ fn columns_of<'a>(
 }
 
 /// A row, field by field.
-#[tactic(auto, unfolding(crate::specs::Grammar::row_at))]
+#[tactic(auto, unfolding(crate::specs::Grammar::read_row))]
 fn row_by_fields<'a>(
     alloc: Global,
     bytes: &'a [u8],
@@ -229,7 +230,7 @@ fn row_by_fields<'a>(
 ) -> Result<(Row, u64, &'a [u8]), ReadError>
     requires space { IsSpace space.now }
     requires before { before ≤ MOST_LOAD }
-    ensures gives { Gives (λ x. (x.0, x.2.now)) result (row_at space.now item before bytes.now) }
+    ensures gives { Gives (λ x. (x.0, x.2.now)) result (read_row space.now item before bytes.now) }
     ensures total { IfOk result (λ x. (x.1 ≡ before + length x.0.columns) × (x.1 ≤ MOST_LOAD)) }
 {
     let most = MOST_LOAD.saturating_sub(before).min(MOST_COLUMNS);
@@ -249,7 +250,7 @@ fn row_of<'a>(
 ) -> Result<(Row, u64, &'a [u8]), ReadError>
     requires space { IsSpace space.now }
     requires before { before ≤ MOST_LOAD }
-    ensures gives { Gives (λ x. (x.0, x.2.now)) result (row_at space.now item before bytes.now) }
+    ensures gives { Gives (λ x. (x.0, x.2.now)) result (read_row space.now item before bytes.now) }
     ensures total { IfOk result (λ x. (x.1 ≡ before + length x.0.columns) × (x.1 ≤ MOST_LOAD)) }
 {
     match take_lawful(alloc, held, bytes, space, item, before) {
@@ -270,7 +271,7 @@ fn next_row(
 ) -> Result<(Row, u64), ReadError>
     requires space { IsSpace space.now }
     requires before { before ≤ MOST_LOAD }
-    ensures gives { Gives (λ x. (x.0, unread.new)) result (row_at space.now item before unread.old) }
+    ensures gives { Gives (λ x. (x.0, unread.new)) result (read_row space.now item before unread.old) }
     ensures total { IfOk result (λ x. (x.1 ≡ before + length x.0.columns) × (x.1 ≤ MOST_LOAD)) }
 {
     let (row, total, rest) = row_of(alloc, held, unread.rest(), space, item, before)?;
@@ -289,7 +290,7 @@ fn rows_of(
 ) -> Result<(Vec<Row>, u64), ReadError>
     requires space { IsSpace space.now }
     requires before { before ≤ MOST_LOAD }
-    ensures gives { Gives (λ x. (x.0.items, unread.new)) result (rows_at space.now items.now before unread.old) }
+    ensures gives { Gives (λ x. (x.0.items, unread.new)) result (read_rows space.now items.now before unread.old) }
     ensures total { IfOk result (λ x. (x.1 ≡ before + column_count x.0.items) × (x.1 ≤ MOST_LOAD)) }
 {
     let mut held = Vec::new(alloc);
@@ -305,7 +306,7 @@ fn rows_of(
 
 /// The table of a node, if `before` columns were read before, and how many were read up to its end. `items` are
 /// those of its rows.
-#[tactic(auto, unfolding(crate::specs::Grammar::node_table_at))]
+#[tactic(auto, unfolding(crate::specs::Grammar::read_node_table))]
 pub fn table_of(
     alloc: Global,
     unread: &mut Unread,
@@ -319,7 +320,7 @@ pub fn table_of(
     requires within { IsSpace space.now }
     requires before { before ≤ MOST_LOAD }
     requires items { items.now ≡ items_of_node head.now node }
-    ensures gives { Gives (λ x. (x.0, unread.new)) result (node_table_at head.now node before unread.old) }
+    ensures gives { Gives (λ x. (x.0, unread.new)) result (read_node_table head.now node before unread.old) }
     ensures total { IfOk result (λ x. (x.1 ≡ before + column_count (rows_of x.0)) × (x.1 ≤ MOST_LOAD)) }
 {
     let (rows, total) = rows_of(alloc, unread, space, items, before)?;

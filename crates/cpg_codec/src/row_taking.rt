@@ -5,12 +5,12 @@ ghost use Rattle.std.specs.List.{flat_map};
 ghost use Rattle.std.specs.Int.{w64, to_be_bytes};
 ghost use Rattle.cpg_table.specs.Lawful.{IsLawfulColumn};
 ghost use Rattle.cpg_codec.specs.Spelling.{literal_bytes, column_bytes, row_bytes};
-ghost use Rattle.cpg_codec.specs.Grammar.{IsSpace, row_at};
+ghost use Rattle.cpg_codec.specs.Grammar.{IsSpace, read_row};
 
 use crate::fault::Untaken;
 use crate::lawful_literals::are_lawful;
 use cpg_base::{MOST_COLUMNS, MOST_LOAD};
-use cpg_cube::{Cube, Entry, Literal};
+use cpg_cube::{Column, Cube, Literal};
 use cpg_head::TIME_END;
 use cpg_table::{Row, VariableSpace};
 use std::alloc::Global;
@@ -130,7 +130,7 @@ fn take_column<'a>(
     held: &mut Vec<Literal>,
     bytes: &'a [u8],
     space: &VariableSpace,
-) -> Result<(Entry, &'a [u8]), Untaken>
+) -> Result<(Column, &'a [u8]), Untaken>
     requires { IsSpace space.now }
     ensures taken { IfOk result (λ x. bytes.now ≡ column_bytes x.0 ++ x.1.now) }
     ensures lawful { IfOk result (λ x. IsLawfulColumn space.now x.0) }
@@ -146,7 +146,7 @@ fn take_column<'a>(
     if !are_lawful(space, held.as_slice()) {
         return Err(Untaken::Odd);
     }
-    Ok((Entry { time, cube }, rest))
+    Ok((Column { time, cube }, rest))
 }
 
 /// Takes `count` lawful columns from `bytes`, and gives them with the bytes behind them.
@@ -156,7 +156,7 @@ fn take_columns<'a>(
     bytes: &'a [u8],
     space: &VariableSpace,
     count: u16,
-) -> Result<(Vec<Entry>, &'a [u8]), Untaken>
+) -> Result<(Vec<Column>, &'a [u8]), Untaken>
     requires { IsSpace space.now }
     ensures taken { IfOk result (λ x. bytes.now ≡ flat_map column_bytes x.0.items ++ x.1.now) }
     ensures count { IfOk result (λ x. length x.0.items ≡ count) }
@@ -209,11 +209,11 @@ pub fn take_lawful<'a>(
 ) -> Result<(Row, u64, &'a [u8]), Untaken>
     requires space { IsSpace space.now }
     requires before { before ≤ MOST_LOAD }
-    ensures taken { IfOk result (λ x. row_at space.now item before bytes.now ≡ Ok (x.0, x.2.now)) }
+    ensures taken { IfOk result (λ x. read_row space.now item before bytes.now ≡ Ok (x.0, x.2.now)) }
     ensures total { IfOk result (λ x. (x.1 ≡ before + length x.0.columns) × (x.1 ≤ MOST_LOAD)) }
 {
     let most = (MOST_LOAD - before).min(MOST_COLUMNS);
     let (row, rest) = take_row(alloc, held, bytes, space, item, most)?;
-    let total = before + row.entries().len() as u64;
+    let total = before + row.columns().len() as u64;
     Ok((row, total, rest))
 }

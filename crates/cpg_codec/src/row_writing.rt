@@ -7,7 +7,7 @@ ghost use Rattle.cpg_codec.specs.Spelling.{byte, literal_bytes, column_bytes, ro
 ghost use Rattle.cpg_codec.specs.Writing.{Puts, IsShortRow};
 
 use crate::buffer::Buffer;
-use cpg_cube::{Entry, Literal};
+use cpg_cube::{Column, Literal};
 use cpg_io::{Failed, Sink};
 use cpg_table::{NodeTable, Row};
 
@@ -54,7 +54,7 @@ fn put_counted<O: Sink>(
 }
 
 /// A column, part by part.
-fn put_parts<O: Sink>(buffer: &mut Buffer, sink: &mut O, column: &Entry) -> Result<(), Failed>
+fn put_parts<O: Sink>(buffer: &mut Buffer, sink: &mut O, column: &Column) -> Result<(), Failed>
     requires { length column.now.cube ≤ 255 }
     ensures put { Puts (O.state sink.old).taken (O.state sink.new).taken buffer.old buffer.new result (column_bytes column.now) }
     ensures cause { HasCause (O.state sink.old).faults (O.state sink.new).faults result }
@@ -64,7 +64,7 @@ fn put_parts<O: Sink>(buffer: &mut Buffer, sink: &mut O, column: &Entry) -> Resu
 }
 
 /// A column, all at once if the buffer has room for it, as it mostly has.
-fn put_column<O: Sink>(buffer: &mut Buffer, sink: &mut O, column: &Entry) -> Result<(), Failed>
+fn put_column<O: Sink>(buffer: &mut Buffer, sink: &mut O, column: &Column) -> Result<(), Failed>
     requires { length column.now.cube ≤ 255 }
     ensures put { Puts (O.state sink.old).taken (O.state sink.new).taken buffer.old buffer.new result (column_bytes column.now) }
     ensures cause { HasCause (O.state sink.old).faults (O.state sink.new).faults result }
@@ -77,7 +77,7 @@ fn put_column<O: Sink>(buffer: &mut Buffer, sink: &mut O, column: &Entry) -> Res
     put_parts(buffer, sink, column)
 }
 
-fn put_columns<O: Sink>(buffer: &mut Buffer, sink: &mut O, columns: &[Entry]) -> Result<(), Failed>
+fn put_columns<O: Sink>(buffer: &mut Buffer, sink: &mut O, columns: &[Column]) -> Result<(), Failed>
     requires { All (λ c. length c.cube ≤ 255) columns.now }
     ensures put { Puts (O.state sink.old).taken (O.state sink.new).taken buffer.old buffer.new result (flat_map column_bytes columns.now) }
     ensures cause { HasCause (O.state sink.old).faults (O.state sink.new).faults result }
@@ -93,7 +93,7 @@ fn put_row<O: Sink>(buffer: &mut Buffer, sink: &mut O, row: &Row) -> Result<(), 
     ensures put { Puts (O.state sink.old).taken (O.state sink.new).taken buffer.old buffer.new result (row_bytes row.now) }
     ensures cause { HasCause (O.state sink.old).faults (O.state sink.new).faults result }
 {
-    let columns = row.entries();
+    let columns = row.columns();
     put_short(buffer, sink, columns.len() as u16)?;
     put_columns(buffer, sink, columns)
 }

@@ -1,7 +1,7 @@
 //! Which variables literals may speak of, and with which ranges.
 ghost use Rattle.std.specs.Prelude.{◌≡◌, ◌≤◌, IsTrue};
 ghost use Rattle.cpg_table.specs.Lawful.{space_of};
-ghost use Rattle.cpg_codec.specs.Grammar.{fault_end, is_variable, room, IsSpace, low_end, high_end};
+ghost use Rattle.cpg_codec.specs.Grammar.{fault_end, is_variable, variable_count_from, IsSpace, low_end, high_end};
 
 use cpg_base::top;
 use cpg_cube::Literal;
@@ -16,7 +16,7 @@ pub fn space_of(head: &Head) -> VariableSpace
     ensures space { result ≡ space_of head.now }
     ensures within { IsSpace result }
 {
-    // its clause tells that the head is within its limits
+    // called for its contract: the head is within its limits
     let _faults = head.faults();
     cpg_table::space_of(head)
 }
@@ -42,9 +42,9 @@ pub fn is_variable(space: &VariableSpace, variable: u32) -> bool
 }
 
 /// How many variables there are from this one on.
-pub fn room(space: &VariableSpace, variable: u32) -> u32
+pub fn variable_count_from(space: &VariableSpace, variable: u32) -> u32
     requires { IsSpace space.now }
-    ensures { result ≡ room space.now variable }
+    ensures { result ≡ variable_count_from space.now variable }
 {
     fault_end(space).saturating_sub(variable)
         + (FIRST_VALUE + space.conditions).saturating_sub(variable.max(FIRST_VALUE))

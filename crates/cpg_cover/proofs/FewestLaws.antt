@@ -124,42 +124,42 @@ after_less v n count h some =
 
 -- what the steps of a list keep
 abbrev pub Steps : List (List Literal) → ℕ → Bool → ℕ → List (List Literal) → Type 0
-Steps cubes v more room rest = (n : ℕ → ℕ) → IsStep v more room n → is_any_at (after v n) rest ≡ true → is_any_at n cubes ≡ true
+Steps cubes v more budget rest = (n : ℕ → ℕ) → IsStep v more budget n → is_any_at (after v n) rest ≡ true → is_any_at n cubes ≡ true
 
-step_from : (v : ℕ) (more : Bool) (room count : ℕ) (n : ℕ → ℕ) → count ≡ 128 → AreValues n → (more ≡ false → n v ≡ 0) → (more ≡ true → 1 ≤ n v) → sum_by (after v n) (numbers_below count) ≤ room →
-    IsStep v more room n
-step_from v more room count n e values off on few = record {
+step_from : (v : ℕ) (more : Bool) (budget count : ℕ) (n : ℕ → ℕ) → count ≡ 128 → AreValues n → (more ≡ false → n v ≡ 0) → (more ≡ true → 1 ≤ n v) → sum_by (after v n) (numbers_below count) ≤ budget →
+    IsStep v more budget n
+step_from v more budget count n e values off on few = record {
   values = values;
   zero = off;
   some = on;
   few = λ u h. let a = counted (after v n) count u (omega arith) in omega arith;
 }
 
-by_step : (cubes rest : List (List Literal)) (v : ℕ) (more : Bool) (room r count : ℕ) (n : ℕ → ℕ) → Steps cubes v more room rest → Needs rest r → count ≡ 128 → AreValues n → IsStep v more room n →
+by_step : (cubes rest : List (List Literal)) (v : ℕ) (more : Bool) (budget r count : ℕ) (n : ℕ → ℕ) → Steps cubes v more budget rest → Needs rest r → count ≡ 128 → AreValues n → IsStep v more budget n →
     is_any_at n cubes ≡ false → r ≤ sum_by (after v n) (numbers_below count)
-by_step cubes rest v more room r count n keeps needs e values is t = needs count e (after v n) (after_values v n values) (false_from_ne_true _ (λ k. both_ways _ t (keeps n is k)))
+by_step cubes rest v more budget r count n keeps needs e values is t = needs count e (after v n) (after_values v n values) (false_from_ne_true _ (λ k. both_ways _ t (keeps n is k)))
 
-pub without_from : (cubes rest : List (List Literal)) (v room r : ℕ) → Steps cubes v false room rest → Needs rest r → NeedsWithout cubes v room r
-without_from cubes rest v room r keeps needs count e n values none few t =
+pub without_from : (cubes rest : List (List Literal)) (v budget r : ℕ) → Steps cubes v false budget rest → Needs rest r → NeedsWithout cubes v budget r
+without_from cubes rest v budget r keeps needs count e n values none few t =
     let s = after_sum v n count in
-    let x = by_step cubes rest v false room r count n keeps needs e values (step_from v false room count n e values (λ k. none) (λ k. cc) (omega arith)) t in
+    let x = by_step cubes rest v false budget r count n keeps needs e values (step_from v false budget count n e values (λ k. none) (λ k. cc) (omega arith)) t in
     omega arith
 
-pub value_from : (cubes off on : List (List Literal)) (v room a b r : ℕ) → 128 ≤ v → Steps cubes v false room off → Needs off a → Steps cubes v true room on → Needs on b → r ≤ a → r ≤ b →
-    r ≤ room + 1 → Needs cubes r
-value_from cubes off on v room a b r large keeps needs keeps' needs' la lb lr count e n values t = ⊎_elim
-    (λ (p : room < sum_by n (numbers_below count)). omega arith)
-    (λ (p : sum_by n (numbers_below count) ≤ room).
+pub value_from : (cubes off on : List (List Literal)) (v budget a b r : ℕ) → 128 ≤ v → Steps cubes v false budget off → Needs off a → Steps cubes v true budget on → Needs on b → r ≤ a → r ≤ b →
+    r ≤ budget + 1 → Needs cubes r
+value_from cubes off on v budget a b r large keeps needs keeps' needs' la lb lr count e n values t = ⊎_elim
+    (λ (p : budget < sum_by n (numbers_below count)). omega arith)
+    (λ (p : sum_by n (numbers_below count) ≤ budget).
     let s = after_sum v n count in
     ⊎_elim
-    (λ (q : 0 < n v). let x = by_step cubes on v true room b count n keeps' needs' e values (step_from v true room count n e values (λ k. cc) (λ k. omega arith) (omega arith)) t in omega arith)
-    (λ (q : n v ≤ 0). let x = by_step cubes off v false room a count n keeps needs e values (step_from v false room count n e values (λ k. omega arith) (λ k. cc) (omega arith)) t in omega arith)
+    (λ (q : 0 < n v). let x = by_step cubes on v true budget b count n keeps' needs' e values (step_from v true budget count n e values (λ k. cc) (λ k. omega arith) (omega arith)) t in omega arith)
+    (λ (q : n v ≤ 0). let x = by_step cubes off v false budget a count n keeps needs e values (step_from v false budget count n e values (λ k. omega arith) (λ k. cc) (omega arith)) t in omega arith)
     (cases_lt 0 (n v)))
-    (cases_lt room (sum_by n (numbers_below count)))
+    (cases_lt budget (sum_by n (numbers_below count)))
 
 -- if there is no room for a fault
-pub count_without : (cubes : List (List Literal)) (v room w r : ℕ) → v < 128 → NeedsWithout cubes v room w → r ≤ w → r ≤ 1 → Needs cubes r
-count_without cubes v room w r small needs lw lr count e n values t = ⊎_elim
+pub count_without : (cubes : List (List Literal)) (v budget w r : ℕ) → v < 128 → NeedsWithout cubes v budget w → r ≤ w → r ≤ 1 → Needs cubes r
+count_without cubes v budget w r small needs lw lr count e n values t = ⊎_elim
     (λ (p : 0 < sum_by n (numbers_below count)). omega arith)
     (λ (p : sum_by n (numbers_below count) ≤ 0).
     let x = counted n count v (omega arith) in
@@ -167,9 +167,9 @@ count_without cubes v room w r small needs lw lr count e n values t = ⊎_elim
     omega arith)
     (cases_lt 0 (sum_by n (numbers_below count)))
 
-pub count_from : (cubes more : List (List Literal)) (v room w most b r : ℕ) → v < 128 → NeedsWithout cubes v room w → most ≤ room → most < w → 0 < most → Steps cubes v true (most - 1) more →
+pub count_from : (cubes more : List (List Literal)) (v budget w most b r : ℕ) → v < 128 → NeedsWithout cubes v budget w → most ≤ budget → most < w → 0 < most → Steps cubes v true (most - 1) more →
     Needs more b → r ≤ b + 1 → r ≤ most + 1 → Needs cubes r
-count_from cubes more v room w most b r small needs lm lw some keeps needs' lb lr count e n values t = ⊎_elim
+count_from cubes more v budget w most b r small needs lm lw some keeps needs' lb lr count e n values t = ⊎_elim
     (λ (p : most < sum_by n (numbers_below count)). omega arith)
     (λ (p : sum_by n (numbers_below count) ≤ most).
     ⊎_elim

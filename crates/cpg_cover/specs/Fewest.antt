@@ -32,22 +32,22 @@ NeedsOutside cube r = (count : ℕ) → count ≡ 128 → (n : ℕ → ℕ) → 
 abbrev pub Needs : List (List Literal) → ℕ → Type 0
 Needs cubes r = (count : ℕ) → count ≡ 128 → (n : ℕ → ℕ) → AreValues n → is_any_at n cubes ≡ false → r ≤ sum_by n (numbers_below count)
 
--- if no cube of a list is matched, the number of a variable is 0, and there are no more faults than a room has, there
+-- if no cube of a list is matched, the number of a variable is 0, and there are no more faults than the budget, there
 -- are at least so many
 abbrev pub NeedsWithout : List (List Literal) → ℕ → ℕ → ℕ → Type 0
-NeedsWithout cubes variable room r = (count : ℕ) → count ≡ 128 → (n : ℕ → ℕ) → AreValues n → n variable ≡ 0 →
-    sum_by n (numbers_below count) ≤ room → is_any_at n cubes ≡ false → r ≤ sum_by n (numbers_below count)
+NeedsWithout cubes variable budget r = (count : ℕ) → count ≡ 128 → (n : ℕ → ℕ) → AreValues n → n variable ≡ 0 →
+    sum_by n (numbers_below count) ≤ budget → is_any_at n cubes ≡ false → r ≤ sum_by n (numbers_below count)
 
 -- the numbers with one less of a variable
 abbrev pub after : ℕ → (ℕ → ℕ) → ℕ → ℕ
 after variable n v = if variable == v then n v - 1 else n v
 
--- a variable is 0 or more, as said, and then no number of faults is above the room
-pub record IsStep (variable : ℕ) (more : Bool) (room : ℕ) (n : ℕ → ℕ) : Type 0 where
+-- a variable is 0 or more, as said, and then no number of faults is above the budget
+pub record IsStep (variable : ℕ) (more : Bool) (budget : ℕ) (n : ℕ → ℕ) : Type 0 where
   pub values : (v : ℕ) → 128 ≤ v → n v ≤ 1
   pub zero : more ≡ false → n variable ≡ 0
   pub some : more ≡ true → 1 ≤ n variable
-  pub few : (v : ℕ) → v < 128 → after variable n v ≤ room
+  pub few : (v : ℕ) → v < 128 → after variable n v ≤ budget
 
 -- whether what is left to ask of a literal holds
 abbrev pub rest_holds : (ℕ → ℕ) → Rest → Bool

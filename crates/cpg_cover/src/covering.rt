@@ -155,7 +155,7 @@ pub(crate) fn is_surely_covered(
     let mut cubes = ground.cubes(alloc, by)?;
     ground.add_over(alloc, cube.literals(), &mut cubes)?;
     let bound = SearchBound {
-        room: left,
+        budget: left,
         depth: DEPTH,
     };
     memory.begin();

@@ -17,7 +17,7 @@ pub(crate) const DEPTH: u32 = 256;
 #[derive(Clone, Copy)]
 pub(crate) struct SearchBound {
     /// No more faults than these are of interest.
-    pub(crate) room: u8,
+    pub(crate) budget: u8,
     /// How many calls more may stand in one another.
     pub(crate) depth: u32,
 }
@@ -103,13 +103,13 @@ fn fewest_by_value(
     requires { 128 ≤ variable }
     ensures { IfOk result (Needs cubes.now) }
 {
-    let room = bound.room;
-    let zero = stepped(alloc, cubes, SearchStep::none(variable), room)?;
+    let budget = bound.budget;
+    let zero = stepped(alloc, cubes, SearchStep::none(variable), budget)?;
     let without = fewest(alloc, zero.as_slice(), bound, memory)?;
-    let one = stepped(alloc, cubes, SearchStep::more(variable), room)?;
+    let one = stepped(alloc, cubes, SearchStep::more(variable), budget)?;
     let with = fewest(alloc, one.as_slice(), bound, memory)?;
     let fewer = without.min(with);
-    Ok(fewer.min(room.saturating_add(1)))
+    Ok(fewer.min(budget.saturating_add(1)))
 }
 
 /// The fewest faults if a process has none and these are the fewest, and if it has some.
@@ -123,16 +123,16 @@ fn fewest_with(
     memory: &mut Memory,
 ) -> Result<u8, OutOfMemory>
     requires count { variable < 128 }
-    requires without { NeedsWithout cubes.now variable bound.room without }
+    requires without { NeedsWithout cubes.now variable bound.budget without }
     ensures { IfOk result (Needs cubes.now) }
 {
-    let most = bound.room.min(without.saturating_sub(1));
+    let most = bound.budget.min(without.saturating_sub(1));
     if most == 0 {
         return Ok(without.min(1));
     }
     let more = stepped(alloc, cubes, SearchStep::more(variable), most - 1)?;
     let bound = SearchBound {
-        room: most - 1,
+        budget: most - 1,
         depth: bound.depth,
     };
     let with = fewest(alloc, more.as_slice(), bound, memory)?;
@@ -152,7 +152,7 @@ fn fewest_by_count(
     requires { variable < 128 }
     ensures { IfOk result (Needs cubes.now) }
 {
-    let zero = stepped(alloc, cubes, SearchStep::none(variable), bound.room)?;
+    let zero = stepped(alloc, cubes, SearchStep::none(variable), bound.budget)?;
     let without = fewest(alloc, zero.as_slice(), bound, memory)?;
     let few = fewest_with(alloc, cubes, variable, without, bound, memory)?;
     Ok(few)
@@ -173,7 +173,7 @@ fn fewest_by_parts(
     let few = fewest(alloc, first.as_slice(), bound, memory)?;
     let others = parted(alloc, cubes, joined, false)?;
     let bound = SearchBound {
-        room: bound.room.saturating_sub(few),
+        budget: bound.budget.saturating_sub(few),
         depth: bound.depth,
     };
     let more = fewest(alloc, others.as_slice(), bound, memory)?;
@@ -190,7 +190,7 @@ fn fewest_of_joined(
 ) -> Result<u8, OutOfMemory>
     ensures { IfOk result (Needs cubes.now) }
 {
-    if let Some(known) = memory.recall(cubes, bound.room) {
+    if let Some(known) = memory.recall(cubes, bound.budget) {
         return Ok(known);
     }
     memory.spend(cubes.len());
@@ -200,15 +200,15 @@ fn fewest_of_joined(
     } else {
         fewest_by_value(alloc, cubes, variable, bound, memory)?
     };
-    if few > bound.room || !memory.is_spent() {
-        let fact = Fact::new(alloc, cubes, few, few <= bound.room)?;
+    if few > bound.budget || !memory.is_spent() {
+        let fact = Fact::new(alloc, cubes, few, few <= bound.budget)?;
         memory.keep(fact)?;
     }
     Ok(few)
 }
 
 /// A number that is no greater than the faults of any scenario that none of the cubes matches. It is the least of
-/// these if that is within the room, and the search isn't cut short.
+/// these if that is within the budget, and the search isn't cut short.
 #[cycle(fewest)]
 pub(crate) fn fewest(
     alloc: Global,
@@ -219,18 +219,18 @@ pub(crate) fn fewest(
     ensures { IfOk result (Needs cubes.now) }
 {
     let alone = fewest_of_each(cubes);
-    if alone > bound.room || cubes.len() == 1 {
+    if alone > bound.budget || cubes.len() == 1 {
         return Ok(alone);
     }
     let apart = fewest_of_apart(cubes);
-    if apart > bound.room {
+    if apart > bound.budget {
         return Ok(apart);
     }
     if bound.depth == 0 || memory.is_spent() || !cubes.iter().any(matches_zero) {
         return Ok(0);
     }
     let bound = SearchBound {
-        room: bound.room,
+        budget: bound.budget,
         depth: bound.depth - 1,
     };
     let joined = joined_variables(cubes);

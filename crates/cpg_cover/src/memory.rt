@@ -137,10 +137,10 @@ impl Fact {
     }
 
     /// What the fact says of a list of cubes, if it is about that, and answers for so many faults.
-    fn answer(&self, cubes: &[Cube], room: u8) -> Option<u8>
+    fn answer(&self, cubes: &[Cube], budget: u8) -> Option<u8>
         ensures { IfSome result (Needs cubes.now) }
     {
-        if !self.is_exact && self.fewest <= room {
+        if !self.is_exact && self.fewest <= budget {
             return None;
         }
         if !are_same(self.cubes.as_slice(), cubes) {
@@ -201,12 +201,12 @@ impl Memory {
     }
 
     /// The fewest faults of a list of cubes, as far as is remembered.
-    pub(crate) fn recall(&self, cubes: &[Cube], room: u8) -> Option<u8>
+    pub(crate) fn recall(&self, cubes: &[Cube], budget: u8) -> Option<u8>
         ensures { IfSome result (Needs cubes.now) }
     {
         let bucket = self.buckets.get(bucket_of(cubes))?;
         for fact in bucket {
-            if let Some(fewest) = fact.answer(cubes, room) {
+            if let Some(fewest) = fact.answer(cubes, budget) {
                 return Some(fewest);
             }
         }

@@ -51,28 +51,28 @@ enum Rest {
 }
 
 /// A literal on another variable, or one that is left, with no more faults than there is room for.
-fn within_room(literal: Literal, room: u8) -> Rest
-    ensures { (n : ℕ → ℕ) → ((v : ℕ) → v < 128 → n v ≤ room) → rest_holds n result ≡ true → holds_at n literal ≡ true }
+fn within_budget(literal: Literal, budget: u8) -> Rest
+    ensures { (n : ℕ → ℕ) → ((v : ℕ) → v < 128 → n v ≤ budget) → rest_holds n result ≡ true → holds_at n literal ≡ true }
 {
     if literal.variable >= FIRST_VALUE {
         return Rest::Asked(literal);
     }
-    if literal.low > room {
+    if literal.low > budget {
         return Rest::Missed;
     }
-    if literal.low == 0 && literal.high >= room {
+    if literal.low == 0 && literal.high >= budget {
         return Rest::Held;
     }
     Rest::Asked(Literal {
         variable: literal.variable,
         low: literal.low,
-        high: literal.high.min(room),
+        high: literal.high.min(budget),
     })
 }
 
 /// What a literal on the variable asks after the step.
-fn after_more(literal: Literal, room: u8) -> Rest
-    ensures { (n : ℕ → ℕ) → IsStep literal.variable true room n → rest_holds (after literal.variable n) result ≡ true → holds_at n literal ≡ true }
+fn after_more(literal: Literal, budget: u8) -> Rest
+    ensures { (n : ℕ → ℕ) → IsStep literal.variable true budget n → rest_holds (after literal.variable n) result ≡ true → holds_at n literal ≡ true }
 {
     if literal.high == 0 {
         return Rest::Missed;
@@ -89,18 +89,18 @@ fn after_more(literal: Literal, room: u8) -> Rest
         low: literal.low.saturating_sub(1),
         high: literal.high - 1,
     };
-    within_room(less, room)
+    within_budget(less, budget)
 }
 
 /// What a literal asks after the step.
-fn rest_of(literal: Literal, step: SearchStep, room: u8) -> Rest
-    ensures { (n : ℕ → ℕ) → IsStep step.variable step.more room n → rest_holds (after step.variable n) result ≡ true → holds_at n literal ≡ true }
+fn rest_of(literal: Literal, step: SearchStep, budget: u8) -> Rest
+    ensures { (n : ℕ → ℕ) → IsStep step.variable step.more budget n → rest_holds (after step.variable n) result ≡ true → holds_at n literal ≡ true }
 {
     if literal.variable != step.variable {
-        return within_room(literal, room);
+        return within_budget(literal, budget);
     }
     if step.more {
-        return after_more(literal, room);
+        return after_more(literal, budget);
     }
     if literal.low > 0 {
         Rest::Missed
@@ -114,14 +114,14 @@ fn asked_after(
     alloc: Global,
     literals: &[Literal],
     step: SearchStep,
-    room: u8,
+    budget: u8,
 ) -> Result<Option<Vec<Literal>>, OutOfMemory>
-    ensures { IfOk result (λ r. IfSome r (λ asked. (n : ℕ → ℕ) → IsStep step.variable step.more room n →
+    ensures { IfOk result (λ r. IfSome r (λ asked. (n : ℕ → ℕ) → IsStep step.variable step.more budget n →
         matches_at (after step.variable n) asked.items ≡ true → matches_at n literals.now ≡ true)) }
 {
     let mut asked = Vec::new(alloc);
     for literal in literals {
-        match rest_of(*literal, step, room) {
+        match rest_of(*literal, step, budget) {
             Rest::Held => {}
             Rest::Missed => return Ok(None),
             Rest::Asked(rest) => asked.push(rest)?,
@@ -179,14 +179,14 @@ pub(crate) fn stepped(
     alloc: Global,
     cubes: &[Cube],
     step: SearchStep,
-    room: u8,
+    budget: u8,
 ) -> Result<Vec<Cube>, OutOfMemory>
-    ensures { IfOk result (λ rest. (n : ℕ → ℕ) → IsStep step.variable step.more room n →
+    ensures { IfOk result (λ rest. (n : ℕ → ℕ) → IsStep step.variable step.more budget n →
         is_any_at (after step.variable n) rest.items ≡ true → is_any_at n cubes.now ≡ true) }
 {
     let mut rest = Vec::new(alloc);
     for cube in cubes {
-        if let Some(asked) = asked_after(alloc, cube.literals(), step, room)? {
+        if let Some(asked) = asked_after(alloc, cube.literals(), step, budget)? {
             add_asked(alloc, &mut rest, asked.as_slice())?;
         }
     }

@@ -2,11 +2,7 @@
 use Rattle.std.specs.Prelude.{ℕ, List, [], map, filter, get_or}
 use Rattle.cpg_base.specs.Scenario.{Scenario}
 use Rattle.cpg_cube.specs.Cube.{matches}
-use Rattle.cpg_cube.specs.declared.entry.Entry.{Entry}
-
--- a time, for the scenarios that the cube matches
-abbrev pub Column : Type 0
-Column = Entry
+pub use Rattle.cpg_cube.specs.declared.column.Column.{Column}
 
 -- the times of the columns that match in a scenario
 abbrev pub times_in : List Column → Scenario → List ℕ

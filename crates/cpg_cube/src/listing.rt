@@ -5,7 +5,7 @@ ghost use Rattle.cpg_base.specs.Graph.{process_count};
 ghost use Rattle.cpg_base.specs.Numbers.{numbers_below};
 ghost use Rattle.cpg_cube.specs.Keys.{AreByLows};
 
-use crate::{Entry, by_least_scenario};
+use crate::{Column, by_least_scenario};
 use cpg_base::{Order, OutOfMemory, Problem};
 use std::alloc::Global;
 
@@ -13,7 +13,7 @@ use std::alloc::Global;
 #[derive(Drop)]
 pub struct Listing {
     /// The columns.
-    pub columns: Vec<Entry>,
+    pub columns: Vec<Column>,
     /// Whether they are known to stand so.
     pub is_sorted: bool,
 }
@@ -26,7 +26,7 @@ impl Listing {
         alloc: Global,
         problem: &Problem,
         order: &Order,
-    ) -> Result<Vec<Entry>, OutOfMemory>
+    ) -> Result<Vec<Column>, OutOfMemory>
         requires order { IsPermutation (numbers_below (process_count problem.now)) order.now }
         requires sorted { OnTrue self.is_sorted (AreByLows (λ c. c.cube) problem.now order.now self.columns.items) }
         ensures permutation { IfOk result (λ r. IsPermutation self.columns.items r.items) }

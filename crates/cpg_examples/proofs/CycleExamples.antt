@@ -4,7 +4,7 @@ use Rattle.std.specs.Int.{div_ceil}
 use Rattle.cpg_base.specs.Graph.{Graph}
 use Rattle.cpg_base.specs.declared.process.Slot.{Slot}
 use Rattle.cpg_table.specs.Table.{NodeTable, empty_table}
-use Rattle.cpg_cluster.specs.Cluster.{World, Cluster, open_cluster, play}
+use Rattle.cpg_cluster.specs.Cluster.{World, Cluster, initial_cluster, play}
 use Rattle.cpg_cluster.specs.Cycles.{last_arrival, least_cycle, AreApart, HasSlotsAt, IsCycle, IsOccurrence, IsOverBy}
 use Rattle.cpg_examples.proofs.Examples.{n1, n2, process, edge, two_slots, pair, count, column, item_row, value, act, numbers, scenario}
 
@@ -47,7 +47,7 @@ abbrev pub pair_turns : List ℕ
 pair_turns = 0 ∷ 0 ∷ 0 ∷ 0 ∷ 0 ∷ 1 ∷ 1 ∷ 1 ∷ 1 ∷ []
 
 abbrev pub pair_play : Cluster
-pair_play = play pair pair_world (open_cluster pair pair_tables) pair_turns
+pair_play = play pair pair_world (initial_cluster pair pair_tables) pair_turns
 
 pub pair-acts : pair_play.acts ≡ (act 0 0 0 ∷ act 80 2 1 ∷ []) ∷ (act 90 1 1 ∷ []) ∷ []
 pair-acts = refl
@@ -96,7 +96,7 @@ abbrev pub late_world : World
 late_world = record { scenario = record { values = true ∷ []; faults = 0 ∷ 0 ∷ 0 ∷ [] }; lengths = 30 ∷ 10 ∷ 10 ∷ [] }
 
 abbrev pub late_play : Cluster
-late_play = play late_broadcast late_world (open_cluster late_broadcast late_tables) (0 ∷ 0 ∷ 0 ∷ [])
+late_play = play late_broadcast late_world (initial_cluster late_broadcast late_tables) (0 ∷ 0 ∷ 0 ∷ [])
 
 pub late-acts : late_play.acts ≡ (act 0 0 0 ∷ act 30 1 0 ∷ act 40 4 0 ∷ []) ∷ [] ∷ []
 late-acts = refl

@@ -8,16 +8,16 @@ use Rattle.cpg_base.specs.Scenario.{fault_of}
 use Rattle.cpg_base.proofs.Lists.{from_any_false}
 use Rattle.cpg_cube.specs.declared.literal.Literal.{Literal}
 use Rattle.cpg_table.specs.Table.{NodeTable, table_at}
-use Rattle.cpg_node.specs.Dispatcher.{Dispatcher, Frame, Range, acts_of_turn, candidates, frame_literals, hear_frame, is_contradicted, opening, range_of, turn}
+use Rattle.cpg_node.specs.Dispatcher.{Dispatcher, Frame, Range, acts_of_turn, candidates, frame_literals, hear_frame, is_contradicted, initial_dispatcher, range_of, turn}
 use Rattle.cpg_node.specs.Quiet.{IsQuiet, awaited}
-use Rattle.cpg_cluster.specs.Cluster.{dispatcher_at, own_table, open_cluster}
+use Rattle.cpg_cluster.specs.Cluster.{dispatcher_at, own_table, initial_cluster}
 use Rattle.cpg_cluster.specs.Correct.{IsWorld}
 use Rattle.cpg_live.specs.declared.event.Event.{Event}
 use Rattle.cpg_live.specs.declared.event.Event.TheVariants.{Frame as Arrival, End as Ending}
 use Rattle.cpg_live.specs.declared.bad.Why.TheVariants.{Order, End as FalseEnd}
 use Rattle.cpg_live.specs.Stream.{after, outcome, turns_below}
 use Rattle.cpg_live.specs.Spelling.{closed_at, stream_bytes}
-use Rattle.cpg_follow_laws.specs.Follow.{told_in, GivesWhatIsDue}
+use Rattle.cpg_follow_laws.specs.Follow.{records_in, GivesWhatIsDue}
 use Rattle.cpg_follow_laws.specs.Sent.{only}
 use Rattle.cpg_follow_laws.specs.Streams.{IsToldAll}
 use Rattle.cpg_follow_laws.proofs.Follow.{streams_give}
@@ -28,15 +28,15 @@ use Rattle.cpg_examples.proofs.ValidInstance.{shape, valid}
 use Rattle.cpg_examples.proofs.CycleExamples.{pair_tables, pair_world, pair_turns, late_broadcast, late_tables, late_play}
 
 -- N1 starts A at 0, so that a turn at 0 may not be left out
-pub start-is_not_quiet : IsQuiet (opening (own_table pair 0 (table_at pair_tables 0))) 0 → ⊥
+pub start-is_not_quiet : IsQuiet (initial_dispatcher (own_table pair 0 (table_at pair_tables 0))) 0 → ⊥
 start-is_not_quiet q = let one : 1 ≡ 0 = ap length q.acts in absurd (omega (arith, one))
 
-pub start-is_done : acts_of_turn (opening (own_table pair 0 (table_at pair_tables 0))) 0 [] [] ≡ [] → ⊥
+pub start-is_done : acts_of_turn (initial_dispatcher (own_table pair 0 (table_at pair_tables 0))) 0 [] [] ≡ [] → ⊥
 start-is_done e = let one : 1 ≡ 0 = ap length e in absurd (omega (arith, one))
 
 -- a turn at which the report of an execution is due may not be left out
 abbrev pub reported : Dispatcher
-reported = record (opening (own_table pair 0 (table_at pair_tables 0))) {
+reported = record (initial_dispatcher (own_table pair 0 (table_at pair_tables 0))) {
   running = Some (record { start = 0; report = Some (record { process = 0; faults = 0; value = false }) }) ∷ [];
   last = Some 0;
 }
@@ -103,7 +103,7 @@ branching-falling = refl
 -- ---- plays and streams
 
 -- N2 is told just the lawful events in the play of the pair in which A has a fault
-pub told-is_lawful_events : told_in pair pair_world (open_cluster pair pair_tables) 1 pair_turns ≡ lawful_events
+pub told-is_lawful_events : records_in pair pair_world (initial_cluster pair pair_tables) 1 pair_turns ≡ lawful_events
 told-is_lawful_events = refl
 
 pub told-all : IsToldAll pair pair_tables pair_world pair_turns 1 105 lawful_events
@@ -155,5 +155,5 @@ hollow-stays e = true≢false e
 pub sent-known : range_of (dispatcher_at late_play 0).heard 128 ≡ only 1
 sent-known = refl
 
-pub unsent-unknown : range_of (dispatcher_at (open_cluster late_broadcast late_tables) 0).heard 128 ≡ only 1 → ⊥
+pub unsent-unknown : range_of (dispatcher_at (initial_cluster late_broadcast late_tables) 0).heard 128 ≡ only 1 → ⊥
 unsent-unknown e = let low : 0 ≡ 1 = ap (λ (r : Range). r.low) e in absurd (omega (arith, low))

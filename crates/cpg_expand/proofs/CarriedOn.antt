@@ -18,7 +18,7 @@ use Rattle.cpg_cube.specs.Cube.{matches}
 use Rattle.cpg_cube.specs.declared.literal.Literal.{Literal}
 use Rattle.cpg_cube.specs.Column.{Column}
 use Rattle.cpg_run.proofs.KnownRanges.{range_known}
-use Rattle.cpg_run.specs.Carried.{row_at, told_by, number_known, decided, heard, received, executed, passed, carried_at_start, carried_at_end}
+use Rattle.cpg_run.specs.Carried.{row_at, carried_by_row, number_known, decided, heard, received, executed, passed, carried_at_start, carried_at_end}
 use Rattle.cpg_tree.specs.Tree.{Path, TreeState, IsOnPath}
 use Rattle.cpg_expand.specs.Agreeing.{Agrees}
 use Rattle.cpg_expand.specs.Guarded.{value_known, support_of}
@@ -26,18 +26,18 @@ use Rattle.cpg_expand.specs.Guarded.{value_known, support_of}
 -- ---- the literals of a column that matches are told
 
 pub valued_there : (rows : List (List Column)) (s : Scenario) (x : ℕ) (c : Column) → Contains (row_at rows x) c → matches c.cube s ≡ true → (l : Literal) → Contains c.cube l →
-    Contains (told_by rows s x) l
+    Contains (carried_by_row rows s x) l
 valued_there rows s x c j m l i = Contains-flat_map (λ (d : Column). d.cube) (filter (λ (d : Column). matches d.cube s) (row_at rows x)) c l
     (Contains-filter (λ (d : Column). matches d.cube s) (row_at rows x) c m j) i
 
 -- a tree whose paths of a scenario are columns of the row says what the row tells
 pub valued_by_tree : {T : Type 0} (k : ℕ) (rows : List (List Column)) (s : Scenario) (x : ℕ) (fact : T → Type 0) (t : TreeState T) → t.faults ≡ k →
-    ((p : Path T) → IsOnPath t.paths s p → fact p.1 × ((c : Column) × Contains (row_at rows x) c × (c.cube ≡ p.0))) → Agrees s (told_by rows s x) fact t
+    ((p : Path T) → IsOnPath t.paths s p → fact p.1 × ((c : Column) × Contains (row_at rows x) c × (c.cube ≡ p.0))) → Agrees s (carried_by_row rows s x) fact t
 valued_by_tree k rows s x fact t same there = record {
   value = λ p on. (there p on).0;
   says = λ p on.
       let c = (there p on).1 in
-      let kept = range_known t.faults (told_by rows s x) p.0
+      let kept = range_known t.faults (carried_by_row rows s x) p.0
       (λ l i. valued_there rows s x c.0 c.1 (subst (λ (ls : List Literal). matches ls s ≡ true) (sym c.2) on.matched) l (subst (λ (ls : List Literal). Contains ls l) (sym c.2) i)) in
       record { low = λ v. (kept v).0; high = λ v. (kept v).1 };
 }
@@ -117,7 +117,7 @@ module _ (g : Graph) (order : List ℕ) (topological : IsTopological g order) (r
 
   -- what tells when a node hears a condition
   abbrev pub heard_support : ℕ → ℕ → List Literal
-  heard_support node c = if node_of g (process_of g c) == node then carried_at_end g order rows s (process_of g c) else told_by rows s (broadcast_item g c)
+  heard_support node c = if node_of g (process_of g c) == node then carried_at_end g order rows s (process_of g c) else carried_by_row rows s (broadcast_item g c)
 
   own_before : (p q : ℕ) → q < process_count g → place order q < place order p → node_of g q ≡ node_of g p → Contains (before_on_node g order p) q
   own_before p q l less same = Contains-filter (λ (u : ℕ). node_of g u == node_of g p) (before order p) q (eq-eqb (node_of g q) (node_of g p) same)
@@ -134,12 +134,12 @@ module _ (g : Graph) (order : List ℕ) (topological : IsTopological g order) (r
           | inl e ↦ Contains-append_left (flat_map (passed g rows s) (before_on_node g order p)) (heard g rows s p) l
               (end_carried p (process_of g c) (own_before p (process_of g c) (process_of_below g c low) (decides_earlier g order topological s.values p c low r.1) e)
               (deciding_is_active g urgency is_urgency urgent s.values p c low r.1) l
-              (subst (λ (b : Bool). Contains (if b then carried_at_end g order rows s (process_of g c) else told_by rows s (broadcast_item g c)) l)
+              (subst (λ (b : Bool). Contains (if b then carried_at_end g order rows s (process_of g c) else carried_by_row rows s (broadcast_item g c)) l)
               (eq-eqb (node_of g (process_of g c)) (node_of g p) e) i))
           | inr n ↦ Contains-append_right (flat_map (passed g rows s) (before_on_node g order p)) (heard g rows s p) l
-              (Contains-flat_map (λ d. if node_of g (process_of g d) == node_of g p then [] else told_by rows s (broadcast_item g d)) (deciding g s.values p) c l j
-              (subst (λ (b : Bool). Contains (if b then [] else told_by rows s (broadcast_item g c)) l) (sym (ne_eqb (node_of g (process_of g c)) (node_of g p) n))
-              (subst (λ (b : Bool). Contains (if b then carried_at_end g order rows s (process_of g c) else told_by rows s (broadcast_item g c)) l)
+              (Contains-flat_map (λ d. if node_of g (process_of g d) == node_of g p then [] else carried_by_row rows s (broadcast_item g d)) (deciding g s.values p) c l j
+              (subst (λ (b : Bool). Contains (if b then [] else carried_by_row rows s (broadcast_item g c)) l) (sym (ne_eqb (node_of g (process_of g c)) (node_of g p) n))
+              (subst (λ (b : Bool). Contains (if b then carried_at_end g order rows s (process_of g c) else carried_by_row rows s (broadcast_item g c)) l)
               (ne_eqb (node_of g (process_of g c)) (node_of g p) n) i)))
         ]
 
@@ -166,7 +166,7 @@ module _ (g : Graph) (order : List ℕ) (topological : IsTopological g order) (r
 
   -- what tells when an input is there
   abbrev pub input_support : ℕ → List Literal
-  input_support e = if is_message g e then told_by rows s (message_item g e) else carried_at_end g order rows s (source g e)
+  input_support e = if is_message g e then carried_by_row rows s (message_item g e) else carried_at_end g order rows s (source g e)
 
   -- what tells of a live input is carried
   pub input_carried : (p e : ℕ) → Contains (inputs g p) e → node_of g (source g e) ≡ node_of g p ⊎ (is_message g e ≡ true) → source g e < process_count g → active g s.values (source g e) ≡ true →
@@ -176,12 +176,12 @@ module _ (g : Graph) (order : List ℕ) (topological : IsTopological g order) (r
     where
       by : (m : Bool) → is_message g e ≡ m → node_of g (source g e) ≡ node_of g p ⊎ (is_message g e ≡ true) → Contains (flat_map (passed g rows s) (before_on_node g order p) ++ received g rows s p) l
       by true is w = Contains-append_right (flat_map (passed g rows s) (before_on_node g order p)) (received g rows s p) l
-          (Contains-flat_map (λ d. if is_message g d then told_by rows s (message_item g d) else []) (inputs g p) e l j
-          (subst (λ (b : Bool). Contains (if b then told_by rows s (message_item g e) else []) l) (sym is)
-          (subst (λ (b : Bool). Contains (if b then told_by rows s (message_item g e) else carried_at_end g order rows s (source g e)) l) is i)))
+          (Contains-flat_map (λ d. if is_message g d then carried_by_row rows s (message_item g d) else []) (inputs g p) e l j
+          (subst (λ (b : Bool). Contains (if b then carried_by_row rows s (message_item g e) else []) l) (sym is)
+          (subst (λ (b : Bool). Contains (if b then carried_by_row rows s (message_item g e) else carried_at_end g order rows s (source g e)) l) is i)))
       by false is (inl same) = Contains-append_left (flat_map (passed g rows s) (before_on_node g order p)) (received g rows s p) l
           (end_carried p (source g e) (own_before p (source g e) low (input_goes_up g order topological p e j) same) on l
-          (subst (λ (b : Bool). Contains (if b then told_by rows s (message_item g e) else carried_at_end g order rows s (source g e)) l) is i))
+          (subst (λ (b : Bool). Contains (if b then carried_by_row rows s (message_item g e) else carried_at_end g order rows s (source g e)) l) is i))
       by false is (inr other) = absurd (apart (sym is ∙ other))
         where
           apart : false ≡ true → ⊥

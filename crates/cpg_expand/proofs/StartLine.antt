@@ -26,7 +26,7 @@ use Rattle.cpg_rules.proofs.Ways.{ways_are_deciding}
 use Rattle.cpg_cube.specs.declared.literal.Literal.{Literal}
 use Rattle.cpg_cube.specs.Column.{Column}
 use Rattle.cpg_run.specs.Run.{Times, end_in, input_bounds, heard_there}
-use Rattle.cpg_run.specs.Carried.{told_by, decided, heard, passed, carried_at_start, carried_at_end}
+use Rattle.cpg_run.specs.Carried.{carried_by_row, decided, heard, passed, carried_at_start, carried_at_end}
 use Rattle.cpg_run.proofs.CarriedBefore.{producer_of_message, hears_earlier}
 use Rattle.cpg_run.specs.Known.{AreSmall}
 use Rattle.cpg_run.specs.Progress.{IsReady}
@@ -101,7 +101,7 @@ module _ (g : Graph) (limits : IsWithinLimits g) (order : List ℕ) (topological
       sent_at : (node_of g (process_of g c) == node_of g p) ≡ false → item_active g s.values (item_at g (broadcast_item g c)) ≡ true
       sent_at e = frame_sent g s p l nodes c low acts e
 
-      by : (b : Bool) → (node_of g (process_of g c) == node_of g p) ≡ b → HasValueFrom s (if b then carried_at_end g order rows s (process_of g c) else told_by rows s (broadcast_item g c))
+      by : (b : Bool) → (node_of g (process_of g c) == node_of g p) ≡ b → HasValueFrom s (if b then carried_at_end g order rows s (process_of g c) else carried_by_row rows s (broadcast_item g c))
           (if b then get_or t.ends (process_of g c) None else get_or t.times (broadcast_item g c) None)
           (if b then ends_of g f (process_of g c) else times_of g f (broadcast_item g c))
       by true e = valued.ends (process_of g c) (process_of_below g c low) (decides_earlier g order topological s.values p c low decided_true) acts
@@ -117,7 +117,7 @@ module _ (g : Graph) (limits : IsWithinLimits g) (order : List ℕ) (topological
       earlier : place order (source g e) < place order p
       earlier = input_goes_up g order topological p e j
 
-      by : (b : Bool) → is_message g e ≡ b → HasValueFrom s (if b then told_by rows s (message_item g e) else carried_at_end g order rows s (source g e))
+      by : (b : Bool) → is_message g e ≡ b → HasValueFrom s (if b then carried_by_row rows s (message_item g e) else carried_at_end g order rows s (source g e))
           (if b then get_or t.times (message_item g e) None else get_or t.ends (source g e) None)
           (if b then times_of g f (message_item g e) else ends_of g f (source g e))
       by true m = valued.sends (message_item g e) (let n = parts.0 in omega arith) (omega arith) (let n = ap (place order) (producer_of_message g e parts.0) in omega (arith, n, earlier))

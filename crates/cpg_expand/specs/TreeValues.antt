@@ -6,7 +6,7 @@ use Rattle.cpg_base.specs.Scenario.{Scenario}
 use Rattle.cpg_base.specs.Order.{place}
 use Rattle.cpg_cube.specs.Column.{Column}
 use Rattle.cpg_run.specs.Run.{Times}
-use Rattle.cpg_run.specs.Carried.{told_by, carried_at_end}
+use Rattle.cpg_run.specs.Carried.{carried_by_row, carried_at_end}
 use Rattle.cpg_expand.specs.Agreeing.{HasValueFrom}
 use Rattle.cpg_expand.specs.Forest.{ForestState, times_of, ends_of}
 
@@ -15,4 +15,4 @@ pub record HasTreeValues (g : Graph) (order : List ℕ) (rows : List (List Colum
   pub ends : (q : ℕ) → q < process_count g → place order q < i → active g s.values q ≡ true →
       HasValueFrom s (carried_at_end g order rows s q) (get_or t.ends q None) (ends_of g f q)
   pub sends : (x : ℕ) → x < item_count g → process_count g ≤ x → place order (producer g x) < i →
-      item_active g s.values (item_at g x) ≡ true → HasValueFrom s (told_by rows s x) (get_or t.times x None) (times_of g f x)
+      item_active g s.values (item_at g x) ≡ true → HasValueFrom s (carried_by_row rows s x) (get_or t.times x None) (times_of g f x)

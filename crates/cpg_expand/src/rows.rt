@@ -10,7 +10,7 @@ ghost use Rattle.cpg_order.specs.Reach.{rows_of_item};
 ghost use Rattle.cpg_run.specs.Found.{DoRowsFit};
 
 use cpg_base::{MOST_COLUMNS, MOST_LOAD, Order, OutOfMemory, Problem};
-use cpg_cube::Entry;
+use cpg_cube::Column;
 use cpg_merging::merged_tidy;
 use cpg_reach::rows_of_item;
 use cpg_run::BuildFault;
@@ -25,7 +25,7 @@ fn start_entries(
     problem: &Problem,
     urgency: &Order,
     tree: &Tree<Option<u64>>,
-) -> Result<Vec<Entry>, OutOfMemory>
+) -> Result<Vec<Column>, OutOfMemory>
     requires order { IsPermutation (numbers_below (process_count problem.now)) urgency.now }
     requires tree { IsTree problem.now tree.now }
     ensures { IfOk result (λ entries. AreMergedOf problem.now urgency.now tree.now entries.items) }
@@ -78,7 +78,7 @@ fn load_with(
     let Some(name) = wide else {
         return Ok(load);
     };
-    let columns = row.entries().len() as u64;
+    let columns = row.columns().len() as u64;
     if columns > MOST_COLUMNS {
         return Err(BuildFault::TooWide(name));
     }

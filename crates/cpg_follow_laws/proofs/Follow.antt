@@ -11,12 +11,12 @@ use Rattle.cpg_base.proofs.Sorted.{sorted, permutation_sorted}
 use Rattle.cpg_cube.specs.Cube.{holds}
 use Rattle.cpg_cube.specs.declared.literal.Literal.{Literal}
 use Rattle.cpg_table.specs.Table.{NodeTable, table_at, empty_table}
-use Rattle.cpg_table.proofs.Told.{Told, told_true}
+use Rattle.cpg_table.proofs.Told.{Learnt, learnt_true}
 use Rattle.cpg_node.specs.Dispatcher.{Dispatcher, Range, Ended, Frame, Act, next, hear, hear_all, hear_frame, frame_literals, turn, acts_of_turn, due_reports, AllFine, EndFits, ValueFits, own_of}
-use Rattle.cpg_node.specs.Dispatcher.{opening, finished, is_after}
-use Rattle.cpg_node.proofs.Kept.{Keeps, keeps_cut_all, keeps_frames, within_kept, ToldBy, IsTrueEnd}
+use Rattle.cpg_node.specs.Dispatcher.{initial_dispatcher, finished, is_after}
+use Rattle.cpg_node.proofs.Kept.{Keeps, keeps_cut_all, keeps_frames, within_kept, LearntBy, IsTrueEnd}
 use Rattle.cpg_node.proofs.Next.{by}
-use Rattle.cpg_cluster.specs.Cluster.{World, Cluster, Answer, Took, Waits, Done as IsDone, own_table, open_cluster, dispatcher_at, answer, reports_now, reported, frames_now, waits_on, take_turn}
+use Rattle.cpg_cluster.specs.Cluster.{World, Cluster, Answer, Took, Waits, Done as IsDone, own_table, initial_cluster, dispatcher_at, answer, reports_now, reported, frames_now, waits_on, take_turn}
 use Rattle.cpg_cluster.specs.Cluster.{step_by, step, play}
 use Rattle.cpg_cluster.specs.Correct.{IsDue, asked_of, due_key}
 use Rattle.cpg_cluster.proofs.Dues.{precedes, in_order_sorted}
@@ -31,10 +31,10 @@ use Rattle.cpg_cluster.proofs.Reached.{Reached, reached_open, reached_step, free
 use Rattle.cpg_cluster.proofs.Plays.{played_of, done_next, valid_tables_are_correct}
 use Rattle.cpg_live.specs.declared.event.Event.TheVariants.{Close}
 use Rattle.cpg_live.specs.Stream.{NodeProgress, Step, lawful, start}
-use Rattle.cpg_live.specs.Told.{follow_one, follow, after_last, HasCome, told_ends, IsFollowed}
+use Rattle.cpg_live.specs.Told.{follow_one, follow, after_last, HasCome, after_reports, IsFollowed}
 use Rattle.cpg_live.proofs.Told.{turns_are_followed, closes_are_followed}
 use Rattle.cpg_live.proofs.Turns.{floor_after, turned_zero}
-use Rattle.cpg_follow_laws.specs.Follow.{by_time, told_at, told_by, told_in_step, told_in, opened, PlaysAreFollowed, stream_of, StreamsGiveWhatIsDue}
+use Rattle.cpg_follow_laws.specs.Follow.{by_time, records_at, records_by, records_in_step, records_in, opened, PlaysAreFollowed, stream_of, StreamsGiveWhatIsDue}
 use Rattle.cpg_follow_laws.proofs.Reports.{told_by_time, tells_by_time}
 
 -- the frames of a turn are fine, one after another
@@ -47,7 +47,7 @@ module _ {g : Graph} {tables : List NodeTable} {w : World} (k : Played g tables 
     frame_fine k c r.holds a l d table time f (frame_parts k c r.holds a l d table time f (there f (Contains-first f fs))) known keeps sound,
     fine fs (hear d f) table (λ m. Contains (frame_literals d.table f) m ⊎ known m) (keeps_cut_all g.faults (frame_literals d.table f) d.heard known keeps)
         (λ m q. elim q [
-          | inl n ↦ told_true {g = g} {tables = tables} {s = w.scenario} {node = a} {when = λ t. t == time} m
+          | inl n ↦ learnt_true {g = g} {tables = tables} {s = w.scenario} {node = a} {when = λ t. t == time} m
               (inr (told_of k c r.holds a l d table time f (frame_parts k c r.holds a l d table time f (there f (Contains-first f fs))) m (subst (λ t. Contains (frame_literals t f) m) table n)))
           | inr n ↦ sound m n
         ]) (λ e n. there e (Contains-rest f fs e n)),
@@ -83,12 +83,12 @@ module _ {g : Graph} {tables : List NodeTable} {w : World} (k : Played g tables 
     table_is : ready.table ≡ own_table g a (table_at tables a)
     table_is = table_ready k c r a l time e
 
-    pub keeps_ready : Keeps g.faults ready.heard (Told g tables w.scenario a (by (r.holds a l).last))
-    keeps_ready = subst (λ h. Keeps g.faults h (Told g tables w.scenario a (by (r.holds a l).last)))
+    pub keeps_ready : Keeps g.faults ready.heard (Learnt g tables w.scenario a (by (r.holds a l).last))
+    keeps_ready = subst (λ h. Keeps g.faults h (Learnt g tables w.scenario a (by (r.holds a l).last)))
         (sym (heard_finished (map (λ (q : ℕ × Ended). q.1) (reports_now g w (dispatcher_at c a) time)) (dispatcher_at c a) ∙ ap (λ (d : Dispatcher). d.heard) (r.holds a l).is)) (r.holds a l).keeps
 
     all_fine : AllFine ready time frames
-    all_fine = fine frames ready table_is (Told g tables w.scenario a (by (r.holds a l).last)) keeps_ready told_true (λ f m. m)
+    all_fine = fine frames ready table_is (Learnt g tables w.scenario a (by (r.holds a l).last)) keeps_ready learnt_true (λ f m. m)
 
     all_fit : (z : Ended) → Contains (due_reports ready time) z → EndFits ready.table (hear_all ready frames).heard z
     all_fit z m =
@@ -98,11 +98,11 @@ module _ {g : Graph} {tables : List NodeTable} {w : World} (k : Played g tables 
         (subst (λ h. EndFits (own_table g a (table_at tables a)) h z) (sym (heard_all frames ready))
         (subst (λ t. EndFits (own_table g a (table_at tables a)) (fold (hear_frame t) ready.heard frames) z) (sym table_is)
         (fits (fold (hear_frame (own_table g a (table_at tables a))) ready.heard frames)
-        (λ m. ToldBy (own_table g a (table_at tables a)) frames m ⊎ Told g tables w.scenario a (by (r.holds a l).last) m)
-        (keeps_frames g.faults (own_table g a (table_at tables a)) frames ready.heard (Told g tables w.scenario a (by (r.holds a l).last)) keeps_ready)
+        (λ m. LearntBy (own_table g a (table_at tables a)) frames m ⊎ Learnt g tables w.scenario a (by (r.holds a l).last) m)
+        (keeps_frames g.faults (own_table g a (table_at tables a)) frames ready.heard (Learnt g tables w.scenario a (by (r.holds a l).last)) keeps_ready)
         (λ m q. elim q [
-          | inl n ↦ told_true {g = g} {tables = tables} {s = w.scenario} {node = a} {when = λ t. t == time} m (inr (frames_told k c r.holds a l ready table_is time m n))
-          | inr n ↦ told_true m n
+          | inl n ↦ learnt_true {g = g} {tables = tables} {s = w.scenario} {node = a} {when = λ t. t == time} m (inr (frames_told k c r.holds a l ready table_is time m n))
+          | inr n ↦ learnt_true m n
         ]) z known)))
 
     -- the turn of a play is followed
@@ -112,7 +112,7 @@ module _ {g : Graph} {tables : List NodeTable} {w : World} (k : Played g tables 
         let d : Dispatcher = dispatcher_at c a in
         let reports : List (ℕ × Ended) = reports_now g w d time in
         let apart = reports_apart k c r a l time in
-        let same : told_ends d (by_time reports) ≡ ready = told_by_time reports d apart in
+        let same : after_reports d (by_time reports) ≡ ready = told_by_time reports d apart in
         turns_are_followed p d (get_or c.acts a []) time (by_time reports) frames h e
         (tells_by_time reports d (after_last d.last) (may_finish k c r a l time e) apart (λ q m. after_is d.last q.0 m.later))
         (subst (λ z. AllFine z time frames) (sym same) all_fine)
@@ -124,20 +124,20 @@ module _ {g : Graph} {tables : List NodeTable} {w : World} (k : Played g tables 
 
     -- if a turn of a play is followed, the stream comes to the cluster's next state
     turn_followed : (p : NodeProgress) → HasCome p (dispatcher_at c a) (get_or c.acts a []) →
-        let s = follow (lawful p) (told_at g w c a time) in (s.fault ≡ None) × HasCome s.progress (dispatcher_at (take_turn g w c a time) a) (get_or (take_turn g w c a time).acts a [])
+        let s = follow (lawful p) (records_at g w c a time) in (s.fault ≡ None) × HasCome s.progress (dispatcher_at (take_turn g w c a time) a) (get_or (take_turn g w c a time).acts a [])
     turn_followed p h =
         let d : Dispatcher = dispatcher_at c a in
         let reports : List (ℕ × Ended) = reports_now g w d time in
         let apart = reports_apart k c r a l time in
-        let same : told_ends d (by_time reports) ≡ ready = told_by_time reports d apart in
+        let same : after_reports d (by_time reports) ≡ ready = told_by_time reports d apart in
         let f = followed p h in
         let node =
         ap (λ z. turn z time [] frames) same
-        ∙ sym (get_or-set_same c.nodes a _ (opening (record { faults = 0; first_broadcast = 0; own = []; starts = []; sends = []; hears = [] })) (omega (arith, r.nodes))) in
+        ∙ sym (get_or-set_same c.nodes a _ (initial_dispatcher (record { faults = 0; first_broadcast = 0; own = []; starts = []; sends = []; hears = [] })) (omega (arith, r.nodes))) in
         let acts = ap (λ z. get_or c.acts a [] ++ acts_of_turn z time [] frames) same ∙ sym (get_or-set_same c.acts a _ [] (omega (arith, r.acts))) in (
           f.none,
-          subst (λ z. HasCome (follow (lawful p) (told_at g w c a time)).progress z (get_or (take_turn g w c a time).acts a [])) node
-              (subst (HasCome (follow (lawful p) (told_at g w c a time)).progress (turn (told_ends d (by_time reports)) time [] frames)) acts f.comes),
+          subst (λ z. HasCome (follow (lawful p) (records_at g w c a time)).progress z (get_or (take_turn g w c a time).acts a [])) node
+              (subst (HasCome (follow (lawful p) (records_at g w c a time)).progress (turn (after_reports d (by_time reports)) time [] frames)) acts f.comes),
         )
 
 abbrev Comes : Graph → Cluster → ℕ → Step → Type 0
@@ -148,16 +148,16 @@ whole s e = ap (λ o. record { progress = s.progress; fault = o }) (sym e)
 
 module _ {g : Graph} {tables : List NodeTable} {w : World} (k : Played g tables w) (node : ℕ) (l : node < length g.nodes) where
   step_followed : (c : Cluster) → Reached g tables w c → (a : ℕ) (p : NodeProgress) → HasCome p (dispatcher_at c node) (get_or c.acts node []) →
-      Comes g (step g w c a) node (follow (lawful p) (told_in_step g w c a node))
+      Comes g (step g w c a) node (follow (lawful p) (records_in_step g w c a node))
   step_followed c r a p h = elim (cases_eq a node) [
     | inl is ↦ subst (λ es. Comes g (step g w c a) node (follow (lawful p) es)) (sym (cond-true (a == node) _ _ (eq-eqb a node is)))
-        (subst (λ a. Comes g (step g w c a) node (follow (lawful p) (told_by g w c a (answer g c a) (next (dispatcher_at c a))))) (sym is)
+        (subst (λ a. Comes g (step g w c a) node (follow (lawful p) (records_by g w c a (answer g c a) (next (dispatcher_at c a))))) (sym is)
         (here (answer g c node) (next (dispatcher_at c node)) refl refl))
     | inr ne ↦
         subst (λ es. Comes g (step g w c a) node (follow (lawful p) es)) (sym (cond-false (a == node) _ _ (ne_eqb a node ne))) (other (answer g c a) (next (dispatcher_at c a)) (λ s. ne (sym s)))
   ]
     where
-      here : (ans : Answer) (o : Option ℕ) → answer g c node ≡ ans → next (dispatcher_at c node) ≡ o → Comes g (step_by g w c node ans o) node (follow (lawful p) (told_by g w c node ans o))
+      here : (ans : Answer) (o : Option ℕ) → answer g c node ≡ ans → next (dispatcher_at c node) ≡ o → Comes g (step_by g w c node ans o) node (follow (lawful p) (records_by g w c node ans o))
       here Took (Some time) q e = turn_followed k c r node l time e (free_from k c r node time q e) p h
       here Took None q e = (refl, h)
       here (Waits b) o q e = (refl, h)
@@ -167,7 +167,7 @@ module _ {g : Graph} {tables : List NodeTable} {w : World} (k : Played g tables 
       other Took (Some time) ne = (
         refl,
         subst (λ d. HasCome p d (get_or (take_turn g w c a time).acts node []))
-            (sym (get_or-set_other c.nodes a node _ (opening (record { faults = 0; first_broadcast = 0; own = []; starts = []; sends = []; hears = [] })) ne))
+            (sym (get_or-set_other c.nodes a node _ (initial_dispatcher (record { faults = 0; first_broadcast = 0; own = []; starts = []; sends = []; hears = [] })) ne))
             (subst (HasCome p (dispatcher_at c node)) (sym (get_or-set_other c.acts a node _ [] ne)) h),
       )
       other Took None ne = (refl, h)
@@ -175,39 +175,39 @@ module _ {g : Graph} {tables : List NodeTable} {w : World} (k : Played g tables 
       other IsDone o ne = (refl, h)
 
   play_followed : (turns : List ℕ) (c : Cluster) → Reached g tables w c → (p : NodeProgress) → HasCome p (dispatcher_at c node) (get_or c.acts node []) →
-      Comes g (play g w c turns) node (follow (lawful p) (told_in g w c node turns))
+      Comes g (play g w c turns) node (follow (lawful p) (records_in g w c node turns))
   play_followed [] c r p h = (refl, h)
   play_followed (a ∷ rest) c r p h =
       let one = step_followed c r a p h in
-      let s : Step = follow (lawful p) (told_in_step g w c a node) in
-      let joined : follow (lawful p) (told_in g w c node (a ∷ rest)) ≡ follow s (told_in g w (step g w c a) node rest) =
-      fold-append follow_one (lawful p) (told_in_step g w c a node) (told_in g w (step g w c a) node rest) in
+      let s : Step = follow (lawful p) (records_in_step g w c a node) in
+      let joined : follow (lawful p) (records_in g w c node (a ∷ rest)) ≡ follow s (records_in g w (step g w c a) node rest) =
+      fold-append follow_one (lawful p) (records_in_step g w c a node) (records_in g w (step g w c a) node rest) in
       subst (Comes g (play g w (step g w c a) rest) node) (sym joined)
-      (subst (λ s. Comes g (play g w (step g w c a) rest) node (follow s (told_in g w (step g w c a) node rest))) (whole s one.0)
+      (subst (λ s. Comes g (play g w (step g w c a) rest) node (follow s (records_in g w (step g w c a) node rest))) (whole s one.0)
       (play_followed rest (step g w c a) (reached_step k c r a) s.progress one.1))
 
-  open_come : HasCome (start (own_table g node (table_at tables node))) (dispatcher_at (open_cluster g tables) node) (get_or (open_cluster g tables).acts node [])
+  open_come : HasCome (start (own_table g node (table_at tables node))) (dispatcher_at (initial_cluster g tables) node) (get_or (initial_cluster g tables).acts node [])
   open_come =
       let d =
-      dispatchers_at g 0 tables node node (opening (record { faults = 0; first_broadcast = 0; own = []; starts = []; sends = []; hears = [] })) empty_table
+      dispatchers_at g 0 tables node node (initial_dispatcher (record { faults = 0; first_broadcast = 0; own = []; starts = []; sends = []; hears = [] })) empty_table
       (omega (arith, k.setting.shape.count, l)) (omega arith) in
       let none = get_or-replicate {A = List Act} (length tables) node [] [] (omega (arith, k.setting.shape.count, l)) in
-      subst (λ z. HasCome (start (own_table g node (table_at tables node))) z (get_or (open_cluster g tables).acts node [])) (sym d)
-      (subst (HasCome (start (own_table g node (table_at tables node))) (opening (own_table g node (table_at tables node)))) (sym none) (turned_zero (start (own_table g node (table_at tables node)))))
+      subst (λ z. HasCome (start (own_table g node (table_at tables node))) z (get_or (initial_cluster g tables).acts node [])) (sym d)
+      (subst (HasCome (start (own_table g node (table_at tables node))) (initial_dispatcher (own_table g node (table_at tables node)))) (sym none) (turned_zero (start (own_table g node (table_at tables node)))))
 
-  all_followed : (turns : List ℕ) → Comes g (play g w (open_cluster g tables) turns) node (follow (opened g tables node) (told_in g w (open_cluster g tables) node turns))
-  all_followed turns = play_followed turns (open_cluster g tables) (reached_open k) (start (own_table g node (table_at tables node))) open_come
+  all_followed : (turns : List ℕ) → Comes g (play g w (initial_cluster g tables) turns) node (follow (opened g tables node) (records_in g w (initial_cluster g tables) node turns))
+  all_followed turns = play_followed turns (initial_cluster g tables) (reached_open k) (start (own_table g node (table_at tables node))) open_come
 
 pub plays_are_followed : PlaysAreFollowed
 plays_are_followed g tables f h v w turns node is l = let c = all_followed (played_of g tables f h v w is) node l turns in record { none = c.0; comes = c.1 }
 
 pub streams_give : StreamsGiveWhatIsDue
 streams_give g tables f h v w turns node close is l over late =
-    let c : Cluster = play g w (open_cluster g tables) turns in
+    let c : Cluster = play g w (initial_cluster g tables) turns in
     let q = all_followed (played_of g tables f h v w is) node l turns in
-    let s : Step = follow (opened g tables node) (told_in g w (open_cluster g tables) node turns) in
+    let s : Step = follow (opened g tables node) (records_in g w (initial_cluster g tables) node turns) in
     let closed : follow (opened g tables node) (stream_of g tables w turns node close) ≡ lawful (record { dispatcher = dispatcher_at c node; acts = get_or c.acts node [] }) =
-    fold-append follow_one (opened g tables node) (told_in g w (open_cluster g tables) node turns) ((close, Close) ∷ [])
+    fold-append follow_one (opened g tables node) (records_in g w (initial_cluster g tables) node turns) ((close, Close) ∷ [])
     ∙ ap (λ z. follow_one z (close, Close)) (sym (whole s q.0)) ∙ closes_are_followed s.progress (dispatcher_at c node) (get_or c.acts node []) close q.1 (done_next g c node over) late in
     let acts : List Act = sorted (precedes (due_key g)) (asked_of tables w.scenario node) in
     let due : IsDue g tables w.scenario node acts = record {

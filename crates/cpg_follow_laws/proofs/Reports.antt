@@ -7,7 +7,7 @@ use Rattle.cpg_node.specs.Dispatcher.{Dispatcher, Ended, finished}
 use Rattle.cpg_node.specs.State.{MayFinish}
 use Rattle.cpg_node.proofs.Commuting.{may_then, may_before, swap}
 use Rattle.cpg_cluster.specs.Taking.{AllFinish}
-use Rattle.cpg_live.specs.Told.{MayTell, told_ends}
+use Rattle.cpg_live.specs.Told.{MayReport, after_reports}
 use Rattle.cpg_follow_laws.specs.Follow.{inserted, by_time}
 
 -- of different processes, and in order of time
@@ -25,7 +25,7 @@ all_may (x ∷ es) d h r e c = elim (Contains-cases x es e c) [
 ]
 
 may_tell : (es : List (ℕ × Ended)) (d : Dispatcher) (from : ℕ) → ((e : ℕ × Ended) → Contains es e → MayFinish d e.0 e.1) → Rises Apart es → Rises NotLater es →
-    ((e : ℕ × Ended) → Contains es e → from ≤ e.0) → MayTell d from es
+    ((e : ℕ × Ended) → Contains es e → from ≤ e.0) → MayReport d from es
 may_tell [] d from may r t lo = tt
 may_tell (x ∷ es) d from may r t lo = (
   lo x (Contains-first x es),
@@ -79,19 +79,19 @@ rises_by_time (x ∷ es) = rises_inserted x (by_time es) (rises_by_time es)
 
 -- What they leave.
 
-told_inserted : (d : Dispatcher) (x : ℕ × Ended) (ys : List (ℕ × Ended)) → ((e : ℕ × Ended) → Contains ys e → Apart x e) → told_ends d (inserted x ys) ≡ told_ends (finished d x.1) ys
+told_inserted : (d : Dispatcher) (x : ℕ × Ended) (ys : List (ℕ × Ended)) → ((e : ℕ × Ended) → Contains ys e → Apart x e) → after_reports d (inserted x ys) ≡ after_reports (finished d x.1) ys
 told_inserted d x [] h = refl
 told_inserted d x (y ∷ ys) h = go (leb x.0 y.0) (told_inserted (finished d y.1) x ys (λ e c. h e (Contains-rest y ys e c)))
   where
-    go : (b : Bool) → told_ends (finished d y.1) (inserted x ys) ≡ told_ends (finished (finished d y.1) x.1) ys →
-        told_ends d (cond b (x ∷ y ∷ ys) (y ∷ inserted x ys)) ≡ told_ends (finished d x.1) (y ∷ ys)
+    go : (b : Bool) → after_reports (finished d y.1) (inserted x ys) ≡ after_reports (finished (finished d y.1) x.1) ys →
+        after_reports d (cond b (x ∷ y ∷ ys) (y ∷ inserted x ys)) ≡ after_reports (finished d x.1) (y ∷ ys)
     go true ih = refl
-    go false ih = ih ∙ ap (λ d. told_ends d ys) (sym (swap d x.1 y.1 (h y (Contains-first y ys))))
+    go false ih = ih ∙ ap (λ d. after_reports d ys) (sym (swap d x.1 y.1 (h y (Contains-first y ys))))
 
-pub told_by_time : (es : List (ℕ × Ended)) (d : Dispatcher) → Rises Apart es → told_ends d (by_time es) ≡ told_ends d es
+pub told_by_time : (es : List (ℕ × Ended)) (d : Dispatcher) → Rises Apart es → after_reports d (by_time es) ≡ after_reports d es
 told_by_time [] d r = refl
 told_by_time (x ∷ es) d r = told_inserted d x (by_time es) (λ e c. r.0 e (in_by_time es e c)) ∙ told_by_time es (finished d x.1) r.1
 
-pub tells_by_time : (es : List (ℕ × Ended)) (d : Dispatcher) (from : ℕ) → AllFinish d es → Rises Apart es → ((e : ℕ × Ended) → MayFinish d e.0 e.1 → from ≤ e.0) → MayTell d from (by_time es)
+pub tells_by_time : (es : List (ℕ × Ended)) (d : Dispatcher) (from : ℕ) → AllFinish d es → Rises Apart es → ((e : ℕ × Ended) → MayFinish d e.0 e.1 → from ≤ e.0) → MayReport d from (by_time es)
 tells_by_time es d from all r lo = may_tell (by_time es) d from (λ e c. all_may es d all r e (in_by_time es e c)) (apart_by_time es r) (rises_by_time es)
     (λ e c. lo e (all_may es d all r e (in_by_time es e c)))

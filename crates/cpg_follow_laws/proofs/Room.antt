@@ -15,7 +15,7 @@ use Rattle.cpg_base.proofs.Lists.{Contains-first, Contains-rest, Contains-filter
 use Rattle.cpg_head.specs.GraphHead.{head_of}
 use Rattle.cpg_table.specs.Table.{Row, NodeTable, table_at, columns_in}
 use Rattle.cpg_table.specs.Lawful.{AreTablesOf, IsLawfulRow, rows_of, space_of}
-use Rattle.cpg_table.proofs.Told.{Told, told_true}
+use Rattle.cpg_table.proofs.Told.{Learnt, learnt_true}
 use Rattle.cpg_node.specs.Dispatcher.{Dispatcher, Ended, Frame, Act, next, hear_frame, is_contradicted, is_strange, no_column}
 use Rattle.cpg_node.proofs.Next.{by}
 use Rattle.cpg_cluster.specs.Cluster.{World, Cluster, Answer, Took, Waits, Done as IsDone, own_table, dispatcher_at, answer, frame_of_item, reports_now, reported, frames_now, step}
@@ -28,7 +28,7 @@ use Rattle.cpg_cluster.proofs.Reached.{Reached, reached_step, free_from}
 use Rattle.cpg_live.specs.declared.event.Event.{Event}
 use Rattle.cpg_live.specs.Told.{end_event, frame_event}
 use Rattle.cpg_live.specs.Spelling.{HasRoom}
-use Rattle.cpg_follow_laws.specs.Follow.{by_time, told_at, told_by, told_in}
+use Rattle.cpg_follow_laws.specs.Follow.{by_time, records_at, records_by, records_in}
 use Rattle.cpg_follow_laws.proofs.Reports.{all_may, in_by_time}
 use Rattle.cpg_follow_laws.proofs.Follow.{keeps_ready}
 
@@ -92,8 +92,8 @@ module _ {g : Graph} {tables : List NodeTable} {w : World} (k : Played g tables 
         let table = table_ready k c r node l time e in
         let a = frame_parts k c r.holds node l (reported g w (dispatcher_at c node) time) table time f m in
         let fine : is_strange (reported g w (dispatcher_at c node) time) time f ≡ false =
-        frame_fine k c r.holds node l (reported g w (dispatcher_at c node) time) table time f a (Told g tables w.scenario node (by (r.holds node l).last))
-        (keeps_ready k c r node l time e free) told_true in
+        frame_fine k c r.holds node l (reported g w (dispatcher_at c node) time) table time f a (Learnt g tables w.scenario node (by (r.holds node l).last))
+        (keeps_ready k c r node l time e free) learnt_true in
         let there = column_there (reported g w (dispatcher_at c node) time) time f fine in
         let hears : length (columns_in (reported g w (dispatcher_at c node) time).table.hears f.item) ≡ length (columns_in (table_at tables node).hears f.item) =
         ap (λ (t : NodeTable). length (columns_in t.hears f.item)) table in
@@ -116,22 +116,22 @@ module _ {g : Graph} {tables : List NodeTable} {w : World} (k : Played g tables 
           omega (arith, may.few, faults, within.faults),
         )
 
-    turn_fits : AllByRecursion Fits (told_at g w c node time)
+    turn_fits : AllByRecursion Fits (records_at g w c node time)
     turn_fits = all_append Fits (map end_event (by_time (reports_now g w (dispatcher_at c node) time))) (map (frame_event time) (frames_now g w c (reported g w (dispatcher_at c node) time) time))
         (all_map Fits end_event (by_time (reports_now g w (dispatcher_at c node) time)) report_fits)
         (all_map Fits (frame_event time) (frames_now g w c (reported g w (dispatcher_at c node) time) time) frame_fits)
 
-  pub all_fit : (turns : List ℕ) (c : Cluster) → Reached g tables w c → AllByRecursion Fits (told_in g w c node turns)
+  pub all_fit : (turns : List ℕ) (c : Cluster) → Reached g tables w c → AllByRecursion Fits (records_in g w c node turns)
   all_fit [] c r = tt
   all_fit (a ∷ rest) c r = elim (cases_eq a node) [
-    | inl is ↦ subst (λ es. AllByRecursion Fits (es ++ told_in g w (step g w c a) node rest)) (sym (cond-true (a == node) _ _ (eq-eqb a node is)))
-        (subst (λ a. AllByRecursion Fits (told_by g w c a (answer g c a) (next (dispatcher_at c a)) ++ told_in g w (step g w c a) node rest)) (sym is)
-        (all_append Fits (told_by g w c node (answer g c node) (next (dispatcher_at c node))) (told_in g w (step g w c node) node rest)
+    | inl is ↦ subst (λ es. AllByRecursion Fits (es ++ records_in g w (step g w c a) node rest)) (sym (cond-true (a == node) _ _ (eq-eqb a node is)))
+        (subst (λ a. AllByRecursion Fits (records_by g w c a (answer g c a) (next (dispatcher_at c a)) ++ records_in g w (step g w c a) node rest)) (sym is)
+        (all_append Fits (records_by g w c node (answer g c node) (next (dispatcher_at c node))) (records_in g w (step g w c node) node rest)
         (here (answer g c node) (next (dispatcher_at c node)) refl refl) (all_fit rest (step g w c node) (reached_step k c r node))))
-    | inr ne ↦ subst (λ es. AllByRecursion Fits (es ++ told_in g w (step g w c a) node rest)) (sym (cond-false (a == node) _ _ (ne_eqb a node ne))) (all_fit rest (step g w c a) (reached_step k c r a))
+    | inr ne ↦ subst (λ es. AllByRecursion Fits (es ++ records_in g w (step g w c a) node rest)) (sym (cond-false (a == node) _ _ (ne_eqb a node ne))) (all_fit rest (step g w c a) (reached_step k c r a))
   ]
     where
-      here : (ans : Answer) (o : Option ℕ) → answer g c node ≡ ans → next (dispatcher_at c node) ≡ o → AllByRecursion Fits (told_by g w c node ans o)
+      here : (ans : Answer) (o : Option ℕ) → answer g c node ≡ ans → next (dispatcher_at c node) ≡ o → AllByRecursion Fits (records_by g w c node ans o)
       here Took (Some time) q e = turn_fits c r time e q
       here Took None q e = tt
       here (Waits b) o q e = tt

@@ -10,11 +10,11 @@ use Rattle.cpg_base.proofs.Lists.{Contains-first, Contains-rest, list_any_parts}
 use Rattle.cpg_base.proofs.NumbersOf.{number_of-value}
 use Rattle.cpg_cube.specs.declared.literal.Literal.{Literal}
 use Rattle.cpg_table.specs.Heard.{exactly, value_fact}
-use Rattle.cpg_table.proofs.Told.{EndTold, Told, told_true}
+use Rattle.cpg_table.proofs.Told.{LearntFromEnd, Learnt, learnt_true}
 use Rattle.cpg_node.specs.Dispatcher.{Act, Dispatcher, Range, range_of}
 use Rattle.cpg_node.proofs.Kept.{within_kept}
 use Rattle.cpg_node.proofs.Next.{by}
-use Rattle.cpg_cluster.specs.Cluster.{Cluster, frame_of_item, open_cluster, play}
+use Rattle.cpg_cluster.specs.Cluster.{Cluster, frame_of_item, initial_cluster, play}
 use Rattle.cpg_cluster.specs.Correct.{all_asked, end_of_act, gives_end}
 use Rattle.cpg_cluster.proofs.Asked.{Asked, all_asked_in, all_asked_parts, asked_match}
 use Rattle.cpg_cluster.proofs.Nodes.{Played}
@@ -34,7 +34,7 @@ pub sent_values_are_known : SentValuesAreKnown
 sent_values_are_known g tables f h v w turns node condition a is l m e =
     let k : Played g tables w = played_of g tables f h v w is in
     let s : Scenario = w.scenario in
-    let c : Cluster = play g w (open_cluster g tables) turns in
+    let c : Cluster = play g w (initial_cluster g tables) turns in
     let n = (reached k turns).holds node l in
     let mine = n.done.only a m in
     let asked : Asked g tables s node a = mine.0 in
@@ -54,7 +54,7 @@ sent_values_are_known g tables f h v w turns node condition a is l m e =
     let of : condition_of g b.item ≡ Some condition = ap (condition_of g) (from ∙ made) ∙ condition_of_process_of g condition there in
     let variable : ℕ = value_variable condition in
     let value : Literal = exactly variable (number_of s variable) in
-    let told : EndTold g tables s node (by n.last) value = record {
+    let told : LearntFromEnd g tables s node (by n.last) value = record {
       process = b.item;
       within = end;
       on = ap (node_of g) from ∙ asked.row.home;
@@ -64,7 +64,7 @@ sent_values_are_known g tables f h v w turns node condition a is l m e =
       told = Contains-rest (exactly b.item (number_of s b.item)) (value_fact s (condition_of g b.item)) value (subst (λ o. Contains (value_fact s o) value) (sym of) (Contains-first value []));
     } in
     let few : variable < 160 = omega (arith, there, f.few_conditions) in
-    let around = within_kept k.setting n.heard (Told g tables s node (by n.last)) n.keeps told_true variable few in
+    let around = within_kept k.setting n.heard (Learnt g tables s node (by n.last)) n.keeps learnt_true variable few in
     let low = n.keeps.low_above value (inl told) few in
     let high = n.keeps.high_below value (inl told) few in
     ap (λ (d : Dispatcher). range_of d.heard variable) n.is

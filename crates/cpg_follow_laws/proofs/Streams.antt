@@ -6,7 +6,7 @@ use Rattle.std.proofs.lemmas.List.Sums.{fold-append}
 use Rattle.cpg_head.specs.Head.{Head}
 use Rattle.cpg_table.specs.Table.{NodeTable, table_at}
 use Rattle.cpg_table.proofs.GraphTables.{has_shape}
-use Rattle.cpg_cluster.specs.Cluster.{own_table, open_cluster}
+use Rattle.cpg_cluster.specs.Cluster.{own_table, initial_cluster}
 use Rattle.cpg_cluster.specs.Correct.{IsDue}
 use Rattle.cpg_cluster.proofs.Owning.{own_is}
 use Rattle.cpg_cluster.proofs.Reached.{reached_open}
@@ -22,7 +22,7 @@ use Rattle.cpg_live.specs.Told.{follow_one, follow}
 use Rattle.cpg_live.specs.Spelling.{HasRoom, closed_at, stream_bytes}
 use Rattle.cpg_live.proofs.Spelling.{bytes_spell}
 use Rattle.cpg_live.proofs.Reorder.{events_commute, all_of}
-use Rattle.cpg_follow_laws.specs.Follow.{told_in}
+use Rattle.cpg_follow_laws.specs.Follow.{records_in}
 use Rattle.cpg_follow_laws.specs.Streams.{BytesOfPlaysGiveWhatIsDue}
 use Rattle.cpg_follow_laws.proofs.Follow.{plays_are_followed, streams_give}
 use Rattle.cpg_follow_laws.proofs.Rising.{records_rise}
@@ -51,11 +51,11 @@ bytes_give g tables within of f v w turns node close es is l t =
     let h = has_shape g within tables of in
     let k = played_of g tables f h v w is in
     let table : NodeTable = own_table g node (table_at tables node) in
-    let told : List (ℕ × Event) = told_in g w (open_cluster g tables) node turns in
+    let told : List (ℕ × Event) = records_in g w (initial_cluster g tables) node turns in
     let fine = (plays_are_followed g tables f h v w turns node is l).none in
     let same : follow (lawful (start table)) es ≡ follow (lawful (start table)) told =
     events_commute (start table) 0 close told es (records_rise g tables f h v w turns node close is l t.late) t.rise t.those fine in
-    let room = all_of (λ (e : ℕ × Event). HasRoom table e.1) es told t.those (all_fit k within of node l turns (open_cluster g tables) (reached_open k)) in
+    let room = all_of (λ (e : ℕ × Event). HasRoom table e.1) es told t.those (all_fit k within of node l turns (initial_cluster g tables) (reached_open k)) in
     let taken = bytes_spell table es close t.small t.rise room (ap (λ (s : Step). s.fault) same ∙ fine) in
     let closed : follow (lawful (start table)) (closed_at es close) ≡ follow (lawful (start table)) (closed_at told close) =
     fold-append follow_one (lawful (start table)) es ((close, Close) ∷ []) ∙ ap (λ s. follow_one s (close, Close)) same

@@ -7,7 +7,7 @@ use Rattle.cpg_table.specs.Table.{NodeTable}
 use Rattle.cpg_table.specs.Shape.{HasShape}
 use Rattle.cpg_table.specs.Valid.{IsValid}
 use Rattle.cpg_node.specs.Dispatcher.{Act, Range, range_of}
-use Rattle.cpg_cluster.specs.Cluster.{World, dispatcher_at, frame_of_item, open_cluster, play}
+use Rattle.cpg_cluster.specs.Cluster.{World, dispatcher_at, frame_of_item, initial_cluster, play}
 use Rattle.cpg_cluster.specs.Correct.{IsWorld}
 
 -- the range of one number
@@ -18,6 +18,6 @@ only n = record { low = n; high = n }
 -- the frame carries.
 abbrev pub SentValuesAreKnown : Type 0
 SentValuesAreKnown = (g : Graph) (tables : List NodeTable) → WellFormed g → HasShape g tables → IsValid g tables →
-    (w : World) (turns : List ℕ) (node condition : ℕ) (a : Act) → IsWorld g w → node < length g.nodes → let c = play g w (open_cluster g tables) turns in
+    (w : World) (turns : List ℕ) (node condition : ℕ) (a : Act) → IsWorld g w → node < length g.nodes → let c = play g w (initial_cluster g tables) turns in
     Contains (get_or c.acts node []) a → a.item ≡ broadcast_item g condition →
     range_of (dispatcher_at c node).heard (value_variable condition) ≡ only (number_of_value (frame_of_item w (item_at g a.item) a).value)

@@ -8,7 +8,7 @@ use Rattle.cpg_head.specs.GraphHead.{head_of}
 use Rattle.cpg_table.specs.Table.{NodeTable, table_at}
 use Rattle.cpg_table.specs.Lawful.{AreTablesOf}
 use Rattle.cpg_table.specs.Valid.{IsValid}
-use Rattle.cpg_cluster.specs.Cluster.{World, Done, open_cluster, dispatcher_at, answer, play}
+use Rattle.cpg_cluster.specs.Cluster.{World, Done, initial_cluster, dispatcher_at, answer, play}
 use Rattle.cpg_cluster.specs.Correct.{IsWorld, IsDue}
 use Rattle.cpg_live.specs.declared.event.Event.{Event}
 use Rattle.cpg_live.specs.declared.following.TheConstants.{STREAM_LIMIT}
@@ -17,15 +17,15 @@ use Rattle.cpg_live.specs.Streams.{act_lines, closed_line, stream_end, stream_li
 use Rattle.cpg_live.specs.Told.{after_last}
 use Rattle.cpg_live.specs.Spelling.{RiseWithin, closed_at, stream_bytes}
 use Rattle.cpg_live.specs.Reorder.{AreThoseOf}
-use Rattle.cpg_follow_laws.specs.Follow.{told_in}
+use Rattle.cpg_follow_laws.specs.Follow.{records_in}
 
 -- The records are all those of the node in a play in which it is done. They are in any order that rises in time, up to a close
 -- that isn't before its last turn.
 pub record IsToldAll (g : Graph) (tables : List NodeTable) (w : World) (turns : List ℕ) (node close : ℕ) (es : List (ℕ × Event)) : Type 0 where
-  pub those : AreThoseOf es (told_in g w (open_cluster g tables) node turns)
+  pub those : AreThoseOf es (records_in g w (initial_cluster g tables) node turns)
   pub rise : RiseWithin 0 close es
-  pub done : answer g (play g w (open_cluster g tables) turns) node ≡ Done
-  pub late : after_last (dispatcher_at (play g w (open_cluster g tables) turns) node).last ≤ close + 1
+  pub done : answer g (play g w (initial_cluster g tables) turns) node ≡ Done
+  pub late : after_last (dispatcher_at (play g w (initial_cluster g tables) turns) node).last ≤ close + 1
   pub small : close < 2 ^ 64
 
 -- A stream is lawful to its close, and the acts of a node on it are those that are due. If it isn't too long to be read, its end as

@@ -9,8 +9,8 @@ use Rattle.cpg_reader.specs.declared.place.Table.TheVariants as tables
 use Rattle.cpg_reader.specs.declared.place.Key.{Key}
 use Rattle.cpg_reader.specs.declared.place.Key.TheVariants.{Faults, Deadline, Node, Slot, Process as Processes, Edge, Order}
 use Rattle.cpg_reader.specs.Reading.{pure, ◌>>=◌}
-use Rattle.cpg_reader.specs.Rows.{DocumentRow, text_of, as_names, as_tables, optional_in, optional, required_in, integer_at, tables_at, are_listed, only}
-use Rattle.cpg_reader.specs.Shape.{RawGraph, process_at, rows_at, node_at, slot_at, edge_at, raw_graph_at}
+use Rattle.cpg_reader.specs.Rows.{DocumentRow, text_of, as_names, as_tables, optional_in, optional, required_in, read_integer, read_array, are_listed, only}
+use Rattle.cpg_reader.specs.Shape.{RawGraph, read_process, read_rows, read_node, read_slot, read_edge, read_raw}
 use Rattle.cpg_reader.specs.WrittenTree.{with_member}
 use Rattle.cpg_reader.proofs.Steps.{same_ok}
 use Rattle.cpg_given_laws.proofs.Opened.{opened, passed_on}
@@ -35,12 +35,12 @@ module _ (d : Data) (ms : Members) where
   unfolding optional
   same_optional as_type key h = ap (optional_in (top_of ms) key as_type) (other_key (codes "order") d (text_of key) ms h)
 
-  same_integer : (key : Key) → Differs (slice_cmp nat_cmp (text_of key) (codes "order")) → integer_at (top_of (keyed d ms)) key ≡ integer_at (top_of ms) key
-  unfolding integer_at
+  same_integer : (key : Key) → Differs (slice_cmp nat_cmp (text_of key) (codes "order")) → read_integer (top_of (keyed d ms)) key ≡ read_integer (top_of ms) key
+  unfolding read_integer
   same_integer key h = ap (λ found. found >>= required_in (top_of ms) key) (same_optional as_integer key h)
 
-  same_tables : (key : Key) → Differs (slice_cmp nat_cmp (text_of key) (codes "order")) → tables_at (top_of (keyed d ms)) key ≡ tables_at (top_of ms) key
-  unfolding tables_at
+  same_tables : (key : Key) → Differs (slice_cmp nat_cmp (text_of key) (codes "order")) → read_array (top_of (keyed d ms)) key ≡ read_array (top_of ms) key
+  unfolding read_array
   same_tables key h = ap (λ found. found >>= (λ o. pure (unwrap_or o []))) (same_optional as_tables key h)
 
   read_order : (names : List (List ℕ)) → as_names d ≡ Some names → optional as_names (top_of (keyed d ms)) Order ≡ Ok (Some names)
@@ -58,21 +58,21 @@ module _ (d : Data) (ms : Members) where
       refused h some = let e = rw some at h in cc
 
   -- a document says the same but for the order, whatever order it gave
-  pub raw_with : (r : RawGraph) (names : List (List ℕ)) → as_names d ≡ Some names → raw_graph_at ms ≡ Ok r → raw_graph_at (keyed d ms) ≡ Ok (record r { order = Some names })
-  unfolding raw_graph_at
+  pub raw_with : (r : RawGraph) (names : List (List ℕ)) → as_names d ≡ Some names → read_raw ms ≡ Ok r → read_raw (keyed d ms) ≡ Ok (record r { order = Some names })
+  unfolding read_raw
   raw_with r names is h =
-      opened (integer_at (top_of ms) Faults) _ r h λ faults a rest.
-      opened (integer_at (top_of ms) Deadline) _ r rest λ deadline b rest.
-      opened (tables_at (top_of ms) Node) _ r rest λ nodes c rest.
-      opened (tables_at (top_of ms) Slot) _ r rest λ slots e rest.
-      opened (tables_at (top_of ms) Processes) _ r rest λ processes f rest.
-      opened (tables_at (top_of ms) Edge) _ r rest λ edges g rest.
+      opened (read_integer (top_of ms) Faults) _ r h λ faults a rest.
+      opened (read_integer (top_of ms) Deadline) _ r rest λ deadline b rest.
+      opened (read_array (top_of ms) Node) _ r rest λ nodes c rest.
+      opened (read_array (top_of ms) Slot) _ r rest λ slots e rest.
+      opened (read_array (top_of ms) Processes) _ r rest λ processes f rest.
+      opened (read_array (top_of ms) Edge) _ r rest λ edges g rest.
       opened (optional as_names (top_of ms) Order) _ r rest λ old i rest.
       passed_on (only top_keys (top_of ms)) _ r rest λ done j rest.
-      opened (rows_at tables.Node node_at nodes) _ r rest λ ns k rest.
-      opened (rows_at tables.Slot slot_at slots) _ r rest λ ss l rest.
-      opened (rows_at tables.Process process_at processes) _ r rest λ ps m rest.
-      opened (rows_at tables.Edge edge_at edges) _ r rest λ es n rest.
+      opened (read_rows tables.Node read_node nodes) _ r rest λ ns k rest.
+      opened (read_rows tables.Slot read_slot slots) _ r rest λ ss l rest.
+      opened (read_rows tables.Process read_process processes) _ r rest λ ps m rest.
+      opened (read_rows tables.Edge read_edge edges) _ r rest λ es n rest.
       rw (
         same_integer Faults tt ∙ a,
         same_integer Deadline tt ∙ b,
@@ -90,19 +90,19 @@ module _ (d : Data) (ms : Members) where
       (ap (λ (r : RawGraph). Ok (record r { order = Some names })) (same_ok _ r rest))
 
 -- the names of its processes are read as names
-pub raw_processes : (ms : Members) (r : RawGraph) → raw_graph_at ms ≡ Ok r → AllByRecursion IsRead (process_names r.processes)
-unfolding raw_graph_at
+pub raw_processes : (ms : Members) (r : RawGraph) → read_raw ms ≡ Ok r → AllByRecursion IsRead (process_names r.processes)
+unfolding read_raw
 raw_processes ms r h =
-    opened (integer_at (top_of ms) Faults) _ r h λ faults _ rest.
-    opened (integer_at (top_of ms) Deadline) _ r rest λ deadline _ rest.
-    opened (tables_at (top_of ms) Node) _ r rest λ nodes _ rest.
-    opened (tables_at (top_of ms) Slot) _ r rest λ slots _ rest.
-    opened (tables_at (top_of ms) Processes) _ r rest λ processes _ rest.
-    opened (tables_at (top_of ms) Edge) _ r rest λ edges _ rest.
+    opened (read_integer (top_of ms) Faults) _ r h λ faults _ rest.
+    opened (read_integer (top_of ms) Deadline) _ r rest λ deadline _ rest.
+    opened (read_array (top_of ms) Node) _ r rest λ nodes _ rest.
+    opened (read_array (top_of ms) Slot) _ r rest λ slots _ rest.
+    opened (read_array (top_of ms) Processes) _ r rest λ processes _ rest.
+    opened (read_array (top_of ms) Edge) _ r rest λ edges _ rest.
     opened (optional as_names (top_of ms) Order) _ r rest λ order _ rest.
     passed_on (only top_keys (top_of ms)) _ r rest λ _ _ rest.
-    opened (rows_at tables.Node node_at nodes) _ r rest λ ns _ rest.
-    opened (rows_at tables.Slot slot_at slots) _ r rest λ ss _ rest.
-    opened (rows_at tables.Process process_at processes) _ r rest λ ps read rest.
-    opened (rows_at tables.Edge edge_at edges) _ r rest λ es _ last.
+    opened (read_rows tables.Node read_node nodes) _ r rest λ ns _ rest.
+    opened (read_rows tables.Slot read_slot slots) _ r rest λ ss _ rest.
+    opened (read_rows tables.Process read_process processes) _ r rest λ ps read rest.
+    opened (read_rows tables.Edge read_edge edges) _ r rest λ es _ last.
     subst (λ (r : RawGraph). AllByRecursion IsRead (process_names r.processes)) (same_ok _ r last) (read_processes 0 processes ps read)

@@ -11,8 +11,8 @@ use Rattle.cpg_reader.specs.declared.place.Table.TheVariants as tables
 use Rattle.cpg_reader.specs.declared.place.Key.TheVariants.{Name, Node}
 use Rattle.cpg_reader.specs.declared.shape.RawProcess.{RawProcess}
 use Rattle.cpg_reader.specs.Reading.{pure, each}
-use Rattle.cpg_reader.specs.Rows.{DocumentRow, is_name, name_if, as_name, items_as, as_names, value_at, optional_in, optional, typed_in, required_in, name_at}
-use Rattle.cpg_reader.specs.Shape.{process_at, work_at, process_with}
+use Rattle.cpg_reader.specs.Rows.{DocumentRow, is_name, name_if, as_name, items_as, as_names, value_at, optional_in, optional, typed_in, required_in, read_name}
+use Rattle.cpg_reader.specs.Shape.{read_process, read_work, process_with}
 use Rattle.cpg_reader.specs.Names.{process_of, number_of, place, process_names}
 use Rattle.cpg_reader.proofs.Steps.{same_ok, each-parts}
 use Rattle.cpg_reader.proofs.Parts.{process-parts}
@@ -35,9 +35,9 @@ read_text text name h = elim (cases_Bool (is_name text)) [
     none_is : None ≡ Some name → ⊥
     none_is e = cc
 
-read_name : (found : Option (List ℕ)) (name : List ℕ) → option_and_then name_if found ≡ Some name → IsRead name
-read_name None name h = cc
-read_name (Some text) name h = read_text text name h
+name_is_read : (found : Option (List ℕ)) (name : List ℕ) → option_and_then name_if found ≡ Some name → IsRead name
+name_is_read None name h = cc
+name_is_read (Some text) name h = read_text text name h
 
 read_value : (row : DocumentRow) (found : Option Data) (name : List ℕ) → optional_in row Name as_name found ≡ Ok (Some name) → IsRead name
 read_value row None name h = cc
@@ -45,10 +45,10 @@ read_value row (Some d) name h = typed (as_name d) refl h
   where
     typed : (o : Option (List ℕ)) → as_name d ≡ o → typed_in row Name o ≡ Ok (Some name) → IsRead name
     typed None is e = cc
-    typed (Some text) is e = let same : text ≡ name = cc in read_name (as_str d) name (is ∙ ap Some same)
+    typed (Some text) is e = let same : text ≡ name = cc in name_is_read (as_str d) name (is ∙ ap Some same)
 
-read_at : (row : DocumentRow) (name : List ℕ) → name_at row Name ≡ Ok name → IsRead name
-unfolding name_at optional
+read_at : (row : DocumentRow) (name : List ℕ) → read_name row Name ≡ Ok name → IsRead name
+unfolding read_name optional
 read_at row name h = opened (optional as_name row Name) (required_in row Name) name h (by row name)
   where
     by : (row : DocumentRow) (name : List ℕ) (found : Option (List ℕ)) → optional_in row Name as_name (value_at row Name) ≡ Ok found → required_in row Name found ≡ Ok name → IsRead name
@@ -56,20 +56,20 @@ read_at row name h = opened (optional as_name row Name) (required_in row Name) n
     by row name (Some text) is e = let same : text ≡ name = cc in read_value row (value_at row Name) name (is ∙ ap (λ t. Ok (Some t)) same)
 
 -- the name of a process that is read
-read_process : (row : DocumentRow) (p : RawProcess) → process_at row ≡ Ok p → IsRead p.name
-unfolding process_at
-read_process row p h =
-    opened (name_at row Name) _ p h λ name a rest.
-    opened (name_at row Node) _ p rest λ node b rest.
-    opened (work_at row) (λ work. pure (process_with name node work)) p (sym (process-parts row name node a b) ∙ h) λ work c last.
+process_is_read : (row : DocumentRow) (p : RawProcess) → read_process row ≡ Ok p → IsRead p.name
+unfolding read_process
+process_is_read row p h =
+    opened (read_name row Name) _ p h λ name a rest.
+    opened (read_name row Node) _ p rest λ node b rest.
+    opened (read_work row) (λ work. pure (process_with name node work)) p (sym (process-parts row name node a b) ∙ h) λ work c last.
     subst IsRead (ap (λ (p : RawProcess). p.name) (same_ok (process_with name node work) p last)) (read_at row name a)
 
-pub read_processes : (i : ℕ) (members : List Members) (ps : List RawProcess) → each (λ i ms. process_at (record { table = tables.Process; index = i; members = ms })) i members ≡ Ok ps →
+pub read_processes : (i : ℕ) (members : List Members) (ps : List RawProcess) → each (λ i ms. read_process (record { table = tables.Process; index = i; members = ms })) i members ≡ Ok ps →
     AllByRecursion IsRead (process_names ps)
 read_processes i [] ps h = subst (λ ps. AllByRecursion IsRead (process_names ps)) (same_ok [] ps h) tt
 read_processes i (ms ∷ rest) ps h =
-    let p = each-parts (λ i ms. process_at (record { table = tables.Process; index = i; members = ms })) i ms rest ps h in
-    subst (λ ps. AllByRecursion IsRead (process_names ps)) (sym p.2) (read_process _ p.0 p.3, read_processes (i + 1) rest p.1 p.4)
+    let p = each-parts (λ i ms. read_process (record { table = tables.Process; index = i; members = ms })) i ms rest ps h in
+    subst (λ ps. AllByRecursion IsRead (process_names ps)) (sym p.2) (process_is_read _ p.0 p.3, read_processes (i + 1) rest p.1 p.4)
 
 -- a process is called as the document calls it
 called : (nodes : List (List ℕ)) (i : ℕ) (raw : RawProcess) (p : Process) → process_of nodes i raw ≡ Ok p → p.name ≡ raw.name

@@ -9,13 +9,13 @@ use Rattle.cpg_base.specs.Limits.{IsWithinLimits, IsOrderWithin}
 use Rattle.cpg_base.specs.declared.process.Process.{Process}
 use Rattle.cpg_reader.specs.declared.place.Table.TheVariants as tables
 use Rattle.cpg_reader.specs.declared.place.Key.TheVariants.{Node, Name}
-use Rattle.cpg_reader.specs.Document.{document_of, problem_at, problem_of}
+use Rattle.cpg_reader.specs.Document.{document_of, read_members, problem_of}
 use Rattle.cpg_reader.specs.Names.{apart, slot_of, process_of, edge_of, order_of, order_apart, slot_names, process_names, graph_with, graph_of, resolved}
 use Rattle.cpg_reader.specs.Ranges.{limits}
 use Rattle.cpg_reader.specs.RawOf.{raw_of, raw_process, name_in, names_of}
 use Rattle.cpg_reader.specs.Reading.{each}
 use Rattle.cpg_reader.specs.Rows.{as_names}
-use Rattle.cpg_reader.specs.Shape.{RawGraph, raw_graph_at}
+use Rattle.cpg_reader.specs.Shape.{RawGraph, read_raw}
 use Rattle.cpg_reader.proofs.Numbered.{graph_back}
 use Rattle.cpg_reader.proofs.Steps.{same_ok}
 use Rattle.cpg_reader.proofs.Within.{graph-within}
@@ -86,10 +86,10 @@ same_limits : (r : RawGraph) (order : Option (List (List ℕ))) → limits (reco
 unfolding limits
 same_limits r order = refl
 
-read_with : (ms : Members) (g : Graph) (order : List ℕ) → problem_at ms ≡ Ok g → IsOrderWithin (process_count g) order → problem_at (with_key g order ms) ≡ Ok (with_order g order)
-unfolding problem_at
+read_with : (ms : Members) (g : Graph) (order : List ℕ) → read_members ms ≡ Ok g → IsOrderWithin (process_count g) order → read_members (with_key g order ms) ≡ Ok (with_order g order)
+unfolding read_members
 read_with ms g order h within =
-    opened (raw_graph_at ms) _ g h λ r raw rest.
+    opened (read_raw ms) _ g h λ r raw rest.
     passed_on (limits r) _ g rest λ x limited graph.
     let same = same_names r g graph in
     let count : length (process_names r.processes) ≡ process_count g = ap length (sym same) ∙ length-map g.processes (λ (p : Process). p.name) in

@@ -3,7 +3,7 @@ use Rattle.std.proofs.Common.{ℕ, ◌≡◌, ◌∙◌, List, ◌∷◌, true, 
 use Rattle.std.specs.Prelude.{◌⊎◌}
 use Rattle.cpg_history.specs.Fetch.{Fetch}
 use Rattle.cpg_io.specs.Causes.{Rose}
-use Rattle.cpg_io.specs.Shelf.{KeepsShelf, SameLeave}
+use Rattle.cpg_io.specs.Shelf.{KeepsShelf, SameAccess}
 use Rattle.cpg_io.specs.State.{ShelfState}
 use Rattle.cpg_io.proofs.Agreeing.{fetched_on, fetched_same}
 
@@ -30,5 +30,5 @@ pub keeps_same : (s : ShelfState) → KeepsShelf s s
 keeps_same s = record { names = λ name. refl; fetched = fetched_same s; later = omega arith; rose = λ fetch past is failed. inl refl }
 
 -- the same names may be fetched after two steps
-pub leave_on : (a b c : List ℕ → Type 0) → SameLeave a b → SameLeave b c → SameLeave a c
-leave_on a b c x y = λ name. (λ may. (y name).0 ((x name).0 may), λ may. (x name).1 ((y name).1 may))
+pub access_on : (a b c : List ℕ → Type 0) → SameAccess a b → SameAccess b c → SameAccess a c
+access_on a b c x y = λ name. (λ may. (y name).0 ((x name).0 may), λ may. (x name).1 ((y name).1 may))

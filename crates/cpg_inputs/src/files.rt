@@ -1,7 +1,7 @@
 //! One file: its bytes, and what they say as a file of its kind.
 ghost use Rattle.std.specs.Prelude.{◌≡◌, IfErr, IfOk, None, Option, Some};
 ghost use Rattle.cpg_base.specs.Graph.{Graph};
-ghost use Rattle.cpg_io.specs.Shelf.{KeepsShelf, SameLeave};
+ghost use Rattle.cpg_io.specs.Shelf.{KeepsShelf, SameAccess};
 ghost use Rattle.cpg_inputs.specs.declared.kind.FileKind.TheVariants.{GraphFile, LogFile, PackFile, PartFile, ScenarioFile};
 ghost use Rattle.cpg_inputs.specs.Files.{file};
 ghost use Rattle.cpg_inputs.specs.Says.{graph_value, log_value, part_value, played_value, tables_value, AreAdmitted};
@@ -29,7 +29,7 @@ fn read_file<S: Shelf>(
 ) -> Result<Vec<u8>, Halt>
     requires { S.may_fetch shelf.old name.now }
     ensures keeps { KeepsShelf (S.state shelf.old) (S.state shelf.new) }
-    ensures leave { SameLeave (S.may_fetch shelf.old) (S.may_fetch shelf.new) }
+    ensures access { SameAccess (S.may_fetch shelf.old) (S.may_fetch shelf.new) }
     ensures bytes { IfOk result (λ bytes. Gives (file kind name.now) (S.state shelf.old).history (S.state shelf.new).history bytes.items) }
     ensures halt { IfErr result (GivesNone (file kind name.now) (S.state shelf.old).history (S.state shelf.new).history) }
 {
@@ -45,7 +45,7 @@ fn read_file<S: Shelf>(
 pub fn read_part<S: Shelf>(alloc: Global, shelf: &mut S, name: &str) -> Result<Problem, Halt>
     requires { S.may_fetch shelf.old name.now }
     ensures keeps { KeepsShelf (S.state shelf.old) (S.state shelf.new) }
-    ensures leave { SameLeave (S.may_fetch shelf.old) (S.may_fetch shelf.new) }
+    ensures access { SameAccess (S.may_fetch shelf.old) (S.may_fetch shelf.new) }
     ensures graph { IfOk result (λ graph. ReadsNext None (file PartFile name.now) (S.state shelf.old).history (S.state shelf.new).history (part_value graph)) }
     ensures halt { IfErr result (StopsNext None (file PartFile name.now) (S.state shelf.old).history (S.state shelf.new).history) }
 {
@@ -75,7 +75,7 @@ fn admitted_graph(alloc: Global, bytes: &[u8]) -> Result<Admitted, Halt>
 pub fn read_graph<S: Shelf>(alloc: Global, shelf: &mut S, name: &str) -> Result<Admitted, Halt>
     requires { S.may_fetch shelf.old name.now }
     ensures keeps { KeepsShelf (S.state shelf.old) (S.state shelf.new) }
-    ensures leave { SameLeave (S.may_fetch shelf.old) (S.may_fetch shelf.new) }
+    ensures access { SameAccess (S.may_fetch shelf.old) (S.may_fetch shelf.new) }
     ensures graph { IfOk result (λ admitted.
         ReadsNext None (file GraphFile name.now) (S.state shelf.old).history (S.state shelf.new).history (graph_value admitted)) }
     ensures halt { IfErr result (StopsNext None (file GraphFile name.now) (S.state shelf.old).history (S.state shelf.new).history) }
@@ -89,7 +89,7 @@ pub fn read_graph<S: Shelf>(alloc: Global, shelf: &mut S, name: &str) -> Result<
 pub fn read_tables<S: Shelf>(alloc: Global, shelf: &mut S, name: &str) -> Result<Tables, Halt>
     requires { S.may_fetch shelf.old name.now }
     ensures keeps { KeepsShelf (S.state shelf.old) (S.state shelf.new) }
-    ensures leave { SameLeave (S.may_fetch shelf.old) (S.may_fetch shelf.new) }
+    ensures access { SameAccess (S.may_fetch shelf.old) (S.may_fetch shelf.new) }
     ensures tables { (g : Option Graph) →
         IfOk result (λ tables. ReadsNext g (file PackFile name.now) (S.state shelf.old).history (S.state shelf.new).history (tables_value tables)) }
     ensures halt { (g : Option Graph) → IfErr result (StopsNext g (file PackFile name.now) (S.state shelf.old).history (S.state shelf.new).history) }
@@ -110,7 +110,7 @@ pub fn read_played<S: Shelf>(
 ) -> Result<Played, Halt>
     requires { S.may_fetch shelf.old name.now }
     ensures keeps { KeepsShelf (S.state shelf.old) (S.state shelf.new) }
-    ensures leave { SameLeave (S.may_fetch shelf.old) (S.may_fetch shelf.new) }
+    ensures access { SameAccess (S.may_fetch shelf.old) (S.may_fetch shelf.new) }
     ensures played { IfOk result (λ played.
         ReadsNext (Some problem.now) (file ScenarioFile name.now) (S.state shelf.old).history (S.state shelf.new).history (played_value played)) }
     ensures halt { IfErr result (StopsNext (Some problem.now) (file ScenarioFile name.now) (S.state shelf.old).history (S.state shelf.new).history) }
@@ -131,7 +131,7 @@ pub fn read_acts<S: Shelf>(
 ) -> Result<Log, Halt>
     requires { S.may_fetch shelf.old name.now }
     ensures keeps { KeepsShelf (S.state shelf.old) (S.state shelf.new) }
-    ensures leave { SameLeave (S.may_fetch shelf.old) (S.may_fetch shelf.new) }
+    ensures access { SameAccess (S.may_fetch shelf.old) (S.may_fetch shelf.new) }
     ensures log { IfOk result (λ log.
         ReadsNext (Some problem.now) (file LogFile name.now) (S.state shelf.old).history (S.state shelf.new).history (log_value log)) }
     ensures halt { IfErr result (StopsNext (Some problem.now) (file LogFile name.now) (S.state shelf.old).history (S.state shelf.new).history) }

@@ -1,6 +1,6 @@
 //! The files of a command, one after the other in the order of the words.
 ghost use Rattle.std.specs.Prelude.{◌≡◌, ◌<◌, ◌≤◌, ◌∷◌, ◌++◌, [], All, IfErr, IfOk, None, OnOk, length, map};
-ghost use Rattle.cpg_io.specs.Shelf.{KeepsShelf, SameLeave};
+ghost use Rattle.cpg_io.specs.Shelf.{KeepsShelf, SameAccess};
 ghost use Rattle.cpg_words.specs.FileWords.{file_words};
 ghost use Rattle.cpg_words.specs.declared.command.Command.TheVariants.{Audit, Check, Hyper, Live, Node, Play};
 ghost use Rattle.cpg_refusal.specs.declared.halt.Halt.TheVariants.{Memory};
@@ -40,7 +40,7 @@ fn read_judged<S: Shelf>(
     requires graph { S.may_fetch shelf.old graph.now }
     requires pack { S.may_fetch shelf.old pack.now }
     ensures keeps { KeepsShelf (S.state shelf.old) (S.state shelf.new) }
-    ensures leave { SameLeave (S.may_fetch shelf.old) (S.may_fetch shelf.new) }
+    ensures access { SameAccess (S.may_fetch shelf.old) (S.may_fetch shelf.new) }
     ensures read { IfOk result (λ j.
         Reads None (file GraphFile graph.now ∷ file PackFile pack.now ∷ []) (S.state shelf.old).history (S.state shelf.new).history
         (graph_value j.graph ∷ tables_value j.tables ∷ [])) }
@@ -61,7 +61,7 @@ fn graph_inputs<S: Shelf>(
 ) -> Result<Inputs, Halt>
     requires { S.may_fetch shelf.old graph.now }
     ensures keeps { KeepsShelf (S.state shelf.old) (S.state shelf.new) }
-    ensures leave { SameLeave (S.may_fetch shelf.old) (S.may_fetch shelf.new) }
+    ensures access { SameAccess (S.may_fetch shelf.old) (S.may_fetch shelf.new) }
     ensures inputs { ReadsInputs (command_with purpose graph.now) (S.state shelf.old) (S.state shelf.new) result }
 {
     let graph = read_graph(alloc, shelf, graph)?;
@@ -78,7 +78,7 @@ fn check_inputs<S: Shelf>(
     requires graph { S.may_fetch shelf.old graph.now }
     requires pack { S.may_fetch shelf.old pack.now }
     ensures keeps { KeepsShelf (S.state shelf.old) (S.state shelf.new) }
-    ensures leave { SameLeave (S.may_fetch shelf.old) (S.may_fetch shelf.new) }
+    ensures access { SameAccess (S.may_fetch shelf.old) (S.may_fetch shelf.new) }
     ensures inputs { ReadsInputs (Check graph.now pack.now) (S.state shelf.old) (S.state shelf.new) result }
 {
     let GraphAndPack { graph, tables } = read_judged(alloc, shelf, graph, pack)?;
@@ -98,7 +98,7 @@ fn play_inputs<S: Shelf>(
     requires pack { S.may_fetch shelf.old pack.now }
     requires scenario { S.may_fetch shelf.old scenario.now }
     ensures keeps { KeepsShelf (S.state shelf.old) (S.state shelf.new) }
-    ensures leave { SameLeave (S.may_fetch shelf.old) (S.may_fetch shelf.new) }
+    ensures access { SameAccess (S.may_fetch shelf.old) (S.may_fetch shelf.new) }
     ensures inputs { ReadsInputs (Play graph.now pack.now scenario.now turns) (S.state shelf.old) (S.state shelf.new) result }
 {
     let judged = read_judged(alloc, shelf, graph, pack)?;
@@ -124,7 +124,7 @@ fn audit_inputs<S: Shelf>(
     requires pack { S.may_fetch shelf.old pack.now }
     requires log { S.may_fetch shelf.old log.now }
     ensures keeps { KeepsShelf (S.state shelf.old) (S.state shelf.new) }
-    ensures leave { SameLeave (S.may_fetch shelf.old) (S.may_fetch shelf.new) }
+    ensures access { SameAccess (S.may_fetch shelf.old) (S.may_fetch shelf.new) }
     ensures inputs { ReadsInputs (Audit graph.now pack.now log.now) (S.state shelf.old) (S.state shelf.new) result }
 {
     let judged = read_judged(alloc, shelf, graph, pack)?;
@@ -142,7 +142,7 @@ fn node_inputs<S: Shelf>(
 ) -> Result<Inputs, Halt>
     requires { S.may_fetch shelf.old pack.now }
     ensures keeps { KeepsShelf (S.state shelf.old) (S.state shelf.new) }
-    ensures leave { SameLeave (S.may_fetch shelf.old) (S.may_fetch shelf.new) }
+    ensures access { SameAccess (S.may_fetch shelf.old) (S.may_fetch shelf.new) }
     ensures inputs { ReadsInputs (Node pack.now name) (S.state shelf.old) (S.state shelf.new) result }
 {
     let tables = read_tables(alloc, shelf, pack)?;
@@ -159,7 +159,7 @@ fn live_inputs<S: Shelf>(
 ) -> Result<Inputs, Halt>
     requires { S.may_fetch shelf.old pack.now }
     ensures keeps { KeepsShelf (S.state shelf.old) (S.state shelf.new) }
-    ensures leave { SameLeave (S.may_fetch shelf.old) (S.may_fetch shelf.new) }
+    ensures access { SameAccess (S.may_fetch shelf.old) (S.may_fetch shelf.new) }
     ensures inputs { ReadsInputs (Live pack.now name stream) (S.state shelf.old) (S.state shelf.new) result }
 {
     let tables = read_tables(alloc, shelf, pack)?;
@@ -184,7 +184,7 @@ fn add(parts: &mut Vec<Part>, period: u64, problem: Problem) -> Result<(), Halt>
 fn read_parts<S: Shelf>(alloc: Global, shelf: &mut S, pairs: &[Pair]) -> Result<Vec<Part>, Halt>
     requires { All (λ w. S.may_fetch shelf.old w) (map (λ pair. pair.graph) pairs.now) }
     ensures keeps { KeepsShelf (S.state shelf.old) (S.state shelf.new) }
-    ensures leave { SameLeave (S.may_fetch shelf.old) (S.may_fetch shelf.new) }
+    ensures access { SameAccess (S.may_fetch shelf.old) (S.may_fetch shelf.new) }
     ensures read { IfOk result (λ parts. Reads None (part_files pairs.now) (S.state shelf.old).history (S.state shelf.new).history (part_values parts.items)) }
     ensures periods { IfOk result (λ parts. HavePeriods pairs.now parts.items) }
     ensures halt { IfErr result (StopsReading None (part_files pairs.now) (S.state shelf.old).history (S.state shelf.new).history) }
@@ -203,7 +203,7 @@ fn hyper_inputs<S: Shelf>(alloc: Global, shelf: &mut S, pairs: &[Pair]) -> Resul
     requires some { 0 < length pairs.now }
     requires few { length pairs.now ≤ 4 }
     ensures keeps { KeepsShelf (S.state shelf.old) (S.state shelf.new) }
-    ensures leave { SameLeave (S.may_fetch shelf.old) (S.may_fetch shelf.new) }
+    ensures access { SameAccess (S.may_fetch shelf.old) (S.may_fetch shelf.new) }
     ensures inputs { ReadsInputs (Hyper pairs.now) (S.state shelf.old) (S.state shelf.new) result }
 {
     let parts = read_parts(alloc, shelf, pairs)?;
@@ -215,7 +215,7 @@ fn hyper_inputs<S: Shelf>(alloc: Global, shelf: &mut S, pairs: &[Pair]) -> Resul
 pub fn read_inputs<S: Shelf>(alloc: Global, shelf: &mut S, command: Command) -> Result<Inputs, Halt>
     requires { All (λ w. S.may_fetch shelf.old w) (file_words command) }
     ensures keeps { KeepsShelf (S.state shelf.old) (S.state shelf.new) }
-    ensures leave { SameLeave (S.may_fetch shelf.old) (S.may_fetch shelf.new) }
+    ensures access { SameAccess (S.may_fetch shelf.old) (S.may_fetch shelf.new) }
     ensures inputs { ReadsInputs command (S.state shelf.old) (S.state shelf.new) result }
 {
     match command {

@@ -15,8 +15,8 @@ abbrev pub SameNames : ShelfState → ShelfState → Type 0
 SameNames old new = (name : List ℕ) → new.stands name ≡ old.stands name
 
 -- the same names may be fetched as before
-abbrev pub SameLeave : (List ℕ → Type 0) → (List ℕ → Type 0) → Type 0
-SameLeave old new = (name : List ℕ) → old name ↔ new name
+abbrev pub SameAccess : (List ℕ → Type 0) → (List ℕ → Type 0) → Type 0
+SameAccess old new = (name : List ℕ) → old name ↔ new name
 
 -- the history after a name was fetched, before any bytes were given
 abbrev pub opened : List ℕ → Bool → List Fetch → List Fetch

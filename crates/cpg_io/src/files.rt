@@ -3,7 +3,7 @@ ghost use Rattle.std.specs.Prelude.{◌≡◌, ◌<◌, ◌≤◌, [], None, Som
 ghost use Rattle.std.specs.Io.{ReadsAtMost};
 ghost use Rattle.std.specs.Io.KnownBytes.{IsAtEnd, ReadConsumes};
 ghost use Rattle.cpg_io.specs.Causes.{HasCause, counted};
-ghost use Rattle.cpg_io.specs.Shelf.{opened, HasGiven, StartsAt, SameNames, SameLeave};
+ghost use Rattle.cpg_io.specs.Shelf.{opened, HasGiven, StartsAt, SameNames, SameAccess};
 ghost use Rattle.cpg_io.specs.Adapters.{shelf_of};
 ghost use Rattle.cpg_history.specs.Event.{after};
 ghost use Rattle.cpg_history.specs.Fetch.{failed};
@@ -74,7 +74,7 @@ impl<R: Files> Shelf for FileShelf<R> {
     /// Opens the file. An error is a fault, and leaves no file open.
     fn fetch(&mut self, name: &str) -> Result<(), Failed>
         ensures names { SameNames (shelf_of self.old) (shelf_of self.new) }
-        ensures leave { SameLeave (λ _. ⊤) (λ _. ⊤) }
+        ensures access { SameAccess (λ _. ⊤) (λ _. ⊤) }
         ensures started { OnOk result (StartsAt None self.new.left) }
         ensures spent { OnErr result (IsAtEnd self.new.left) }
         ensures history { self.new.history ≡ opened name.now (is_err result) self.old.history }
@@ -97,7 +97,7 @@ impl<R: Files> Shelf for FileShelf<R> {
     fn read(&mut self, buf: &mut [u8]) -> Result<usize, Failed>
         requires { 0 < length buf.old }
         ensures names { SameNames (shelf_of self.old) (shelf_of self.new) }
-        ensures leave { SameLeave (λ _. ⊤) (λ _. ⊤) }
+        ensures access { SameAccess (λ _. ⊤) (λ _. ⊤) }
         ensures bound { ReadsAtMost result buf.new }
         ensures bytes { ReadConsumes self.old.left self.new.left result buf.new }
         ensures history { HasGiven self.old.history self.new.history result buf.new }

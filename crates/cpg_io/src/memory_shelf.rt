@@ -4,7 +4,7 @@ ghost use Rattle.std.specs.Bool.{OnFalse};
 ghost use Rattle.std.specs.Io.{ReadsAtMost};
 ghost use Rattle.std.specs.Io.KnownBytes.{IsAtEnd, ReadConsumes};
 ghost use Rattle.cpg_io.specs.Causes.{HasCause, counted};
-ghost use Rattle.cpg_io.specs.Shelf.{opened, HasGiven, StartsAt, SameNames, SameLeave};
+ghost use Rattle.cpg_io.specs.Shelf.{opened, HasGiven, StartsAt, SameNames, SameAccess};
 ghost use Rattle.cpg_io.specs.MemoryShelf.{PutsUnder, shelf_of, stands_in, is_named};
 ghost use Rattle.cpg_history.specs.Event.{after};
 ghost use Rattle.cpg_history.specs.Fetch.{failed};
@@ -227,7 +227,7 @@ impl Shelf for MemoryShelf {
     /// `Failed` exactly if the call's number is listed, or the name isn't there.
     fn fetch(&mut self, name: &str) -> Result<(), Failed>
         ensures names { SameNames (shelf_of self.old) (shelf_of self.new) }
-        ensures leave { SameLeave (λ _. ⊤) (λ _. ⊤) }
+        ensures access { SameAccess (λ _. ⊤) (λ _. ⊤) }
         ensures started { OnOk result (StartsAt (stands_in self.old.files name.now) (Some self.new.left)) }
         ensures spent { OnErr result (IsAtEnd (Some self.new.left)) }
         ensures history { self.new.history ≡ opened name.now (is_err result) self.old.history }
@@ -257,7 +257,7 @@ impl Shelf for MemoryShelf {
     fn read(&mut self, buf: &mut [u8]) -> Result<usize, Failed>
         requires { 0 < length buf.old }
         ensures names { SameNames (shelf_of self.old) (shelf_of self.new) }
-        ensures leave { SameLeave (λ _. ⊤) (λ _. ⊤) }
+        ensures access { SameAccess (λ _. ⊤) (λ _. ⊤) }
         ensures bound { ReadsAtMost result buf.new }
         ensures bytes { ReadConsumes (Some self.old.left) (Some self.new.left) result buf.new }
         ensures history { HasGiven self.old.history self.new.history result buf.new }

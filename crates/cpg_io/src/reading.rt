@@ -2,7 +2,7 @@
 ghost use Rattle.std.specs.Prelude.{◌≡◌, ◌+◌, ◌<◌, ◌≤◌, ◌↔◌, Err, IfErr, IfOk, IfSome, length, vec_len};
 ghost use Rattle.cpg_io.specs.Agreement.{AreFetched, LeavesRest};
 ghost use Rattle.cpg_io.specs.Causes.{Rose};
-ghost use Rattle.cpg_io.specs.Shelf.{SameNames, SameLeave};
+ghost use Rattle.cpg_io.specs.Shelf.{SameNames, SameAccess};
 ghost use Rattle.cpg_io.specs.Reading.{GivesPiece, IsReadInPart, IsReadWhole, ReadsOn};
 ghost use Rattle.cpg_io.specs.State.{given_count};
 
@@ -60,7 +60,7 @@ fn read_piece<S: Shelf>(
     requires piece { length buffer.old ≤ 65536 }
     requires room { vec_len bytes.old ≤ limit }
     ensures names { SameNames (S.state shelf.old) (S.state shelf.new) }
-    ensures leave { SameLeave (S.may_fetch shelf.old) (S.may_fetch shelf.new) }
+    ensures access { SameAccess (S.may_fetch shelf.old) (S.may_fetch shelf.new) }
     ensures rest { LeavesRest (S.state shelf.old) → LeavesRest (S.state shelf.new) }
     ensures piece { IfOk result (λ n. ReadsOn (S.state shelf.old).left (S.state shelf.new).left bytes.old.items bytes.new.items n) }
     ensures history { GivesPiece limit (S.state shelf.old).history (S.state shelf.new).history bytes.old.items bytes.new.items result }
@@ -93,7 +93,7 @@ pub fn read_all<S: Shelf>(
 ) -> Result<Vec<u8>, ReadAll>
     requires may { S.may_fetch shelf.old name.now }
     ensures names { SameNames (S.state shelf.old) (S.state shelf.new) }
-    ensures leave { SameLeave (S.may_fetch shelf.old) (S.may_fetch shelf.new) }
+    ensures access { SameAccess (S.may_fetch shelf.old) (S.may_fetch shelf.new) }
     ensures fetched { AreFetched (S.state shelf.old) (S.state shelf.new) }
     ensures whole { IfOk result (λ v. IfSome ((S.state shelf.old).stands name.now) (λ bytes. v.items ≡ bytes)) }
     ensures history { IfOk result (λ v. IsReadWhole (S.state shelf.old).history (S.state shelf.new).history name.now limit v.items) }

@@ -3,7 +3,7 @@ ghost use Rattle.std.specs.Prelude.{◌≡◌, ◌<◌, List, ℕ, is_err, lengt
 ghost use Rattle.std.specs.Io.{ReadsAtMost};
 ghost use Rattle.std.specs.Io.KnownBytes.{IsAtEnd, ReadConsumes};
 ghost use Rattle.cpg_io.specs.Causes.{HasCause};
-ghost use Rattle.cpg_io.specs.Shelf.{opened, HasGiven, StartsAt, SameNames, SameLeave};
+ghost use Rattle.cpg_io.specs.Shelf.{opened, HasGiven, StartsAt, SameNames, SameAccess};
 ghost use Rattle.cpg_io.specs.State.{ShelfState};
 
 use crate::Failed;
@@ -27,7 +27,7 @@ pub trait Shelf {
     fn fetch(&mut self, name: &str) -> Result<(), Failed>
         requires { may_fetch self.old name.now }
         ensures names { SameNames (state self.old) (state self.new) }
-        ensures leave { SameLeave (may_fetch self.old) (may_fetch self.new) }
+        ensures access { SameAccess (may_fetch self.old) (may_fetch self.new) }
         ensures started { OnOk result (StartsAt ((state self.old).stands name.now) (state self.new).left) }
         ensures spent { OnErr result (IsAtEnd (state self.new).left) }
         ensures history { (state self.new).history ≡ opened name.now (is_err result) (state self.old).history }
@@ -39,7 +39,7 @@ pub trait Shelf {
     fn read(&mut self, buf: &mut [u8]) -> Result<usize, Failed>
         requires { 0 < length buf.old }
         ensures names { SameNames (state self.old) (state self.new) }
-        ensures leave { SameLeave (may_fetch self.old) (may_fetch self.new) }
+        ensures access { SameAccess (may_fetch self.old) (may_fetch self.new) }
         ensures bound { ReadsAtMost result buf.new }
         ensures bytes { ReadConsumes (state self.old).left (state self.new).left result buf.new }
         ensures history { HasGiven (state self.old).history (state self.new).history result buf.new }

@@ -7,7 +7,7 @@ use Rattle.cpg_reader.specs.declared.place.ReadFault.{ReadFault}
 use Rattle.cpg_reader.specs.declared.place.ReadFault.TheVariants.{NotToml, BadField, DoubleName, UnknownName, OverLimit, OutOfMemory}
 use Rattle.cpg_base.specs.Graph.{Graph}
 use Rattle.cpg_reader.specs.Reading.{Reading}
-use Rattle.cpg_reader.specs.Shape.{raw_graph_at}
+use Rattle.cpg_reader.specs.Shape.{read_raw}
 use Rattle.cpg_reader.specs.Document.{members_if, document_of, problem_of}
 use Rattle.cpg_laws.specs.GraphFiles.{field_faults, limit_faults, double_faults, unknown_faults, graph_faults, document_faults, faults_of, IsFirst}
 use Rattle.cpg_laws.specs.Refusals.{IsFirstOf}
@@ -24,9 +24,9 @@ use Rattle.cpg_laws.proofs.NameFaults.{IsTwice, doubles_stand, double_there, IsN
 
 module _ (ms : Members) where
   -- if its fields are good, it is read as the graph of its values
-  read_is : HasGoodFields ms → raw_graph_at ms ≡ Ok (graph_in ms)
+  read_is : HasGoodFields ms → read_raw ms ≡ Ok (graph_in ms)
   read_is good =
-      let (g, e) = subst (λ faults. IsFirst faults (raw_graph_at ms)) (good_fields ms good) (fields_first ms) in
+      let (g, e) = subst (λ faults. IsFirst faults (read_raw ms)) (good_fields ms good) (fields_first ms) in
       e ∙ ap Ok (graph_is ms g e)
 
   graph_is_faulty : HasGoodFields ms → Each (IsFaultOf ms) (graph_faults (Ok (graph_in ms)))
@@ -37,24 +37,24 @@ module _ (ms : Members) where
       (each_weaker (IsTwice ms) (IsFaultOf ms) (λ fault h. subst (IsFaultOf ms) (sym h.1) (good, h.2)) (double_faults (graph_in ms)) (doubles_stand ms good))
       (each_weaker (IsNameless ms) (IsFaultOf ms) (λ fault h. subst (IsFaultOf ms) (sym h.1) (good, h.2)) (unknown_faults (graph_in ms)) (unknowns_stand ms good)))
 
-  rest_is_faulty : (faults : List ReadFault) → field_faults ms ≡ faults → IsFirst faults (raw_graph_at ms) → Each (IsFaultOf ms) (graph_faults (raw_graph_at ms))
+  rest_is_faulty : (faults : List ReadFault) → field_faults ms ≡ faults → IsFirst faults (read_raw ms) → Each (IsFaultOf ms) (graph_faults (read_raw ms))
   rest_is_faulty [] none h = let good = fields_are_good ms none in subst (λ r. Each (IsFaultOf ms) (graph_faults r)) (sym (read_is good)) (graph_is_faulty good)
   rest_is_faulty (fault ∷ faults) is h = subst (λ r. Each (IsFaultOf ms) (graph_faults r)) (sym h) tt
 
   document_is_faulty : Each (IsFaultOf ms) (document_faults (Ok ms))
-  document_is_faulty = each_joined (IsFaultOf ms) (field_faults ms) (graph_faults (raw_graph_at ms))
+  document_is_faulty = each_joined (IsFaultOf ms) (field_faults ms) (graph_faults (read_raw ms))
       (each_weaker (IsBad ms) (IsFaultOf ms) (λ fault h. subst (IsFaultOf ms) (sym h.1) h.2) (field_faults ms) (fields_are_bad ms))
       (rest_is_faulty (field_faults ms) refl (fields_first ms))
 
   in_graph : HasGoodFields ms → (fault : ReadFault) → Contains (graph_faults (Ok (graph_in ms))) fault → Contains (document_faults (Ok ms)) fault
-  in_graph good fault c = Contains-append_right (field_faults ms) (graph_faults (raw_graph_at ms)) fault (subst (λ r. Contains (graph_faults r) fault) (sym (read_is good)) c)
+  in_graph good fault c = Contains-append_right (field_faults ms) (graph_faults (read_raw ms)) fault (subst (λ r. Contains (graph_faults r) fault) (sym (read_is good)) c)
 
   in_names : HasGoodFields ms → (fault : ReadFault) → Contains (double_faults (graph_in ms) ++ unknown_faults (graph_in ms)) fault → Contains (document_faults (Ok ms)) fault
   in_names good fault c = in_graph good fault (Contains-append_right (limit_faults (graph_in ms)) (double_faults (graph_in ms) ++ unknown_faults (graph_in ms)) fault c)
 
   fault_there : (fault : ReadFault) → IsFaultOf ms fault → Contains (document_faults (Ok ms)) fault
   fault_there NotToml h = absurd h
-  fault_there (BadField at) h = Contains-append_left (field_faults ms) (graph_faults (raw_graph_at ms)) (BadField at) (bad_field_there ms at h)
+  fault_there (BadField at) h = Contains-append_left (field_faults ms) (graph_faults (read_raw ms)) (BadField at) (bad_field_there ms at h)
   fault_there (OverLimit what) h = in_graph h.0 (OverLimit what)
       (Contains-append_left (limit_faults (graph_in ms)) (double_faults (graph_in ms) ++ unknown_faults (graph_in ms)) (OverLimit what) (limit_there ms h.0 what h.1))
   fault_there (DoubleName at) h = in_names h.0 (DoubleName at) (Contains-append_left (double_faults (graph_in ms)) (unknown_faults (graph_in ms)) (DoubleName at) (double_there ms h.0 at h.1))

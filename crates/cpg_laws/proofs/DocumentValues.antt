@@ -9,9 +9,9 @@ use Rattle.cpg_reader.specs.declared.shape.RawSlot.{RawSlot}
 use Rattle.cpg_reader.specs.declared.shape.RawProcess.{RawProcess}
 use Rattle.cpg_reader.specs.declared.shape.RawEdge.{RawEdge}
 use Rattle.cpg_reader.specs.Reading.{Reading, pure, ◌>>=◌, ◌>>◌, each}
-use Rattle.cpg_reader.specs.Rows.{DocumentRow, value_at, text_of, as_name, as_names, as_tables, typed_in, optional_in, optional, required_in, required, with_default, name_at, integer_at, integer_or}
-use Rattle.cpg_reader.specs.Rows.{flag_or, tables_at}
-use Rattle.cpg_reader.specs.Shape.{RawGraph, node_at, slot_at, process_at, edge_at, rows_at, raw_graph_at}
+use Rattle.cpg_reader.specs.Rows.{DocumentRow, value_at, text_of, as_name, as_names, as_tables, typed_in, optional_in, optional, required_in, required, with_default, read_name, read_integer, integer_or}
+use Rattle.cpg_reader.specs.Rows.{flag_or, read_array}
+use Rattle.cpg_reader.specs.Shape.{RawGraph, read_node, read_slot, read_process, read_edge, read_rows, read_raw}
 use Rattle.cpg_laws.specs.GraphFiles.{top_of, elements}
 
 -- a step that gives this, if it gives anything
@@ -113,12 +113,12 @@ graph_in ms = record {
 }
 
 module _ (row : DocumentRow) where
-  name_gives : (key : Key) → Gives (name_at row key) (name_in row.members key)
-  unfolding name_at
+  name_gives : (key : Key) → Gives (read_name row key) (name_in row.members key)
+  unfolding read_name
   name_gives key = required_gives as_name row key []
 
-  integer_gives : (key : Key) (absent : ℤ) → Gives (integer_at row key) (integer_in row.members key absent)
-  unfolding integer_at
+  integer_gives : (key : Key) (absent : ℤ) → Gives (read_integer row key) (integer_in row.members key absent)
+  unfolding read_integer
   integer_gives key absent = required_gives as_integer row key absent
 
   integer_or_gives : (key : Key) (absent : ℤ) → Gives (integer_or absent row key) (integer_in row.members key absent)
@@ -129,20 +129,20 @@ module _ (row : DocumentRow) where
   unfolding flag_or
   flag_gives key absent = default_gives as_bool row key absent
 
-  list_gives : (key : Key) → Gives (tables_at row key) (unwrap_or (value_in as_tables row.members key) [])
-  unfolding tables_at
+  list_gives : (key : Key) → Gives (read_array row key) (unwrap_or (value_in as_tables row.members key) [])
+  unfolding read_array
   list_gives key = default_gives as_tables row key []
 
-  node_gives : Gives (node_at row) (node_in row.members)
-  unfolding node_at
+  node_gives : Gives (read_node row) (node_in row.members)
+  unfolding read_node
   node_gives = bind_gives _ _ _ _ (name_gives Name) (seq_gives _ _ _ (pure_gives _))
 
-  slot_gives : Gives (slot_at row) (slot_in row.members)
-  unfolding slot_at
+  slot_gives : Gives (read_slot row) (slot_in row.members)
+  unfolding read_slot
   slot_gives = bind_gives _ _ _ _ (name_gives Node) (bind_gives _ _ _ _ (integer_gives Length (pos 1)) (bind_gives _ _ _ _ (integer_gives Bytes (pos 1)) (seq_gives _ _ _ (pure_gives _))))
 
-  process_gives : Gives (process_at row) (process_in row.members)
-  unfolding process_at
+  process_gives : Gives (read_process row) (process_in row.members)
+  unfolding read_process
   process_gives =
       bind_gives _ _ _ _ (name_gives Name) (bind_gives _ _ _ _ (name_gives Node) (bind_gives _ _ _ _ (integer_gives Wcet (pos 1)) (bind_gives _ _ _ _ (integer_or_gives Parts (pos 1))
       (bind_gives _ _ _ _ (integer_or_gives Alpha (pos 0))
@@ -150,29 +150,29 @@ module _ (row : DocumentRow) where
       (bind_gives _ _ _ _ (flag_gives Frozen false)
       (bind_gives _ _ _ _ (integer_or_gives Release (pos 0)) (bind_gives _ _ _ _ (optional_gives as_integer row Deadline) (seq_gives _ _ _ (pure_gives _))))))))))))
 
-  edge_gives : Gives (edge_at row) (edge_in row.members)
-  unfolding edge_at
+  edge_gives : Gives (read_edge row) (edge_in row.members)
+  unfolding read_edge
   edge_gives = bind_gives _ _ _ _ (name_gives From)
       (bind_gives _ _ _ _ (name_gives To) (bind_gives _ _ _ _ (integer_or_gives Bytes (pos 1))
       (bind_gives _ _ _ _ (optional_gives as_bool row When) (bind_gives _ _ _ _ (flag_gives Frozen false) (seq_gives _ _ _ (pure_gives _))))))
 
 rows_give : {T : Type 0} (table : Table) (element_at : DocumentRow → Reading T) (element_in : Members → T) → ((row : DocumentRow) → Gives (element_at row) (element_in row.members)) →
-    (members : List Members) → Gives (rows_at table element_at members) (map element_in members)
+    (members : List Members) → Gives (read_rows table element_at members) (map element_in members)
 rows_give table element_at element_in gives members = each_gives (λ i ms. element_at (record { table = table; index = i; members = ms })) element_in
     (λ i ms. gives (record { table = table; index = i; members = ms })) 0 members
 
-graph_gives : (ms : Members) → Gives (raw_graph_at ms) (graph_in ms)
-unfolding raw_graph_at
+graph_gives : (ms : Members) → Gives (read_raw ms) (graph_in ms)
+unfolding read_raw
 graph_gives ms =
     bind_gives _ _ _ _ (integer_gives (top_of ms) Faults (pos 0)) (bind_gives _ _ _ _ (integer_gives (top_of ms) Deadline (pos 0))
     (bind_gives _ _ _ _ (list_gives (top_of ms) Node)
     (bind_gives _ _ _ _ (list_gives (top_of ms) Slot) (bind_gives _ _ _ _ (list_gives (top_of ms) Process) (bind_gives _ _ _ _ (list_gives (top_of ms) Edge)
     (bind_gives _ _ _ _ (optional_gives as_names (top_of ms) Order)
-    (seq_gives _ _ _ (bind_gives _ _ _ _ (rows_give tables.Node node_at node_in node_gives (elements ms Node))
-    (bind_gives _ _ _ _ (rows_give tables.Slot slot_at slot_in slot_gives (elements ms Slot))
-    (bind_gives _ _ _ _ (rows_give tables.Process process_at process_in process_gives (elements ms Process))
-    (bind_gives _ _ _ _ (rows_give tables.Edge edge_at edge_in edge_gives (elements ms Edge)) (pure_gives _))))))))))))
+    (seq_gives _ _ _ (bind_gives _ _ _ _ (rows_give tables.Node read_node node_in node_gives (elements ms Node))
+    (bind_gives _ _ _ _ (rows_give tables.Slot read_slot slot_in slot_gives (elements ms Slot))
+    (bind_gives _ _ _ _ (rows_give tables.Process read_process process_in process_gives (elements ms Process))
+    (bind_gives _ _ _ _ (rows_give tables.Edge read_edge edge_in edge_gives (elements ms Edge)) (pure_gives _))))))))))))
 
 -- the graph that is read is the one of the document
-pub graph_is : (ms : Members) (g : RawGraph) → raw_graph_at ms ≡ Ok g → g ≡ graph_in ms
+pub graph_is : (ms : Members) (g : RawGraph) → read_raw ms ≡ Ok g → g ≡ graph_in ms
 graph_is ms g e = (graph_gives ms).is g e

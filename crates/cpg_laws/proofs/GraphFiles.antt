@@ -20,12 +20,12 @@ use Rattle.cpg_reader.specs.declared.shape.RawSlot.{RawSlot}
 use Rattle.cpg_reader.specs.declared.shape.RawProcess.{RawProcess}
 use Rattle.cpg_reader.specs.declared.shape.RawEdge.{RawEdge}
 use Rattle.cpg_reader.specs.Reading.{Reading, pure, done, ◌>>=◌, ◌>>◌, each}
-use Rattle.cpg_reader.specs.Rows.{DocumentRow, place_in, bad, value_at, as_name, as_names, as_tables, are_listed, typed_in, optional_in, optional, required_in, required, with_default, only, name_at}
-use Rattle.cpg_reader.specs.Rows.{integer_at, integer_or, flag_or, tables_at}
-use Rattle.cpg_reader.specs.Shape.{RawGraph, node_at, slot_at, process_at, edge_at, rows_at, raw_graph_at}
+use Rattle.cpg_reader.specs.Rows.{DocumentRow, place_in, bad, value_at, as_name, as_names, as_tables, are_listed, typed_in, optional_in, optional, required_in, required, with_default, only, read_name}
+use Rattle.cpg_reader.specs.Rows.{read_integer, integer_or, flag_or, read_array}
+use Rattle.cpg_reader.specs.Shape.{RawGraph, read_node, read_slot, read_process, read_edge, read_rows, read_raw}
 use Rattle.cpg_reader.specs.Ranges.{top_numbers, slot_numbers, process_numbers, edge_numbers, is_within, in_range, all_in_range, at_most, sources, different, limits}
 use Rattle.cpg_reader.specs.Names.{place, name_place, apart_from, apart, known, number_of, slot_of, process_of, edge_of, ordered, order_of, order_apart, slot_names, process_names, resolved, graph_of}
-use Rattle.cpg_reader.specs.Document.{document_of, problem_at, problem_of}
+use Rattle.cpg_reader.specs.Document.{document_of, read_members, problem_of}
 use Rattle.cpg_laws.specs.GraphFiles.{unless, of_each, Field, is_good_value, needed_name, needed_integer, list, node_fields, slot_fields, process_fields, edge_fields, bad_in, top_of, elements}
 use Rattle.cpg_laws.specs.GraphFiles.{bad_elements, field_faults, too_many, out_of_range, limit_faults, doubles_from, differ_from, order_place, order_doubles, double_faults, is_known, order_unknowns}
 use Rattle.cpg_laws.specs.GraphFiles.{unknown, unknown_ends, unknown_faults, graph_faults, document_faults, IsFirst, GraphFilesShowFirstFaults}
@@ -130,32 +130,32 @@ module _ (row : DocumentRow) where
       by true = (tt, refl)
       by false = refl
 
-  name_first : (key : Key) → IsFirst (unless (is_good_value (needed_name key) (value_at row key)) (BadField (place_in row key))) (name_at row key)
-  unfolding name_at
+  name_first : (key : Key) → IsFirst (unless (is_good_value (needed_name key) (value_at row key)) (BadField (place_in row key))) (read_name row key)
+  unfolding read_name
   name_first key = required_first row key as_name
 
-  integer_first : (key : Key) → IsFirst (unless (is_good_value (needed_integer key) (value_at row key)) (BadField (place_in row key))) (integer_at row key)
-  unfolding integer_at
+  integer_first : (key : Key) → IsFirst (unless (is_good_value (needed_integer key) (value_at row key)) (BadField (place_in row key))) (read_integer row key)
+  unfolding read_integer
   integer_first key = required_first row key as_integer
 
-  list_first : (key : Key) → IsFirst (unless (is_good_value (list key) (value_at row key)) (BadField (place_in row key))) (tables_at row key)
-  unfolding tables_at
+  list_first : (key : Key) → IsFirst (unless (is_good_value (list key) (value_at row key)) (BadField (place_in row key))) (read_array row key)
+  unfolding read_array
   list_first key = default_first row key as_tables []
 
 -- ---- elements
 
 module _ (row : DocumentRow) where
-  node_first : IsFirst (bad_in node_fields row) (node_at row)
-  unfolding node_at
+  node_first : IsFirst (bad_in node_fields row) (read_node row)
+  unfolding read_node
   node_first = bind _ _ _ _ (name_first row Name) (λ name _. seq_last _ _ _ (only_first row (Name ∷ [])))
 
-  slot_first : IsFirst (bad_in slot_fields row) (slot_at row)
-  unfolding slot_at
+  slot_first : IsFirst (bad_in slot_fields row) (read_slot row)
+  unfolding read_slot
   slot_first = bind _ _ _ _ (name_first row Node)
       (λ node _. bind _ _ _ _ (integer_first row Length) (λ length _. bind _ _ _ _ (integer_first row Bytes) (λ bytes _. seq_last _ _ _ (only_first row (Node ∷ Length ∷ Bytes ∷ [])))))
 
-  process_first : IsFirst (bad_in process_fields row) (process_at row)
-  unfolding process_at integer_or flag_or
+  process_first : IsFirst (bad_in process_fields row) (read_process row)
+  unfolding read_process integer_or flag_or
   process_first = bind _ _ _ _ (name_first row Name)
       (λ name _. bind _ _ _ _ (name_first row Node)
       (λ node _. bind _ _ _ _ (integer_first row Wcet)
@@ -169,8 +169,8 @@ module _ (row : DocumentRow) where
       (λ release _. bind _ _ _ _ (optional_first row Deadline as_integer)
       (λ deadline _. seq_last _ _ _ (only_first row (Name ∷ Node ∷ Wcet ∷ Parts ∷ Alpha ∷ Chi ∷ Mu ∷ Join ∷ Frozen ∷ Release ∷ Deadline ∷ [])))))))))))))
 
-  edge_first : IsFirst (bad_in edge_fields row) (edge_at row)
-  unfolding edge_at integer_or flag_or
+  edge_first : IsFirst (bad_in edge_fields row) (read_edge row)
+  unfolding read_edge integer_or flag_or
   edge_first = bind _ _ _ _ (name_first row From)
       (λ from _. bind _ _ _ _ (name_first row To)
       (λ to _. bind _ _ _ _ (default_first row Bytes as_integer (pos 1))
@@ -178,20 +178,20 @@ module _ (row : DocumentRow) where
       (λ when _. bind _ _ _ _ (default_first row Frozen as_bool false) (λ frozen _. seq_last _ _ _ (only_first row (From ∷ To ∷ Bytes ∷ When ∷ Frozen ∷ [])))))))
 
 rows_first : {T : Type 0} (table : Table) (fields : List Field) (element_at : DocumentRow → Reading T) → ((row : DocumentRow) → IsFirst (bad_in fields row) (element_at row)) →
-    (members : List Members) → IsFirst (bad_elements table fields members) (rows_at table element_at members)
+    (members : List Members) → IsFirst (bad_elements table fields members) (read_rows table element_at members)
 rows_first table fields element_at first members = each_first (λ i ms. bad_in fields (record { table = table; index = i; members = ms }))
     (λ i ms. element_at (record { table = table; index = i; members = ms })) (λ i ms. first (record { table = table; index = i; members = ms })) 0 members
 
 -- the elements that are read are those of the document
 rows_of : {T : Type 0} (ms : Members) (key : Key) (table : Table) (fields : List Field) (element_at : DocumentRow → Reading T) → ((row : DocumentRow) → IsFirst (bad_in fields row) (element_at row)) →
-    (members : List Members) → tables_at (top_of ms) key ≡ Ok members →
-    IsFirst (bad_elements table fields (elements ms key)) (rows_at table element_at members)
-unfolding tables_at
-rows_of ms key table fields element_at first members e = subst (λ rows. IsFirst (bad_elements table fields rows) (rows_at table element_at members))
+    (members : List Members) → read_array (top_of ms) key ≡ Ok members →
+    IsFirst (bad_elements table fields (elements ms key)) (read_rows table element_at members)
+unfolding read_array
+rows_of ms key table fields element_at first members e = subst (λ rows. IsFirst (bad_elements table fields rows) (read_rows table element_at members))
     (default_is (top_of ms) key as_tables [] members e) (rows_first table fields element_at first members)
 
-pub fields_first : (ms : Members) → IsFirst (field_faults ms) (raw_graph_at ms)
-unfolding raw_graph_at
+pub fields_first : (ms : Members) → IsFirst (field_faults ms) (read_raw ms)
+unfolding read_raw
 fields_first ms =
     bind_within _ _ _ _ _ (integer_first (top_of ms) Faults) (λ faults e1.
     bind_within _ _ _ _ _ (integer_first (top_of ms) Deadline) (λ deadline e2.
@@ -201,10 +201,10 @@ fields_first ms =
     bind_within _ _ _ _ _ (list_first (top_of ms) Edge) (λ edge_tables edges_are.
     bind_within _ _ _ _ _ (optional_first (top_of ms) Order as_names) (λ order e6.
     seq _ _ _ _ (only_first (top_of ms) (Faults ∷ Deadline ∷ Node ∷ Slot ∷ Process ∷ Edge ∷ Order ∷ []))
-    (bind _ _ _ _ (rows_of ms Node tables.Node node_fields node_at node_first node_tables nodes_are) (λ nodes e3.
-    bind _ _ _ _ (rows_of ms Slot tables.Slot slot_fields slot_at slot_first slot_tables slots_are) (λ slots e4.
-    bind _ _ _ _ (rows_of ms Process tables.Process process_fields process_at process_first process_tables processes_are) (λ processes e5.
-    bind_last _ _ _ (rows_of ms Edge tables.Edge edge_fields edge_at edge_first edge_tables edges_are))))))))))))
+    (bind _ _ _ _ (rows_of ms Node tables.Node node_fields read_node node_first node_tables nodes_are) (λ nodes e3.
+    bind _ _ _ _ (rows_of ms Slot tables.Slot slot_fields read_slot slot_first slot_tables slots_are) (λ slots e4.
+    bind _ _ _ _ (rows_of ms Process tables.Process process_fields read_process process_first process_tables processes_are) (λ processes e5.
+    bind_last _ _ _ (rows_of ms Edge tables.Edge edge_fields read_edge edge_first edge_tables edges_are))))))))))))
 
 -- ---- limits
 
@@ -325,13 +325,13 @@ names_first g =
 
 -- ---- the whole
 
-problem_first : (ms : Members) → IsFirst (field_faults ms ++ graph_faults (raw_graph_at ms)) (problem_at ms)
-unfolding problem_at
-problem_first ms = bind (field_faults ms) (graph_faults (raw_graph_at ms)) (raw_graph_at ms) (λ g. limits g >> graph_of g) (fields_first ms)
+problem_first : (ms : Members) → IsFirst (field_faults ms ++ graph_faults (read_raw ms)) (read_members ms)
+unfolding read_members
+problem_first ms = bind (field_faults ms) (graph_faults (read_raw ms)) (read_raw ms) (λ g. limits g >> graph_of g) (fields_first ms)
     (λ g e. subst (λ z. IsFirst (graph_faults z) (limits g >> graph_of g)) (sym e)
     (seq (limit_faults g) (double_faults g ++ unknown_faults g) (limits g) (graph_of g) (limits_first g) (names_first g)))
 
-document_first : (r : Reading Members) → IsFirst (document_faults r) (r >>= problem_at)
+document_first : (r : Reading Members) → IsFirst (document_faults r) (r >>= read_members)
 document_first (Err fault) = refl
 document_first (Ok ms) = problem_first ms
 

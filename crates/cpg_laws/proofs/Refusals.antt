@@ -17,7 +17,7 @@ use Rattle.cpg_reader.specs.declared.ranges.BoundedField.{BoundedField}
 use Rattle.cpg_reader.specs.declared.shape.RawEdge.{RawEdge}
 use Rattle.cpg_reader.specs.Reading.{Reading}
 use Rattle.cpg_reader.specs.Rows.{DocumentRow, place_in, value_at, are_listed}
-use Rattle.cpg_reader.specs.Shape.{RawGraph, raw_graph_at}
+use Rattle.cpg_reader.specs.Shape.{RawGraph, read_raw}
 use Rattle.cpg_reader.specs.Ranges.{top_numbers, slot_numbers, process_numbers, edge_numbers, is_within, sources, different}
 use Rattle.cpg_reader.specs.Names.{place, slot_names, process_names}
 use Rattle.cpg_reader.specs.Document.{document_of, problem_of}
@@ -221,8 +221,8 @@ is_some_kind OutOfMemory = inl (omega arith)
 
 document_faults_rise : (r : Reading Members) → Rise [] (document_faults r) (6 ∷ [])
 document_faults_rise (Err fault) = (tt, is_some_kind fault)
-document_faults_rise (Ok ms) = joined [] (2 ∷ []) (6 ∷ []) (field_faults ms) (graph_faults (raw_graph_at ms)) (from_below [] (1 ∷ []) (2 ∷ []) (field_faults ms) tt (field_faults_rise ms))
-    (graph_faults_rise (raw_graph_at ms))
+document_faults_rise (Ok ms) = joined [] (2 ∷ []) (6 ∷ []) (field_faults ms) (graph_faults (read_raw ms)) (from_below [] (1 ∷ []) (2 ∷ []) (field_faults ms) tt (field_faults_rise ms))
+    (graph_faults_rise (read_raw ms))
 
 -- ---- what stands in a list that rises
 

@@ -16,7 +16,7 @@ use Rattle.cpg_reader.specs.declared.ranges.BoundedField.{BoundedField}
 use Rattle.cpg_reader.specs.declared.shape.RawEdge.{RawEdge}
 use Rattle.cpg_reader.specs.Reading.{Reading}
 use Rattle.cpg_reader.specs.Rows.{DocumentRow, place_in, value_at, as_name, as_names, as_tables, are_listed}
-use Rattle.cpg_reader.specs.Shape.{RawGraph, raw_graph_at}
+use Rattle.cpg_reader.specs.Shape.{RawGraph, read_raw}
 use Rattle.cpg_reader.specs.Ranges.{top_numbers, slot_numbers, process_numbers, edge_numbers, is_within, sources, different}
 use Rattle.cpg_reader.specs.Names.{place, slot_names, process_names}
 use Rattle.cpg_reader.specs.Document.{document_of, problem_of}
@@ -198,7 +198,7 @@ graph_faults (Ok g) = limit_faults g ++ (double_faults g ++ unknown_faults g)
 -- a document is judged if the bytes are one
 abbrev pub document_faults : Reading Members → List ReadFault
 document_faults (Err fault) = fault ∷ []
-document_faults (Ok ms) = field_faults ms ++ graph_faults (raw_graph_at ms)
+document_faults (Ok ms) = field_faults ms ++ graph_faults (read_raw ms)
 
 abbrev pub faults_of : List ℕ → List ReadFault
 faults_of bytes = document_faults (document_of bytes)

@@ -12,9 +12,9 @@ use Rattle.cpg_base.specs.Variable.{top}
 use Rattle.cpg_cube.specs.declared.literal.Literal.{Literal}
 use Rattle.cpg_merging.specs.Merged.{AreWithin}
 use Rattle.cpg_cube.specs.Column.{Column, times_in}
-use Rattle.cpg_run.specs.Carried.{told_by}
+use Rattle.cpg_run.specs.Carried.{carried_by_row}
 use Rattle.cpg_list.specs.Learning.{Within, heard_of, received_by}
-use Rattle.cpg_list.specs.Narrowing.{told_in, IsNarrowed}
+use Rattle.cpg_list.specs.Narrowing.{carried_in_columns, IsNarrowed}
 use Rattle.cpg_list.proofs.CodeCubes.{narrowed_none, narrowed_then}
 use Rattle.cpg_run.proofs.EntriesMerge.{the_one}
 
@@ -25,10 +25,10 @@ no_element f (x ∷ xs) e = absurd (omega (arith, ap length e))
 -- ---- the column that matches
 
 module _ (columns : List Column) (s : Scenario) where
-  pub told_none : times_in columns s ≡ [] → told_in columns s ≡ []
+  pub told_none : times_in columns s ≡ [] → carried_in_columns columns s ≡ []
   told_none e = ap (flat_map (λ (c : Column). c.cube)) (no_element (λ (c : Column). c.time) (filter (λ (c : Column). matches c.cube s) columns) e)
 
-  pub told_highs : (k : ℕ) → AreWithin k columns → (l : Literal) → Contains (told_in columns s) l → l.high ≤ top k l.variable
+  pub told_highs : (k : ℕ) → AreWithin k columns → (l : Literal) → Contains (carried_in_columns columns s) l → l.high ≤ top k l.variable
   told_highs k within l j =
       let r = Contains-flat_map_parts (λ (c : Column). c.cube) (filter (λ (c : Column). matches c.cube s) columns) l j in
       let q = Contains-filter_parts (λ (c : Column). matches c.cube s) columns r.0 r.1 in
@@ -36,7 +36,7 @@ module _ (columns : List Column) (s : Scenario) where
       (All-contains (λ (c : Column). (i : ℕ) (d : Literal) → i < length c.cube → (get_or c.cube i d).high ≤ top k (get_or c.cube i d).variable) columns r.0 within q.0) r.2
 
   module _ (time : ℕ) (one : times_in columns s ≡ time ∷ []) where
-    pub told_found : (i : ℕ) (c : Column) → i < length columns → c ≡ get_or columns i c → matches c.cube s ≡ true → told_in columns s ≡ c.cube
+    pub told_found : (i : ℕ) (c : Column) → i < length columns → c ≡ get_or columns i c → matches c.cube s ≡ true → carried_in_columns columns s ≡ c.cube
     told_found i c l is hit =
         let f = filter (λ (c : Column). matches c.cube s) columns in
         let k = Contains-filter (λ (c : Column). matches c.cube s) columns c hit (i, l, sym is) in

@@ -4,7 +4,7 @@ use Rattle.cpg_base.specs.Graph.{Graph, inputs, broadcast_item, message_item}
 use Rattle.cpg_cube.specs.Column.{Column}
 use Rattle.cpg_cube.specs.declared.literal.Literal.{Literal}
 use Rattle.cpg_order.specs.Deciding.{deciding}
-use Rattle.cpg_run.specs.Carried.{told_by, decided, heard, received, passed}
+use Rattle.cpg_run.specs.Carried.{carried_by_row, decided, heard, received, passed}
 use Rattle.cpg_run.specs.Found.{columns_of_rows}
 use Rattle.cpg_run.specs.Rows.{IsCubeOf}
 use Rattle.cpg_list.specs.Learning.{RowTells, heard_of, received_by, received_unless_frozen, start_after}

@@ -12,7 +12,7 @@ use Rattle.cpg_run.specs.Run.{Times}
 use Rattle.cpg_merging.specs.Merged.{AreWithin}
 use Rattle.cpg_cube.specs.Column.{Column, times_in}
 use Rattle.cpg_run.specs.Rows.{IsCubeOf}
-use Rattle.cpg_run.specs.Carried.{row_at, told_by, decided, heard, received, sent_by_value}
+use Rattle.cpg_run.specs.Carried.{row_at, carried_by_row, decided, heard, received, sent_by_value}
 
 -- the columns of an item that match in a scenario have its time there, and no range goes past the whole one
 pub record RowTells (g : Graph) (rows : List (List Column)) (s : Scenario) (t : Times) (x : ℕ) : Type 0 where
@@ -31,11 +31,11 @@ pub record AreDeciding (g : Graph) (s : Scenario) (p : ℕ) (conditions : List �
 
 -- what a node hears of a condition: nothing of its own
 abbrev pub heard_of : Graph → List (List Column) → Scenario → ℕ → ℕ → List Literal
-heard_of g rows s node c = if node_of g (process_of g c) == node then [] else told_by rows s (broadcast_item g c)
+heard_of g rows s node c = if node_of g (process_of g c) == node then [] else carried_by_row rows s (broadcast_item g c)
 
 -- what a node receives by an edge: nothing from itself
 abbrev pub received_by : Graph → List (List Column) → Scenario → ℕ → List Literal
-received_by g rows s e = if is_message g e then told_by rows s (message_item g e) else []
+received_by g rows s e = if is_message g e then carried_by_row rows s (message_item g e) else []
 
 -- what is carried beside a start, if these literals were carried before
 abbrev pub start_after : Graph → List (List Column) → Scenario → ℕ → List Literal → List Literal

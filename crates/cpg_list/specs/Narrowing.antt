@@ -20,8 +20,8 @@ pub record IsNarrowed (k : ℕ) (literals old new : List Literal) : Type 0 where
   pub by : (known : List Literal) → IsCubeOf k known old → IsCubeOf k (known ++ literals) new
 
 -- the literals of the columns that match
-abbrev pub told_in : List Column → Scenario → List Literal
-told_in columns s = flat_map (λ c. c.cube) (filter (λ c. matches c.cube s) columns)
+abbrev pub carried_in_columns : List Column → Scenario → List Literal
+carried_in_columns columns s = flat_map (λ c. c.cube) (filter (λ c. matches c.cube s) columns)
 
 -- the literals of a cube on a variable and on those above
 abbrev pub from_variable : ℕ → List Literal → List Literal

@@ -91,7 +91,7 @@ pub(crate) fn narrow_to_number(
     requires { IsScenario problem.now scenario.now }
     ensures { OnOk result (IsNarrowed problem.now.faults (number_known scenario.now variable ∷ []) cube.old cube.new) }
 {
-    // its clause tells that the graph is within its limits
+    // called for its contract: the graph is within its limits
     let _processes = problem.processes();
     let number = scenario.number(variable);
     let literal = Literal {

@@ -7,10 +7,10 @@ ghost use Rattle.cpg_base.specs.Scenario.{IsScenario};
 ghost use Rattle.cpg_bus.specs.Plan.{plan_of};
 ghost use Rattle.cpg_cube.specs.Cube.{matches};
 ghost use Rattle.cpg_cube.specs.Column.{times_in};
-ghost use Rattle.cpg_run.specs.Carried.{told_by, number_known, decided};
+ghost use Rattle.cpg_run.specs.Carried.{carried_by_row, number_known, decided};
 ghost use Rattle.cpg_list.specs.Frames.{IsNarrowedIn, Tells, TellsDeciding, TellsInputs, heard_at, heard_in, received_at, received_in, rows_in};
 ghost use Rattle.cpg_list.specs.Learning.{AreDeciding};
-ghost use Rattle.cpg_list.specs.Narrowing.{IsNarrowed, met, told_in};
+ghost use Rattle.cpg_list.specs.Narrowing.{IsNarrowed, met, carried_in_columns};
 
 use crate::cubes::{narrow, narrow_to_number};
 use crate::items::row_of;
@@ -43,7 +43,7 @@ pub(crate) fn deciding(
     requires process { process < process_count admitted.now.graph }
     ensures { IfOk result (λ conditions. AreDeciding admitted.now.graph scenario.now process conditions.items) }
 {
-    // its clause tells that the graph is admitted
+    // called for its contract: the graph is admitted
     let _order = admitted.order();
     let guards = admitted.guards();
     let conditions = guards.deciding(alloc, process, scenario)?;
@@ -120,7 +120,7 @@ fn narrow_by_told(
     cube: &mut Cube,
 ) -> Result<(), OutOfMemory>
     requires { times_in row.now.columns scenario.now ≡ option_to_list time }
-    ensures { OnOk result (cube.new ≡ met cube.old (told_in row.now.columns scenario.now)) }
+    ensures { OnOk result (cube.new ≡ met cube.old (carried_in_columns row.now.columns scenario.now)) }
 {
     let Some(time) = time else {
         return Ok(());
@@ -143,7 +143,7 @@ fn narrow_by_frame(
     cube: &mut Cube,
 ) -> Result<(), OutOfMemory>
     requires { Tells frames.now.problem.now frames.now item }
-    ensures { OnOk result (IsNarrowedIn frames.now (told_by (rows_in frames.now) frames.now.scenario.now item) cube.old cube.new) }
+    ensures { OnOk result (IsNarrowedIn frames.now (carried_by_row (rows_in frames.now) frames.now.scenario.now item) cube.old cube.new) }
 {
     let row = row_of(frames.rows, item);
     let time = frames.times.time(item);

@@ -7,7 +7,7 @@ ghost use Rattle.cpg_cube.specs.Fit.{lows};
 ghost use Rattle.cpg_list.specs.Narrowing.{from_variable, front_low, as_number, IsLeastEntry};
 
 use cpg_base::{FIRST_VALUE, OutOfMemory, Problem, Scenario};
-use cpg_cube::{Cube, Entry, Literal};
+use cpg_cube::{Column, Cube, Literal};
 
 /// The literals on a variable and on those above.
 fn from_variable(variable: u8, literals: &[Literal]) -> &[Literal]
@@ -76,7 +76,7 @@ pub(crate) fn kept(
     scenario: &Scenario,
     time: u64,
     cube: &Cube,
-) -> Result<Option<Entry>, OutOfMemory>
+) -> Result<Option<Column>, OutOfMemory>
     requires { IsScenario problem.now scenario.now }
     ensures { IfOk result (IsLeastEntry problem.now scenario.now time cube.now) }
 {
@@ -84,11 +84,14 @@ pub(crate) fn kept(
         return Ok(None);
     }
     let cube = cube.copy()?;
-    Ok(Some(Entry { time, cube }))
+    Ok(Some(Column { time, cube }))
 }
 
 /// Adds an entry, if there is one.
-pub(crate) fn push_entry(entries: &mut Vec<Entry>, entry: Option<Entry>) -> Result<(), OutOfMemory>
+pub(crate) fn push_entry(
+    entries: &mut Vec<Column>,
+    entry: Option<Column>,
+) -> Result<(), OutOfMemory>
     ensures { OnOk result (entries.new.items ≡ entries.old.items ++ option_to_list entry) }
 {
     if let Some(entry) = entry {

@@ -62,7 +62,7 @@ fn measured(
     requires tables { AreTablesOfRows admitted.now.graph admitted.now.order order.now frozen tables }
     ensures { IfOk result (λ built. IsBuiltFor admitted.now.graph admitted.now.order order.now built) }
 {
-    // its clause tells that the graph is admitted
+    // called for its contract: the graph is admitted
     let _problem = admitted.problem();
     let worst = worst(alloc, admitted, scenarios, runs)?;
     let excess = excess(alloc, admitted, scenarios, runs)?;
@@ -92,7 +92,7 @@ fn swept(
     requires scenarios { AreScenarios admitted.now.graph scenarios.now }
     ensures { IfOk result (λ built. IsBuiltFor admitted.now.graph admitted.now.order order.now built) }
 {
-    // its clause tells that the graph is admitted
+    // called for its contract: the graph is admitted
     let _problem = admitted.problem();
     let firsts = first_alike(alloc, admitted, scenarios)?;
     let firsts = firsts.as_slice();

@@ -22,7 +22,7 @@ use crate::state::{Cubes, whole_by_node};
 use crate::timed::{TimedRow, to_rows};
 use cpg_base::{Order, OutOfMemory, Scenario};
 use cpg_bus::Plan;
-use cpg_cube::Entry;
+use cpg_cube::Column;
 use cpg_merging::merged;
 use cpg_rules::Admitted;
 use cpg_run::{FrozenTimes, RunTimes};
@@ -34,7 +34,7 @@ fn set_row(
     alloc: Global,
     admitted: &Admitted,
     item: u32,
-    entries: Vec<Entry>,
+    entries: Vec<Column>,
     rows: &mut Vec<TimedRow>,
 ) -> Result<(), OutOfMemory>
     requires item { item < length rows.old.items }
@@ -115,7 +115,7 @@ fn make_start(
     ensures made { OnOk result (HasMadeStart listed.now process rows.new.items) }
     ensures same { OnOk result (KeepsEarlier listed.now process rows.old.items rows.new.items) }
 {
-    // its clause tells that the graph is admitted
+    // called for its contract: the graph is admitted
     let _problem = listed.admitted.problem();
     let entries = start_entries(alloc, listed, rows.as_slice(), process, known)?;
     set_row(alloc, listed.admitted, process, entries, rows)?;

@@ -20,7 +20,7 @@ use crate::scenario_runs::Listed;
 use crate::state::Cubes;
 use crate::timed::TimedRow;
 use cpg_base::{Item, OutOfMemory, Problem, Scenario};
-use cpg_cube::{Cube, Entry};
+use cpg_cube::{Column, Cube};
 use cpg_rules::Admitted;
 use cpg_run::RunTimes;
 use std::alloc::Global;
@@ -140,7 +140,7 @@ fn send_frozen(
     process: u32,
     item: u32,
     sent: &mut Cube,
-) -> Result<Option<Entry>, OutOfMemory>
+) -> Result<Option<Column>, OutOfMemory>
     requires scenario { IsScenario admitted.now.graph scenario.now }
     requires process { process < process_count admitted.now.graph }
     requires item { Contains (queue_of admitted.now.graph process) item }
@@ -167,7 +167,7 @@ fn send_plain(
     sending: Sending,
     end: &Cube,
     sent: &mut Cube,
-) -> Result<Option<Entry>, OutOfMemory>
+) -> Result<Option<Column>, OutOfMemory>
     requires scenario { IsScenario problem.now scenario.now }
     requires process { sending.process < process_count problem.now }
     requires item { Contains (queue_of problem.now sending.process) sending.item }
@@ -197,7 +197,7 @@ fn send_in(
     sending: Sending,
     end: &Cube,
     sent: &mut Cube,
-) -> Result<Option<Entry>, OutOfMemory>
+) -> Result<Option<Column>, OutOfMemory>
     requires scenario { IsScenario admitted.now.graph scenario.now }
     requires process { sending.process < process_count admitted.now.graph }
     requires item { Contains (queue_of admitted.now.graph sending.process) sending.item }
@@ -235,7 +235,7 @@ pub(crate) fn send_entries(
     item: u32,
     ends: &Cubes,
     sent: &mut Cubes,
-) -> Result<Vec<Entry>, OutOfMemory>
+) -> Result<Vec<Column>, OutOfMemory>
     requires listed { IsListed listed.now }
     requires process { process < process_count (graph_of listed.now) }
     requires item { Contains (queue_of (graph_of listed.now) process) item }

@@ -18,7 +18,7 @@ use crate::scenario_runs::Listed;
 use crate::state::Cubes;
 use crate::timed::{Hints, TimedRow};
 use cpg_base::{OutOfMemory, Problem, Scenario};
-use cpg_cube::{Cube, Entry};
+use cpg_cube::{Column, Cube};
 use cpg_rules::Admitted;
 use std::alloc::Global;
 
@@ -30,7 +30,7 @@ fn frozen_start(
     time: u64,
     process: u32,
     conditions: &[u32],
-) -> Result<Option<Entry>, OutOfMemory>
+) -> Result<Option<Column>, OutOfMemory>
     requires scenario { IsScenario problem.now scenario.now }
     requires conditions { AreDeciding problem.now scenario.now process conditions.now }
     ensures { IfOk result (IsKeptOf problem.now scenario.now time (decided problem.now scenario.now process)) }
@@ -52,7 +52,7 @@ fn started(
     process: u32,
     conditions: &[u32],
     cube: &mut Cube,
-) -> Result<Option<Entry>, OutOfMemory>
+) -> Result<Option<Column>, OutOfMemory>
     requires plan { frames.now.plan.now ≡ plan_of frames.now.problem.now }
     requires scenario { IsScenario frames.now.problem.now frames.now.scenario.now }
     requires process { process < process_count frames.now.problem.now }
@@ -80,7 +80,7 @@ fn start_in(
     hints: &mut Hints,
     process: u32,
     cube: &mut Cube,
-) -> Result<Option<Entry>, OutOfMemory>
+) -> Result<Option<Column>, OutOfMemory>
     requires graph { frames.now.problem.now ≡ admitted.now.graph }
     requires plan { frames.now.plan.now ≡ plan_of admitted.now.graph }
     requires scenario { IsScenario admitted.now.graph frames.now.scenario.now }
@@ -92,7 +92,7 @@ fn start_in(
         → IsStartIn admitted.now.graph frames.now process earlier r) }
     ensures carried { OnOk result (IsPassedIn admitted.now.graph frames.now process cube.old cube.new) }
 {
-    // its clause tells that the graph is admitted
+    // called for its contract: the graph is admitted
     let _problem = admitted.problem();
     let (problem, scenario) = (frames.problem, frames.scenario);
     let conditions = deciding(alloc, admitted, scenario, process)?;
@@ -115,7 +115,7 @@ pub(crate) fn start_entries(
     rows: &[TimedRow],
     process: u32,
     known: &mut Cubes,
-) -> Result<Vec<Entry>, OutOfMemory>
+) -> Result<Vec<Column>, OutOfMemory>
     requires listed { IsListed listed.now }
     requires process { process < process_count (graph_of listed.now) }
     requires told { RowsTell listed.now rows.now process }

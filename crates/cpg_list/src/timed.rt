@@ -3,7 +3,7 @@ ghost use Rattle.std.specs.Prelude.{◌≡◌, ◌<◌, ◌≤◌, ℕ, [], IfOk
 ghost use Rattle.cpg_list.specs.TimeOrder.{TimedColumn, IsTimeOrder, StartsAt, FindsHit};
 
 use cpg_base::{OutOfMemory, Scenario};
-use cpg_cube::Entry;
+use cpg_cube::Column;
 use cpg_table::Row;
 use std::alloc::Global;
 use std::marker::Model;
@@ -22,7 +22,7 @@ pub(crate) struct TimedColumn {
 #[derive(Drop)]
 pub(crate) struct TimedRow {
     item: u32,
-    columns: Vec<Entry>,
+    columns: Vec<Column>,
     by_time: Vec<TimedColumn>,
 }
 
@@ -46,7 +46,7 @@ fn first_at(by_time: &[TimedColumn], time: u64) -> usize
 }
 
 /// The times and places of columns, by time.
-fn ordered_by_time(alloc: Global, columns: &[Entry]) -> Result<Vec<TimedColumn>, OutOfMemory>
+fn ordered_by_time(alloc: Global, columns: &[Column]) -> Result<Vec<TimedColumn>, OutOfMemory>
     ensures { IfOk result (λ by_time. IsTimeOrder columns.now by_time.items) }
 {
     let mut by_time = Vec::new(alloc);
@@ -89,7 +89,7 @@ impl Hints {
 }
 
 /// Whether the column at a place has a time and matches, if there is one.
-fn is_hit(columns: &[Entry], place: usize, time: u64, scenario: &Scenario) -> bool
+fn is_hit(columns: &[Column], place: usize, time: u64, scenario: &Scenario) -> bool
     ensures { IsTrue result → FindsHit columns.now time scenario.now (Some place) }
 {
     match columns.get(place) {
@@ -99,7 +99,7 @@ fn is_hit(columns: &[Entry], place: usize, time: u64, scenario: &Scenario) -> bo
 }
 
 /// The place of a column of a time that matches.
-fn hit(columns: &[Entry], by_time: &[TimedColumn], time: u64, scenario: &Scenario) -> Option<usize>
+fn hit(columns: &[Column], by_time: &[TimedColumn], time: u64, scenario: &Scenario) -> Option<usize>
     requires { IsTimeOrder columns.now by_time.now }
     ensures { FindsHit columns.now time scenario.now result }
 {
@@ -121,7 +121,7 @@ impl TimedRow {
     pub(crate) fn new(
         alloc: Global,
         item: u32,
-        columns: Vec<Entry>,
+        columns: Vec<Column>,
     ) -> Result<TimedRow, OutOfMemory>
         ensures { IfOk result (λ row. row ≡ record { item = item; columns = columns.items }) }
     {
@@ -134,7 +134,7 @@ impl TimedRow {
     }
 
     /// The columns.
-    pub(crate) fn columns(&self) -> &[Entry]
+    pub(crate) fn columns(&self) -> &[Column]
         ensures { result.now ≡ self.now.columns }
     {
         self.columns.as_slice()

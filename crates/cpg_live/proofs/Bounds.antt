@@ -4,7 +4,7 @@ use Rattle.std.specs.Prelude.{is_some, nat_lt}
 use Rattle.std.proofs.lemmas.List.{length-append}
 use Rattle.cpg_table.specs.Table.{NodeTable}
 use Rattle.cpg_table.specs.Lawful.{column_count}
-use Rattle.cpg_node.specs.Dispatcher.{Ended, next, acts_of_turn, is_strange, hear, finished, opening}
+use Rattle.cpg_node.specs.Dispatcher.{Ended, next, acts_of_turn, is_strange, hear, finished, initial_dispatcher}
 use Rattle.cpg_node.specs.Instants.{entries_left}
 use Rattle.cpg_node.proofs.Rooms.{room_turn, room_open}
 use Rattle.cpg_live.specs.declared.bad.Why.{Why}
@@ -91,7 +91,7 @@ module _ (table : NodeTable) (most : ℕ) where
 after_few : (table : NodeTable) (bytes : List ℕ) → HasFew table (column_count table.sends + column_count table.starts) (after table bytes).progress
 after_few table bytes =
     let most = column_count table.sends + column_count table.starts in
-    let first : HasFew table most (start table) = record { same = refl; few = omega (arith, room_open (opening table)) } in
+    let first : HasFew table most (start table) = record { same = refl; few = omega (arith, room_open (initial_dispatcher table)) } in
     let s : LiveState = fold take_record (open_stream table) (cut bytes).whole in
     rest_few table most s (cut bytes).rest (records_few table most (open_stream table) (cut bytes).whole first)
 

@@ -11,7 +11,7 @@ use Rattle.cpg_base.proofs.Lists.{Contains-first, Contains-rest, Contains-cases,
 use Rattle.cpg_table.specs.Table.{NodeTable}
 use Rattle.cpg_table.specs.Lawful.{IsTable}
 use Rattle.cpg_node.specs.Dispatcher.{Dispatcher, Own, Range, Running, Ended, Frame, Act, zip_with, candidates, is_after, next, turn, acts_of_turn, heard_after, running_after, ends_in_turn}
-use Rattle.cpg_node.specs.Dispatcher.{with_report, hear_frame, is_strange, opening}
+use Rattle.cpg_node.specs.Dispatcher.{with_report, hear_frame, is_strange, initial_dispatcher}
 use Rattle.cpg_node.specs.State.{running_in, running_of, time_of}
 use Rattle.cpg_node.specs.Plan.{fixed_times}
 use Rattle.cpg_node.specs.Quiet.{awaited_end, awaited, next_awaited, TellsFew}
@@ -492,7 +492,7 @@ module _ (t : NodeTable) (made : IsTable t) where
   twins_open = record {
     limit = 0;
     pair = record {
-      heard = (opening t).heard;
+      heard = (initial_dispatcher t).heard;
       runs = replicate (length t.own) None;
       acts = [];
       l = None;

@@ -11,7 +11,7 @@ use Rattle.cpg_node.proofs.Next.{next_is}
 use Rattle.cpg_node.proofs.Turning.{next_reported}
 use Rattle.cpg_live.specs.declared.bad.Why.TheVariants.{Frame as StrangeFrame, End as FalseEnd}
 use Rattle.cpg_live.specs.Stream.{NodeProgress, Step, faulty, lawful, take_turn, instant_below, turn_if, turns_below, turned, may_tell, may_end_now, may_end, arrived, ended}
-use Rattle.cpg_live.specs.Told.{end_event, frame_event, follow_one, follow, after_last, HasCome, MayTell, told_ends, turn_events, TurnsAreFollowed, ClosesAreFollowed}
+use Rattle.cpg_live.specs.Told.{end_event, frame_event, follow_one, follow, after_last, HasCome, MayReport, after_reports, turn_events, TurnsAreFollowed, ClosesAreFollowed}
 use Rattle.cpg_live.proofs.Turns.{floor_after, below_or_not, still, turned_next, turned_last}
 
 -- turns below an earlier limit are among those below a later one
@@ -68,13 +68,13 @@ module _ (time : ℕ) (acts : List Act) where
       let most : e.0 ≤ time = subst (λ o. IfSome o (λ n. e.0 ≤ n)) n m.before in
       ap (ended e.0 e.1) (h e.0 le most) ∙ ap (λ b. cond b (lawful (at (finished d e.1) acts)) (faulty (at d acts) FalseEnd)) (may_end_is d e.0 e.1 m)
 
-  tell_ends : (es : List (ℕ × Ended)) (from : ℕ) (p : NodeProgress) (d : Dispatcher) → Holds from p d → next d ≡ Some time → from ≤ time → MayTell d from es →
-      Told (follow (lawful p) (map end_event es)) (told_ends d es)
+  tell_ends : (es : List (ℕ × Ended)) (from : ℕ) (p : NodeProgress) (d : Dispatcher) → Holds from p d → next d ≡ Some time → from ≤ time → MayReport d from es →
+      Told (follow (lawful p) (map end_event es)) (after_reports d es)
   tell_ends [] from p d h n le m = record { fault = refl; comes = n; from = from; within = le; hold = h }
   tell_ends (e ∷ es) from p d h n le m =
       let most : e.0 ≤ time = subst (λ o. IfSome o (λ n. e.0 ≤ n)) n (m.1.before) in
       let after : next (finished d e.1) ≡ Some time = next_reported e.1 d.table d.heard d.running d.last ∙ n in
-      subst (λ s. Told (follow s (map end_event es)) (told_ends (finished d e.1) es)) (sym (tell_end from p d e h n m.0 m.1))
+      subst (λ s. Told (follow s (map end_event es)) (after_reports (finished d e.1) es)) (sym (tell_end from p d e h n m.0 m.1))
       (tell_ends es e.0 (at (finished d e.1) acts) (finished d e.1) (itself e.0 (finished d e.1) after) after most m.2)
 
   tell_frame : (from : ℕ) (p : NodeProgress) (d : Dispatcher) (f : Frame) → Holds from p d → from ≤ time → is_strange d time f ≡ false →
@@ -93,18 +93,18 @@ module _ (time : ℕ) (acts : List Act) where
   whole : (s : Step) → s.fault ≡ None → lawful s.progress ≡ s
   whole s e = ap (λ o. record { progress = s.progress; fault = o }) (sym e)
 
-  tell_all : (p : NodeProgress) (d : Dispatcher) (reports : List (ℕ × Ended)) (frames : List Frame) → HasCome p d acts → next d ≡ Some time → MayTell d (after_last d.last) reports →
-      AllFine (told_ends d reports) time frames →
-      Told (follow (lawful p) (turn_events time reports frames)) (hear_all (told_ends d reports) frames)
+  tell_all : (p : NodeProgress) (d : Dispatcher) (reports : List (ℕ × Ended)) (frames : List Frame) → HasCome p d acts → next d ≡ Some time → MayReport d (after_last d.last) reports →
+      AllFine (after_reports d reports) time frames →
+      Told (follow (lawful p) (turn_events time reports frames)) (hear_all (after_reports d reports) frames)
   tell_all p d reports frames h n may fine =
       let soon : after_last d.last ≤ time = omega (arith, floor_after d.last time (next_is d time n).after) in
       let one = tell_ends reports (after_last d.last) p d (come p d h n) n soon may in
       let s : Step = follow (lawful p) (map end_event reports) in
-      let two = tell_frames frames one.from s.progress (told_ends d reports) one.hold one.comes one.within fine in
+      let two = tell_frames frames one.from s.progress (after_reports d reports) one.hold one.comes one.within fine in
       let joined : follow (lawful p) (turn_events time reports frames) ≡ follow s (map (frame_event time) frames) =
       fold-append follow_one (lawful p) (map end_event reports) (map (frame_event time) frames) in
-      subst (λ z. Told z (hear_all (told_ends d reports) frames)) (sym joined)
-      (subst (λ s. Told (follow s (map (frame_event time) frames)) (hear_all (told_ends d reports) frames)) (whole s one.fault) two)
+      subst (λ z. Told z (hear_all (after_reports d reports) frames)) (sym joined)
+      (subst (λ s. Told (follow s (map (frame_event time) frames)) (hear_all (after_reports d reports) frames)) (whole s one.fault) two)
 
   -- after a step without a fault the turn comes
   turn_comes : (s : Step) (d : Dispatcher) → Told s d → turned (time + 1) s.progress ≡ take_turn time (at d acts)
@@ -124,10 +124,10 @@ pub turns_are_followed : TurnsAreFollowed
 turns_are_followed p d acts time reports frames h n may fine fit =
     let s : Step = follow (lawful p) (turn_events time reports frames) in
     let k = tell_all time acts p d reports frames h n may fine in
-    let law = hearing_first_is_the_same (told_ends d reports) time [] frames fine fit in
+    let law = hearing_first_is_the_same (after_reports d reports) time [] frames fine fit in
     record {
       none = k.fault;
-      comes = turn_comes time acts s (hear_all (told_ends d reports) frames) k ∙ ap₂ at law.0 (ap (λ (more : List Act). acts ++ more) law.1);
+      comes = turn_comes time acts s (hear_all (after_reports d reports) frames) k ∙ ap₂ at law.0 (ap (λ (more : List Act). acts ++ more) law.1);
     }
 
 pub closes_are_followed : ClosesAreFollowed

@@ -1,7 +1,7 @@
 -- One node on a stream of records: what it does, and which record is the first unlawful one.
 use Rattle.std.specs.Prelude.{ℕ, zero, suc, ◌+◌, ◌-◌, ◌^◌, min, Bool, true, false, not, ◌&&◌, ◌||◌, nat_lt, nat_le, if◌then◌else◌, List, [], ◌++◌, Option, Some, None, is_some, is_none, fold, length, Result, Ok, Err}
 use Rattle.cpg_table.specs.Table.{NodeTable}
-use Rattle.cpg_node.specs.Dispatcher.{Dispatcher, Act, Ended, Frame, Running, opening, next, turn, acts_of_turn, hear, is_strange, finished, own_of}
+use Rattle.cpg_node.specs.Dispatcher.{Dispatcher, Act, Ended, Frame, Running, initial_dispatcher, next, turn, acts_of_turn, hear, is_strange, finished, own_of}
 use Rattle.cpg_node.specs.State.{running_of, time_of}
 use Rattle.cpg_live.specs.declared.event.Event.{Event}
 use Rattle.cpg_live.specs.declared.event.Event.TheVariants.{Frame as Arrival, End as Ending, Close}
@@ -17,7 +17,7 @@ pub record NodeProgress : Type 0 where
 
 -- a node before its first turn
 abbrev pub start : NodeTable → NodeProgress
-start table = record { dispatcher = opening table; acts = [] }
+start table = record { dispatcher = initial_dispatcher table; acts = [] }
 
 -- A turn that is given no ends and no frames, since the node has taken them before.
 

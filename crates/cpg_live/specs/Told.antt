@@ -38,13 +38,13 @@ abbrev pub HasCome : NodeProgress → Dispatcher → List Act → Type 0
 HasCome p d acts = turned (after_last d.last) p ≡ record { dispatcher = d; acts = acts }
 
 -- the node may take these reports one after another; they are in order of time, and none is before a moment
-abbrev pub MayTell : Dispatcher → ℕ → List (ℕ × Ended) → Type 0
-MayTell d from [] = Unit {0}
-MayTell d from (e ∷ es) = (from ≤ e.0) × MayFinish d e.0 e.1 × MayTell (finished d e.1) e.0 es
+abbrev pub MayReport : Dispatcher → ℕ → List (ℕ × Ended) → Type 0
+MayReport d from [] = Unit {0}
+MayReport d from (e ∷ es) = (from ≤ e.0) × MayFinish d e.0 e.1 × MayReport (finished d e.1) e.0 es
 
 -- the node after these reports
-abbrev pub told_ends : Dispatcher → List (ℕ × Ended) → Dispatcher
-told_ends d es = fold finished d (map {A = ℕ × Ended} {B = Ended} (λ e. e.1) es)
+abbrev pub after_reports : Dispatcher → List (ℕ × Ended) → Dispatcher
+after_reports d es = fold finished d (map {A = ℕ × Ended} {B = Ended} (λ e. e.1) es)
 
 -- the records of a node before and in a turn, in order of time
 abbrev pub turn_events : ℕ → List (ℕ × Ended) → List Frame → List (ℕ × Event)
@@ -53,13 +53,13 @@ turn_events time reports frames = map end_event reports ++ map (frame_event time
 -- the events are lawful, and lead to the node after the turn and to its acts
 pub record IsFollowed (p : NodeProgress) (d : Dispatcher) (acts : List Act) (time : ℕ) (reports : List (ℕ × Ended)) (frames : List Frame) : Type 0 where
   pub none : (follow (lawful p) (turn_events time reports frames)).fault ≡ None
-  pub comes : HasCome (follow (lawful p) (turn_events time reports frames)).progress (turn (told_ends d reports) time [] frames) (acts ++ acts_of_turn (told_ends d reports) time [] frames)
+  pub comes : HasCome (follow (lawful p) (turn_events time reports frames)).progress (turn (after_reports d reports) time [] frames) (acts ++ acts_of_turn (after_reports d reports) time [] frames)
 
 -- This holds for each turn whose reports the node may take, and whose frames aren't strange and contradict no end.
 abbrev pub TurnsAreFollowed : Type 0
 TurnsAreFollowed = (p : NodeProgress) (d : Dispatcher) (acts : List Act) (time : ℕ) (reports : List (ℕ × Ended)) (frames : List Frame) → HasCome p d acts → next d ≡ Some time →
-    MayTell d (after_last d.last) reports → AllFine (told_ends d reports) time frames →
-    ((e : Ended) → Contains (due_reports (told_ends d reports) time) e → EndFits (told_ends d reports).table (hear_all (told_ends d reports) frames).heard e) →
+    MayReport d (after_last d.last) reports → AllFine (after_reports d reports) time frames →
+    ((e : Ended) → Contains (due_reports (after_reports d reports) time) e → EndFits (after_reports d reports).table (hear_all (after_reports d reports) frames).heard e) →
     IsFollowed p d acts time reports frames
 
 -- A close that isn't before the last turn of a node with no next instant leaves just that node.

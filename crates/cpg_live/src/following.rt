@@ -3,7 +3,7 @@ ghost use Rattle.std.specs.Prelude.{◌≡◌, ◌+◌, ◌*◌, ◌≤◌, ◌<
 ghost use Rattle.cpg_history.specs.Fetch.{failed};
 ghost use Rattle.cpg_io.specs.Agreement.{LeavesRest};
 ghost use Rattle.cpg_io.specs.Causes.{HasCause, Rose};
-ghost use Rattle.cpg_io.specs.Shelf.{SameLeave, SameNames};
+ghost use Rattle.cpg_io.specs.Shelf.{SameAccess, SameNames};
 ghost use Rattle.cpg_io.specs.Sink.{Took, TookPrefix};
 ghost use Rattle.cpg_table.specs.Table.{table_at};
 ghost use Rattle.cpg_live.specs.Follower.{open_follower};
@@ -115,7 +115,7 @@ impl Follower {
         requires some { 0 < length buffer.old }
         requires few { self.old.read ≤ STREAM_LIMIT }
         ensures names { SameNames (S.state shelf.old) (S.state shelf.new) }
-        ensures leave { SameLeave (S.may_fetch shelf.old) (S.may_fetch shelf.new) }
+        ensures access { SameAccess (S.may_fetch shelf.old) (S.may_fetch shelf.new) }
         ensures rest { LeavesRest (S.state shelf.old) → LeavesRest (S.state shelf.new) }
         ensures piece { IfOk result (λ fed. TakesPiece (S.state shelf.old) (S.state shelf.new) self.old self.new fed.count) }
         ensures bad { IfOk result (λ fed. fed.bad ≡ self.new.live.bad) }
@@ -162,7 +162,7 @@ impl Follower {
         requires some { 0 < length buffer.old }
         requires few { self.old.read ≤ STREAM_LIMIT }
         ensures names { SameNames (S.state shelf.old) (S.state shelf.new) }
-        ensures leave { SameLeave (S.may_fetch shelf.old) (S.may_fetch shelf.new) }
+        ensures access { SameAccess (S.may_fetch shelf.old) (S.may_fetch shelf.new) }
         ensures rest { LeavesRest (S.state shelf.old) → LeavesRest (S.state shelf.new) }
         ensures same { IsOfSame self.old self.new }
         ensures along { GoesOn self.old (S.state shelf.old) (S.state shelf.new) (O.state out.old) (O.state out.new)

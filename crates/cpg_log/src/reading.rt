@@ -127,7 +127,7 @@ pub fn read_log(alloc: Global, problem: &Problem, bytes: &[u8]) -> Result<Log, L
     ensures log { IfOk result (IsLogOf problem.now bytes.now) }
     ensures bad { (place : ℕ) → result ≡ Err (LogFault.Bad place) → IsBadLine problem.now (lines bytes.now) place }
 {
-    // its clause tells that the graph is within its limits
+    // called for its contract: the graph is within its limits
     let _processes = problem.processes();
     let texts = act_texts(alloc, problem)?;
     let (mut log, mut rest) = opened(alloc, bytes)?;

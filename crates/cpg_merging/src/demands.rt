@@ -5,7 +5,7 @@ ghost use Rattle.cpg_merging.specs.Demands.{AgreeByTime, demand_of, low_of};
 ghost use Rattle.cpg_merging.specs.Totals.{DoNotFall};
 
 use cpg_base::OutOfMemory;
-use cpg_cube::{Entry, Literal};
+use cpg_cube::{Column, Literal};
 use std::alloc::Global;
 
 /// What parts a demand's time from how much is asked.
@@ -23,7 +23,7 @@ fn asked_in(literals: &[Literal]) -> u8
 }
 
 /// A column's time with how much it asks above 0 in all.
-fn demand_of(column: &Entry) -> u64
+fn demand_of(column: &Column) -> u64
     ensures { result ≡ demand_of column.now }
 {
     let asked = u64::from(asked_in(column.cube.literals()));
@@ -31,7 +31,7 @@ fn demand_of(column: &Entry) -> u64
 }
 
 /// The demands of columns.
-fn demands(alloc: Global, columns: &[Entry]) -> Result<Vec<u64>, OutOfMemory>
+fn demands(alloc: Global, columns: &[Column]) -> Result<Vec<u64>, OutOfMemory>
     ensures { IfOk result (λ demands. demands.items ≡ map demand_of columns.now) }
 {
     let mut demands = Vec::new(alloc);
@@ -63,7 +63,7 @@ fn do_any_differ(sorted: &[u64]) -> bool
 }
 
 /// Whether any two columns of one time differ in how much they ask, as those do that touch.
-pub(crate) fn have_many_demands(alloc: Global, columns: &[Entry]) -> Result<bool, OutOfMemory>
+pub(crate) fn have_many_demands(alloc: Global, columns: &[Column]) -> Result<bool, OutOfMemory>
     ensures { IfOk result (λ r. OnFalse r (AgreeByTime (map demand_of columns.now))) }
 {
     let mut demands = demands(alloc, columns)?;

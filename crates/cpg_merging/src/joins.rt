@@ -6,7 +6,7 @@ ghost use Rattle.cpg_cube.specs.Cube.{low_in, high_in, is_whole, IsRising};
 ghost use Rattle.cpg_merging.specs.Merging.{without, literal_cmp, beside_cmp, column_cmp, is_followed, is_any_followed, shorn, raised, joined, walked_over, all_shorn};
 
 use cpg_base::{OutOfMemory, top};
-use cpg_cube::{Cube, Entry, Literal};
+use cpg_cube::{Column, Cube, Literal};
 use std::alloc::Global;
 use std::cmp::Ordering;
 use std::mem;
@@ -59,7 +59,7 @@ fn compare_others(variable: u8, a: &[Literal], b: &[Literal]) -> Ordering
 }
 
 /// Compares columns by time and by their literals on other variables.
-fn compare_beside(variable: u8, a: &Entry, b: &Entry) -> Ordering
+fn compare_beside(variable: u8, a: &Column, b: &Column) -> Ordering
     ensures { result ≡ beside_cmp variable a.now b.now }
 {
     match a.time.cmp(&b.time) {
@@ -69,7 +69,7 @@ fn compare_beside(variable: u8, a: &Entry, b: &Entry) -> Ordering
 }
 
 /// Compares columns by time, by their literals on other variables and then by the low of the variable.
-pub(crate) fn compare(variable: u8, a: &Entry, b: &Entry) -> Ordering
+pub(crate) fn compare(variable: u8, a: &Column, b: &Column) -> Ordering
     ensures { result ≡ column_cmp variable a.now b.now }
 {
     match compare_beside(variable, a, b) {
@@ -81,7 +81,7 @@ pub(crate) fn compare(variable: u8, a: &Entry, b: &Entry) -> Ordering
 }
 
 /// Whether the columns differ in the variable alone, and the second's range begins where the first's ends.
-fn is_followed(faults: u8, variable: u8, a: &Entry, b: &Entry) -> bool
+fn is_followed(faults: u8, variable: u8, a: &Column, b: &Column) -> bool
     ensures { result ≡ is_followed faults variable a.now b.now }
 {
     let next = u32::from(high_of(faults, a.cube.literals(), variable)) + 1;
@@ -125,12 +125,18 @@ fn raised_cube(alloc: Global, variable: u8, high: u8, cube: &Cube) -> Result<Cub
 }
 
 /// The two columns made one, if the second follows the first.
-fn join(alloc: Global, faults: u8, variable: u8, a: &Entry, b: &Entry) -> Result<Entry, OutOfMemory>
-    ensures { IfOk result (λ entry. entry ≡ joined faults variable a.now b.now) }
+fn join(
+    alloc: Global,
+    faults: u8,
+    variable: u8,
+    a: &Column,
+    b: &Column,
+) -> Result<Column, OutOfMemory>
+    ensures { IfOk result (λ column. column ≡ joined faults variable a.now b.now) }
 {
     let high = high_of(faults, b.cube.literals(), variable);
     let raised = raised_cube(alloc, variable, high, &a.cube)?;
-    Ok(Entry {
+    Ok(Column {
         time: a.time,
         cube: shorn_cube(alloc, faults, &raised)?,
     })
@@ -146,20 +152,20 @@ fn has_whole(faults: u8, cube: &Cube) -> bool
 }
 
 /// Whether some column's cube has a literal of the whole range.
-fn has_any_whole(faults: u8, columns: &[Entry]) -> bool
+fn has_any_whole(faults: u8, columns: &[Column]) -> bool
     ensures { result ≡ list_any (λ c. list_any (is_whole faults) c.cube) columns.now }
 {
     columns.iter().any(|column| has_whole(faults, &column.cube))
 }
 
 /// Copies of columns without the literals of the whole range.
-fn shorn_copies(alloc: Global, faults: u8, columns: &[Entry]) -> Result<Vec<Entry>, OutOfMemory>
+fn shorn_copies(alloc: Global, faults: u8, columns: &[Column]) -> Result<Vec<Column>, OutOfMemory>
     ensures { IfOk result (λ r. r.items ≡ all_shorn faults columns.now) }
 {
     let mut shorn = Vec::new(alloc);
     shorn.reserve(columns.len())?;
     for column in columns {
-        shorn.push(Entry {
+        shorn.push(Column {
             time: column.time,
             cube: shorn_cube(alloc, faults, &column.cube)?,
         })?;
@@ -171,8 +177,8 @@ fn shorn_copies(alloc: Global, faults: u8, columns: &[Entry]) -> Result<Vec<Entr
 pub(crate) fn shorn_columns(
     alloc: Global,
     faults: u8,
-    columns: Vec<Entry>,
-) -> Result<Vec<Entry>, OutOfMemory>
+    columns: Vec<Column>,
+) -> Result<Vec<Column>, OutOfMemory>
     ensures { IfOk result (λ r. r.items ≡ all_shorn faults columns.items) }
 {
     if !has_any_whole(faults, columns.as_slice()) {
@@ -182,7 +188,7 @@ pub(crate) fn shorn_columns(
 }
 
 /// Whether some column follows the one before it.
-fn is_any_followed(faults: u8, variable: u8, columns: &[Entry]) -> bool
+fn is_any_followed(faults: u8, variable: u8, columns: &[Column]) -> bool
     ensures { result ≡ is_any_followed faults variable columns.now }
 {
     let Some((first, rest)) = columns.split_first() else {
@@ -203,8 +209,8 @@ fn join_neighbours(
     alloc: Global,
     faults: u8,
     variable: u8,
-    columns: Vec<Entry>,
-) -> Result<Vec<Entry>, OutOfMemory>
+    columns: Vec<Column>,
+) -> Result<Vec<Column>, OutOfMemory>
     ensures { IfOk result (λ r. r.items ≡ walked_over faults variable columns.items) }
 {
     let mut joined = Vec::new(alloc);
@@ -230,8 +236,8 @@ pub(crate) fn joined_columns(
     alloc: Global,
     faults: u8,
     variable: u8,
-    columns: Vec<Entry>,
-) -> Result<Vec<Entry>, OutOfMemory>
+    columns: Vec<Column>,
+) -> Result<Vec<Column>, OutOfMemory>
     ensures { IfOk result (λ r. r.items ≡ walked_over faults variable columns.items) }
 {
     if !is_any_followed(faults, variable, columns.as_slice()) {

@@ -7,7 +7,7 @@ ghost use Rattle.cpg_merging.specs.Totals.{IsMarked, place_in};
 
 use crate::totals::{mixed, place_in};
 use cpg_base::OutOfMemory;
-use cpg_cube::{Entry, Literal};
+use cpg_cube::{Column, Literal};
 use std::alloc::Global;
 
 /// How many places of a table there are for each column.
@@ -39,7 +39,7 @@ fn kind_by(time: u64, literals: &[Literal]) -> ColumnKind
 }
 
 /// The kinds of columns.
-fn kinds(alloc: Global, columns: &[Entry]) -> Result<Vec<ColumnKind>, OutOfMemory>
+fn kinds(alloc: Global, columns: &[Column]) -> Result<Vec<ColumnKind>, OutOfMemory>
     ensures { IfOk result (λ kinds. kinds.items ≡ map kind_of columns.now) }
 {
     let mut kinds = Vec::new(alloc);
@@ -96,8 +96,8 @@ fn chosen<'a>(
     alloc: Global,
     differing: &[bool],
     kinds: &[ColumnKind],
-    columns: &'a [Entry],
-) -> Result<Vec<&'a Entry>, OutOfMemory>
+    columns: &'a [Column],
+) -> Result<Vec<&'a Column>, OutOfMemory>
     requires some { 0 < length differing.now }
     requires kinds { kinds.now ≡ map kind_of columns.now }
     ensures { IfOk result (λ chosen. map (λ b. b.now) chosen.items ≡ filter (is_candidate differing.now) columns.now) }
@@ -114,8 +114,8 @@ fn chosen<'a>(
 /// Columns among which are all that touch another.
 pub(crate) fn candidates<'a>(
     alloc: Global,
-    columns: &'a [Entry],
-) -> Result<Vec<&'a Entry>, OutOfMemory>
+    columns: &'a [Column],
+) -> Result<Vec<&'a Column>, OutOfMemory>
     ensures { IfOk result (λ candidates. HoldCandidates columns.now (map (λ b. b.now) candidates.items)) }
 {
     let kinds = kinds(alloc, columns)?;

@@ -8,7 +8,7 @@ use crate::demands::have_many_demands;
 use crate::kinds::candidates;
 use crate::totals::{Sums, has_partner, sieve_of, totals};
 use cpg_base::{OutOfMemory, Problem};
-use cpg_cube::{BLOCK, Entry, Listing, Literal, VARIABLES, begin_at_zero};
+use cpg_cube::{BLOCK, Column, Listing, Literal, VARIABLES, begin_at_zero};
 use std::alloc::Global;
 
 /// Marks the variable of a literal if a column with this sum may follow another at it.
@@ -71,7 +71,7 @@ fn mark(sums: Sums<'_>, total: u64, literals: &[Literal], marks: &mut [bool; VAR
 }
 
 /// The variables at which some column may follow one with a sum among these, marked by number.
-fn marks_by(sums: Sums<'_>, totals: &[u64], columns: &[&Entry]) -> [bool; VARIABLES]
+fn marks_by(sums: Sums<'_>, totals: &[u64], columns: &[&Column]) -> [bool; VARIABLES]
     requires sums { AreSums sums.sorted.now sums.sieve.now }
     requires totals { totals.now ≡ map total_of (map (λ b. b.now) columns.now) }
     ensures { AreMarkedBy sums.entry.sorted.now result (map (λ b. b.now) columns.now) }
@@ -84,7 +84,7 @@ fn marks_by(sums: Sums<'_>, totals: &[u64], columns: &[&Entry]) -> [bool; VARIAB
 }
 
 /// The variables at which some column may follow another by the sums, marked by number.
-fn marks_over(alloc: Global, columns: &[&Entry]) -> Result<[bool; VARIABLES], OutOfMemory>
+fn marks_over(alloc: Global, columns: &[&Column]) -> Result<[bool; VARIABLES], OutOfMemory>
     ensures { IfOk result (λ marks. AreMarkedBy (map total_of (map (λ b. b.now) columns.now)) marks (map (λ b. b.now) columns.now)) }
 {
     let totals = totals(alloc, columns)?;
@@ -103,12 +103,12 @@ fn marks_over(alloc: Global, columns: &[&Entry]) -> Result<[bool; VARIABLES], Ou
 fn marks_of(
     alloc: Global,
     problem: &Problem,
-    columns: &[Entry],
+    columns: &[Column],
 ) -> Result<[bool; VARIABLES], OutOfMemory>
     requires { IsShorn problem.now columns.now }
     ensures { IfOk result (λ marks. AreMarked problem.now marks columns.now) }
 {
-    // its clause tells that the graph is within its limits
+    // called for its contract: the graph is within its limits
     let _processes = problem.processes();
     // mostly this tells already that no two columns touch
     let many = have_many_demands(alloc, columns)?;

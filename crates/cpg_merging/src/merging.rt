@@ -11,7 +11,7 @@ ghost use Rattle.cpg_merging.specs.Totals.{AreMarked};
 use crate::joins::{compare, joined_columns, shorn_columns};
 use crate::marks::Marked;
 use cpg_base::{FIRST_VALUE, Order, OutOfMemory, Problem};
-use cpg_cube::{Entry, Listing};
+use cpg_cube::{Column, Listing};
 use std::alloc::Global;
 
 /// Joins columns that touch at a variable.
@@ -19,8 +19,8 @@ fn joined_on(
     alloc: Global,
     problem: &Problem,
     variable: u8,
-    columns: Vec<Entry>,
-) -> Result<Vec<Entry>, OutOfMemory>
+    columns: Vec<Column>,
+) -> Result<Vec<Column>, OutOfMemory>
     requires shorn { IsShorn problem.now columns.items }
     requires known { IsVariable problem.now variable }
     ensures { IfOk result (λ r. IsPassed problem.now (λ v. v ≡ variable) columns.items r.items) }
@@ -33,7 +33,7 @@ fn joined_on(
 }
 
 /// Columns that aren't known to stand by their least scenarios.
-fn unsorted(columns: Vec<Entry>) -> Listing
+fn unsorted(columns: Vec<Column>) -> Listing
     ensures { result ≡ record { columns = columns; is_sorted = false } }
 {
     Listing {
@@ -56,7 +56,7 @@ fn joined_at(
     ensures marked { IfOk result (λ r. AreMarked problem.now r.marks r.listing.columns.items) }
     ensures sorted { IfOk result (λ r. IsSortedAs marked.listing r.listing) }
 {
-    // its clause tells that the graph is within its limits
+    // called for its contract: the graph is within its limits
     let _processes = problem.processes();
     if !marked.marks[variable as usize] {
         return Ok(marked);
@@ -141,8 +141,8 @@ pub fn merged(
     alloc: Global,
     problem: &Problem,
     order: &Order,
-    entries: Vec<Entry>,
-) -> Result<Vec<Entry>, OutOfMemory>
+    entries: Vec<Column>,
+) -> Result<Vec<Column>, OutOfMemory>
     requires order { IsPermutation (numbers_below (process_count problem.now)) order.now }
     requires entries { AreMergeable problem.now entries.items }
     ensures { IfOk result (λ r. IsMergeOf problem.now order.now entries.items r.items) }
@@ -159,14 +159,14 @@ pub fn merged_tidy(
     problem: &Problem,
     order: &Order,
     listing: Listing,
-) -> Result<Vec<Entry>, OutOfMemory>
+) -> Result<Vec<Column>, OutOfMemory>
     requires order { IsPermutation (numbers_below (process_count problem.now)) order.now }
     requires entries { AreMergeable problem.now listing.columns.items }
     requires tidy { HaveNoWhole problem.now.faults listing.columns.items }
     requires sorted { OnTrue listing.is_sorted (AreByLows (λ c. c.cube) problem.now order.now listing.columns.items) }
     ensures { IfOk result (λ r. IsMergeOf problem.now order.now listing.columns.items r.items) }
 {
-    // its clause tells that the graph is within its limits
+    // called for its contract: the graph is within its limits
     let _processes = problem.processes();
     let listing = settled(alloc, problem, listing)?;
     listing.sorted(alloc, problem, order)

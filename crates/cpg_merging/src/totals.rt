@@ -4,7 +4,7 @@ ghost use Rattle.std.specs.Bool.{OnFalse};
 ghost use Rattle.cpg_merging.specs.Totals.{AreSums, HasNoPartner, IsSieve, hash_of, mixed, number_of, place_in, total_by, total_of};
 
 use cpg_base::OutOfMemory;
-use cpg_cube::{Entry, Literal};
+use cpg_cube::{Column, Literal};
 use std::alloc::Global;
 
 /// The multiplier of Knuth's linear congruential generator of 64 bits.
@@ -53,7 +53,7 @@ fn total_by(time: u64, literals: &[Literal]) -> u64
 }
 
 /// The sums of columns.
-pub(crate) fn totals(alloc: Global, columns: &[&Entry]) -> Result<Vec<u64>, OutOfMemory>
+pub(crate) fn totals(alloc: Global, columns: &[&Column]) -> Result<Vec<u64>, OutOfMemory>
     ensures { IfOk result (λ totals. totals.items ≡ map total_of (map (λ b. b.now) columns.now)) }
 {
     let mut totals = Vec::new(alloc);

@@ -19,7 +19,7 @@ use Rattle.cpg_table.specs.Table.{NodeTable, columns_of}
 use Rattle.cpg_cube.specs.Column.{Column}
 use Rattle.cpg_table.specs.Heard.{matching, facts_of_end, facts_of_frame, facts, is_heard, kept_low, kept_high}
 use Rattle.cpg_table.proofs.Settings.{Match}
-use Rattle.cpg_table.proofs.Told.{end_literals, frame_facts, Told, told_true}
+use Rattle.cpg_table.proofs.Told.{end_literals, frame_facts, Learnt, learnt_true}
 
 cond_parts : {X : Type 0} (b : Bool) (xs : List X) (x : X) → Contains (cond b xs []) x → Contains xs x
 cond_parts true xs x h = h
@@ -33,7 +33,7 @@ abbrev ever : ℕ → Bool
 ever moment = true
 
 module _ (g : Graph) (tables : List NodeTable) (node time : ℕ) (s : Scenario) (law : IsScenario g s) where
-  told : (l : Literal) → Contains (facts g tables node s time) l → Told g tables s node ever l
+  told : (l : Literal) → Contains (facts g tables node s time) l → Learnt g tables s node ever l
   told l h = elim (Contains-append_cases (flat_map (facts_of_end g tables s time) (filter (λ p. node_of g p == node) (numbers_below (process_count g))))
       (flat_map (facts_of_frame g tables s time) (filter (λ x. is_heard_by g node (item_at g x)) (numbers_below (item_count g)))) l h) [
         | inl m ↦
@@ -87,7 +87,7 @@ module _ (g : Graph) (tables : List NodeTable) (node time : ℕ) (s : Scenario) 
   true_of : (l m : Literal) → Contains (filter (λ (m : Literal). m.variable == l.variable) fs) m → (m.low ≤ number_of s l.variable) × (number_of s l.variable ≤ m.high)
   true_of l m n =
       let p = Contains-filter_parts (λ (m : Literal). m.variable == l.variable) fs m n in
-      let t = and_parts (leb m.low (number_of s m.variable)) (leb (number_of s m.variable) m.high) (told_true m (told m p.0)) in
+      let t = and_parts (leb m.low (number_of s m.variable)) (leb (number_of s m.variable) m.high) (learnt_true m (told m p.0)) in
       let same : number_of s m.variable ≡ number_of s l.variable = ap (number_of s) (eqb-true m.variable l.variable p.1) in
       let below : m.low ≤ number_of s m.variable = leb-true _ _ t.0 in
       let above : number_of s m.variable ≤ m.high = leb-true _ _ t.1 in

@@ -11,7 +11,7 @@ use crate::own::own_of;
 use crate::range::Range;
 use crate::{Ended, Frame};
 use cpg_base::{FIRST_VALUE, MOST_CONDITIONS, OutOfMemory, top};
-use cpg_cube::{Entry, Literal};
+use cpg_cube::{Column, Literal};
 use cpg_table::NodeTable;
 use std::alloc::Global;
 
@@ -127,7 +127,7 @@ fn hear_ends(table: &NodeTable, heard: &mut [Range], ended: &[Ended])
 }
 
 /// The literals of a column hold.
-fn cut_column(heard: &mut [Range], columns: &[Entry], column: u32)
+fn cut_column(heard: &mut [Range], columns: &[Column], column: u32)
     ensures { heard.new ≡ cut_all heard.old (get_or columns.now column no_column).cube }
 {
     if let Some(entry) = columns.get(column as usize) {

@@ -1,7 +1,7 @@
 //! The dispatcher of one node.
 ghost use Rattle.std.specs.Prelude.{◌<◌, ◌^◌, ◌≡◌, ◌↔◌, IsTrue, IsErr, IfOk, OnOk, OnErr, IfSome, true, [], map, length};
 ghost use Rattle.cpg_base.specs.Numbers.{numbers_below};
-ghost use Rattle.cpg_node.specs.Dispatcher.{opening, next, turn, acts_of_turn, hear, is_strange, finished, whole_range, variable_count};
+ghost use Rattle.cpg_node.specs.Dispatcher.{initial_dispatcher, next, turn, acts_of_turn, hear, is_strange, finished, whole_range, variable_count};
 ghost use Rattle.cpg_node.specs.State.{start_of, report_of, has_reported, MayTurn, MayFinish};
 
 use crate::executions::{
@@ -53,7 +53,7 @@ impl Model for Node {
 impl Node {
     /// The node of a table before its first turn. It takes all room that the node will need.
     pub fn new(alloc: Global, table: NodeTable) -> Result<Node, OutOfMemory>
-        ensures { IfOk result (λ node. node ≡ record { dispatcher = opening table; acts = [] }) }
+        ensures { IfOk result (λ node. node ≡ record { dispatcher = initial_dispatcher table; acts = [] }) }
     {
         let heard = whole_ranges(alloc, table.faults())?;
         let before = heard.clone()?;

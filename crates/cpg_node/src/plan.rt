@@ -11,7 +11,7 @@ use crate::Act;
 use crate::heard::have_heard;
 use crate::range::Range;
 use cpg_base::OutOfMemory;
-use cpg_cube::{Entry, Literal};
+use cpg_cube::{Column, Literal};
 use cpg_table::{NodeTable, Row};
 use std::alloc::Global;
 
@@ -33,7 +33,7 @@ fn plan_columns(
     plan: &mut Vec<Planned>,
     row: usize,
     item: u32,
-    columns: &[Entry],
+    columns: &[Column],
 ) -> Result<(), OutOfMemory>
     requires { length columns.now ≤ MOST_COLUMNS }
     ensures { OnOk result (plan.new.items ≡ plan.old.items ++ plan_of_columns row item 0 columns.now) }
@@ -59,7 +59,7 @@ fn plan_rows(plan: &mut Vec<Planned>, first: usize, rows: &[Row]) -> Result<(), 
 {
     let mut place = first;
     for row in rows {
-        plan_columns(plan, place, row.item(), row.entries())?;
+        plan_columns(plan, place, row.item(), row.columns())?;
         place += 1;
     }
     Ok(())
@@ -78,7 +78,7 @@ pub fn plan_of(alloc: Global, table: &NodeTable) -> Result<Vec<Planned>, OutOfMe
 }
 
 /// Adds the times of a row.
-pub fn add_times(times: &mut Vec<u64>, columns: &[Entry]) -> Result<(), OutOfMemory>
+pub fn add_times(times: &mut Vec<u64>, columns: &[Column]) -> Result<(), OutOfMemory>
     ensures { OnOk result (times.new.items ≡ times.old.items ++ map (λ c. c.time) columns.now) }
 {
     for entry in columns {
@@ -92,7 +92,7 @@ fn add_times_in(times: &mut Vec<u64>, rows: &[Row]) -> Result<(), OutOfMemory>
     ensures { OnOk result (times.new.items ≡ times.old.items ++ times_in rows.now) }
 {
     for row in rows {
-        add_times(times, row.entries())?;
+        add_times(times, row.columns())?;
     }
     Ok(())
 }
@@ -152,17 +152,17 @@ pub fn past_entries(plan: &[Planned], from: usize, time: u64) -> usize
 }
 
 /// The columns of the row of a place, none if there is no row.
-fn columns_at(rows: &[Row], place: usize) -> &[Entry]
+fn columns_at(rows: &[Row], place: usize) -> &[Column]
     ensures { result.now ≡ (get_or rows.now place no_row).columns }
 {
     let Some(row) = rows.get(place) else {
         return &[];
     };
-    row.entries()
+    row.columns()
 }
 
 /// The columns of the row of a place: sends first, then starts.
-fn columns_of(table: &NodeTable, place: usize) -> &[Entry]
+fn columns_of(table: &NodeTable, place: usize) -> &[Column]
     ensures { result.now ≡ (get_or (table.now.sends ++ table.now.starts) place no_row).columns }
 {
     let sends = table.sends();
@@ -173,7 +173,7 @@ fn columns_of(table: &NodeTable, place: usize) -> &[Entry]
 }
 
 /// The literals of the column of a place, none if there is no column.
-fn literals_at(columns: &[Entry], place: usize) -> &[Literal]
+fn literals_at(columns: &[Column], place: usize) -> &[Literal]
     ensures { result.now ≡ (get_or columns.now place no_column).cube }
 {
     let Some(entry) = columns.get(place) else {

@@ -1,6 +1,6 @@
 //! A command's node, which follows a stream.
 ghost use Rattle.std.specs.Prelude.{◌≡◌};
-ghost use Rattle.cpg_io.specs.Shelf.{KeepsShelf, SameLeave};
+ghost use Rattle.cpg_io.specs.Shelf.{KeepsShelf, SameAccess};
 ghost use Rattle.cpg_live.specs.Follower.{open_follower};
 ghost use Rattle.cpg_live.specs.Streams.{fault_line};
 ghost use Rattle.cpg_outputs.specs.Said.{IsFollowedAt, IsSaid};
@@ -43,7 +43,7 @@ pub fn follow<S: Shelf, O: Sink, E: Sink>(
     requires may { S.may_fetch shelf.old stream.now }
     requires opened { follower.old ≡ open_follower follower.old.head follower.old.table }
     ensures keeps { KeepsShelf (S.state shelf.old) (S.state shelf.new) }
-    ensures leave { SameLeave (S.may_fetch shelf.old) (S.may_fetch shelf.new) }
+    ensures access { SameAccess (S.may_fetch shelf.old) (S.may_fetch shelf.new) }
     ensures followed { IsFollowedAt follower.old.head follower.old.table stream.now (S.state shelf.old).history (S.state shelf.new).history
         (sent (O.state out.old) (O.state out.new)) (sent (E.state err.old) (E.state err.new)) result }
 {

@@ -2,7 +2,7 @@
 ghost use Rattle.std.specs.Prelude.{◌≡◌, ◌≤◌, Err, IfErr, IfOk, OnOk};
 ghost use Rattle.cpg_io.specs.Agreement.{AreFetched, LeavesRest};
 ghost use Rattle.cpg_io.specs.Causes.{Rose};
-ghost use Rattle.cpg_io.specs.Shelf.{SameLeave, SameNames};
+ghost use Rattle.cpg_io.specs.Shelf.{SameAccess, SameNames};
 ghost use Rattle.cpg_live.specs.Follower.{open_follower};
 ghost use Rattle.cpg_live.specs.Following.{Breaks, Completes, GoesOn, IsAlongAt, IsOfSame, IsStreamed};
 ghost use Rattle.cpg_live.specs.declared.following.TheConstants.{STREAM_LIMIT};
@@ -22,7 +22,7 @@ fn follow_pieces<S: Shelf, O: Sink>(
 ) -> Result<(), Broken>
     requires { follower.old.read ≤ STREAM_LIMIT }
     ensures names { SameNames (S.state shelf.old) (S.state shelf.new) }
-    ensures leave { SameLeave (S.may_fetch shelf.old) (S.may_fetch shelf.new) }
+    ensures access { SameAccess (S.may_fetch shelf.old) (S.may_fetch shelf.new) }
     ensures rest { LeavesRest (S.state shelf.old) → LeavesRest (S.state shelf.new) }
     ensures same { IsOfSame follower.old follower.new }
     ensures along { GoesOn follower.old (S.state shelf.old) (S.state shelf.new) (O.state out.old) (O.state out.new)
@@ -51,7 +51,7 @@ fn follow_rest<S: Shelf, O: Sink>(
 ) -> Result<(), Broken>
     requires { follower.old.read ≤ STREAM_LIMIT }
     ensures names { SameNames (S.state shelf.old) (S.state shelf.new) }
-    ensures leave { SameLeave (S.may_fetch shelf.old) (S.may_fetch shelf.new) }
+    ensures access { SameAccess (S.may_fetch shelf.old) (S.may_fetch shelf.new) }
     ensures rest { LeavesRest (S.state shelf.old) → LeavesRest (S.state shelf.new) }
     ensures along { GoesOn follower.old (S.state shelf.old) (S.state shelf.new) (O.state out.old) (O.state out.new)
         (λ _ start name past. IsStreamed (Completes follower.old.head follower.old.table) name past (S.state shelf.new).history start
@@ -76,7 +76,7 @@ pub fn follow<S: Shelf, O: Sink>(
     requires may { S.may_fetch shelf.old name.now }
     requires opened { follower.old ≡ open_follower follower.old.head follower.old.table }
     ensures names { SameNames (S.state shelf.old) (S.state shelf.new) }
-    ensures leave { SameLeave (S.may_fetch shelf.old) (S.may_fetch shelf.new) }
+    ensures access { SameAccess (S.may_fetch shelf.old) (S.may_fetch shelf.new) }
     ensures fetched { AreFetched (S.state shelf.old) (S.state shelf.new) }
     ensures whole { IfOk result (λ _.
         IsStreamed (Completes follower.old.head follower.old.table) name.now (S.state shelf.old).history (S.state shelf.new).history

@@ -53,7 +53,7 @@ fn settle_start(
     requires walked { IsWalkedTo problem.now order.now (place order.now process) (place order.now process * phases problem.now) walk.old }
     ensures { IsWalkedTo problem.now order.now (place order.now process + 1) (place order.now process * phases problem.now + 2) walk.new }
 {
-    // its clause tells that the graph is within its limits
+    // called for its contract: the graph is within its limits
     let _processes = problem.processes();
     let node = problem.node_of(process);
     let reach = start_of(

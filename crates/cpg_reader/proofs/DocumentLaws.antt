@@ -6,9 +6,9 @@ use Rattle.toml.specs.Data.{Members}
 use Rattle.toml.specs.Parse.{parse_document}
 use Rattle.cpg_reader.specs.declared.place.ReadFault.TheVariants.{NotToml, BadField, DoubleName, UnknownName, OverLimit, OutOfMemory}
 use Rattle.cpg_reader.specs.Reading.{Reading, Gives}
-use Rattle.cpg_reader.specs.Document.{document_of, problem_at, problem_of}
+use Rattle.cpg_reader.specs.Document.{document_of, read_members, problem_of}
 
-pub problem_of-read : (bytes : List ℕ) (ms : Members) → IsUtf8 bytes → parse_document bytes ≡ Some ms → problem_of bytes ≡ problem_at ms
+pub problem_of-read : (bytes : List ℕ) (ms : Members) → IsUtf8 bytes → parse_document bytes ≡ Some ms → problem_of bytes ≡ read_members ms
 unfolding problem_of document_of
 problem_of-read bytes ms text read = rw (is_utf8-from_IsUtf8 bytes text, read) refl
 

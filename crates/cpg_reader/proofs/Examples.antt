@@ -9,11 +9,11 @@ use Rattle.cpg_reader.specs.declared.place.Key.TheVariants as keys
 use Rattle.cpg_reader.specs.declared.place.What.TheVariants.{Number}
 use Rattle.cpg_reader.specs.declared.place.ReadFault.TheVariants.{BadField, DoubleName, UnknownName, OverLimit}
 use Rattle.cpg_reader.specs.Reading.{Reading, ◌>>=◌}
-use Rattle.cpg_reader.specs.Rows.{optional, only, name_at, integer_at, integer_or, flag_or, tables_at}
-use Rattle.cpg_reader.specs.Shape.{node_at, slot_at, process_at, edge_at, raw_graph_at}
+use Rattle.cpg_reader.specs.Rows.{optional, only, read_name, read_integer, integer_or, flag_or, read_array}
+use Rattle.cpg_reader.specs.Shape.{read_node, read_slot, read_process, read_edge, read_raw}
 use Rattle.cpg_reader.specs.Ranges.{limits}
 use Rattle.cpg_reader.specs.Names.{place, apart, number_of, slot_of, process_of, edge_of, order_of, order_apart, resolved, graph_of}
-use Rattle.cpg_reader.specs.Document.{members_if, problem_at}
+use Rattle.cpg_reader.specs.Document.{members_if, read_members}
 
 abbrev lines : List (List ℕ) → List ℕ
 lines [] = []
@@ -21,11 +21,11 @@ lines (l ∷ ls) = l ++ 10 ∷ lines ls
 
 -- what plain text says, which is UTF-8
 abbrev said : List ℕ → Reading Graph
-said bytes = members_if (parse_document bytes) >>= problem_at
+said bytes = members_if (parse_document bytes) >>= read_members
 
 -- a graph of nothing
 nothing : said (lines (codes "faults = 0" ∷ codes "deadline = 0" ∷ [])) ≡ Ok (record { faults = 0; deadline = 0; nodes = []; slots = []; processes = []; edges = []; order = None })
-unfolding problem_at raw_graph_at node_at slot_at process_at edge_at optional only name_at integer_at integer_or flag_or tables_at limits apart number_of slot_of process_of edge_of order_of
+unfolding read_members read_raw read_node read_slot read_process read_edge optional only read_name read_integer integer_or flag_or read_array limits apart number_of slot_of process_of edge_of order_of
     order_apart resolved graph_of toml_on_literals
 nothing = refl
 
@@ -41,54 +41,54 @@ single : said (lines (codes "faults = 1" ∷ codes "deadline = 72" ∷ codes "no
       edges = [];
       order = None;
     })
-unfolding problem_at raw_graph_at node_at slot_at process_at edge_at optional only name_at integer_at integer_or flag_or tables_at limits apart number_of slot_of process_of edge_of order_of
+unfolding read_members read_raw read_node read_slot read_process read_edge optional only read_name read_integer integer_or flag_or read_array limits apart number_of slot_of process_of edge_of order_of
     order_apart resolved graph_of toml_on_literals
 single = refl
 
 -- a key that is missing
 no_deadline : said (lines (codes "faults = 1" ∷ [])) ≡ Err (BadField (place tables.Top 0 keys.Deadline))
-unfolding problem_at raw_graph_at node_at slot_at process_at edge_at optional only name_at integer_at integer_or flag_or tables_at limits apart number_of slot_of process_of edge_of order_of
+unfolding read_members read_raw read_node read_slot read_process read_edge optional only read_name read_integer integer_or flag_or read_array limits apart number_of slot_of process_of edge_of order_of
     order_apart resolved graph_of toml_on_literals
 no_deadline = refl
 
 -- a name with a blank
 bad_name : said (lines (codes "faults = 1" ∷ codes "deadline = 72" ∷ codes "node = [{ name = \"N1\" }]" ∷ codes "process = [{ name = \"A b\", node = \"N1\", wcet = 30, alpha = 2, chi = 3, mu = 5 }]"
     ∷ [])) ≡ Err (BadField (place tables.Process 0 keys.Name))
-unfolding problem_at raw_graph_at node_at slot_at process_at edge_at optional only name_at integer_at integer_or flag_or tables_at limits apart number_of slot_of process_of edge_of order_of
+unfolding read_members read_raw read_node read_slot read_process read_edge optional only read_name read_integer integer_or flag_or read_array limits apart number_of slot_of process_of edge_of order_of
     order_apart resolved graph_of toml_on_literals
 bad_name = refl
 
 -- a key that isn't listed stands after the others
 unknown_key : said (lines (codes "faults = 1" ∷ codes "deadline = 72" ∷ codes "node = [{ name = \"N1\" }]" ∷ codes
     "process = [{ name = \"A\", node = \"N1\", wcet = 30, alpha = 2, chi = 3, mu = 5, nu = 1 }]" ∷ [])) ≡ Err (BadField (place tables.Process 0 keys.Unknown))
-unfolding problem_at raw_graph_at node_at slot_at process_at edge_at optional only name_at integer_at integer_or flag_or tables_at limits apart number_of slot_of process_of edge_of order_of
+unfolding read_members read_raw read_node read_slot read_process read_edge optional only read_name read_integer integer_or flag_or read_array limits apart number_of slot_of process_of edge_of order_of
     order_apart resolved graph_of toml_on_literals
 unknown_key = refl
 
 -- a type goes before a range
 type_first : said (lines (codes "faults = 9" ∷ codes "deadline = 72" ∷ codes "node = 3" ∷ [])) ≡ Err (BadField (place tables.Top 0 keys.Node))
-unfolding problem_at raw_graph_at node_at slot_at process_at edge_at optional only name_at integer_at integer_or flag_or tables_at limits apart number_of slot_of process_of edge_of order_of
+unfolding read_members read_raw read_node read_slot read_process read_edge optional only read_name read_integer integer_or flag_or read_array limits apart number_of slot_of process_of edge_of order_of
     order_apart resolved graph_of toml_on_literals
 type_first = refl
 
 -- a number below its range
 no_work : said (lines (codes "faults = 1" ∷ codes "deadline = 72" ∷ codes "node = [{ name = \"N1\" }]" ∷ codes "process = [{ name = \"A\", node = \"N1\", wcet = 0, alpha = 2, chi = 3, mu = 5 }]" ∷
     [])) ≡ Err (OverLimit (Number (place tables.Process 0 keys.Wcet)))
-unfolding problem_at raw_graph_at node_at slot_at process_at edge_at optional only name_at integer_at integer_or flag_or tables_at limits apart number_of slot_of process_of edge_of order_of
+unfolding read_members read_raw read_node read_slot read_process read_edge optional only read_name read_integer integer_or flag_or read_array limits apart number_of slot_of process_of edge_of order_of
     order_apart resolved graph_of toml_on_literals
 no_work = refl
 
 -- a name that stands earlier
 double_node : said (lines (codes "faults = 0" ∷ codes "deadline = 9" ∷ codes "node = [{ name = \"N1\" }, { name = \"N1\" }]" ∷ codes "process = [{ name = \"A\", node = \"N2\", wcet = 1 }]" ∷ [])) ≡
     Err (DoubleName (place tables.Node 1 keys.Name))
-unfolding problem_at raw_graph_at node_at slot_at process_at edge_at optional only name_at integer_at integer_or flag_or tables_at limits apart number_of slot_of process_of edge_of order_of
+unfolding read_members read_raw read_node read_slot read_process read_edge optional only read_name read_integer integer_or flag_or read_array limits apart number_of slot_of process_of edge_of order_of
     order_apart resolved graph_of toml_on_literals
 double_node = refl
 
 -- a name that names nothing
 unknown_node : said (lines (codes "faults = 0" ∷ codes "deadline = 9" ∷ codes "node = [{ name = \"N1\" }]" ∷ codes "process = [{ name = \"A\", node = \"N2\", wcet = 1 }]" ∷ [])) ≡ Err
     (UnknownName (place tables.Process 0 keys.Node))
-unfolding problem_at raw_graph_at node_at slot_at process_at edge_at optional only name_at integer_at integer_or flag_or tables_at limits apart number_of slot_of process_of edge_of order_of
+unfolding read_members read_raw read_node read_slot read_process read_edge optional only read_name read_integer integer_or flag_or read_array limits apart number_of slot_of process_of edge_of order_of
     order_apart resolved graph_of toml_on_literals
 unknown_node = refl
 
@@ -104,7 +104,7 @@ ordered : said (lines (codes "faults = 0" ∷ codes "deadline = 9" ∷ codes "no
       edges = [];
       order = Some (0 ∷ []);
     })
-unfolding problem_at raw_graph_at node_at slot_at process_at edge_at optional only name_at integer_at integer_or flag_or tables_at limits apart number_of slot_of process_of edge_of order_of
+unfolding read_members read_raw read_node read_slot read_process read_edge optional only read_name read_integer integer_or flag_or read_array limits apart number_of slot_of process_of edge_of order_of
     order_apart resolved graph_of toml_on_literals
 ordered = refl
 
@@ -120,27 +120,27 @@ empty_order : said (lines (codes "faults = 0" ∷ codes "deadline = 9" ∷ codes
       edges = [];
       order = Some ([]);
     })
-unfolding problem_at raw_graph_at node_at slot_at process_at edge_at optional only name_at integer_at integer_or flag_or tables_at limits apart number_of slot_of process_of edge_of order_of
+unfolding read_members read_raw read_node read_slot read_process read_edge optional only read_name read_integer integer_or flag_or read_array limits apart number_of slot_of process_of edge_of order_of
     order_apart resolved graph_of toml_on_literals
 empty_order = refl
 
 -- an order with an element that is no name, which goes before a range
 bad_order : said (lines (codes "faults = 9" ∷ codes "deadline = 9" ∷ codes "node = [{ name = \"N\" }]" ∷ codes "order = [\"A\", 1]" ∷ codes "process = [{ name = \"A\", node = \"N\", wcet = 1 }]" ∷
     [])) ≡ Err (BadField (place tables.Top 0 keys.Order))
-unfolding problem_at raw_graph_at node_at slot_at process_at edge_at optional only name_at integer_at integer_or flag_or tables_at limits apart number_of slot_of process_of edge_of order_of
+unfolding read_members read_raw read_node read_slot read_process read_edge optional only read_name read_integer integer_or flag_or read_array limits apart number_of slot_of process_of edge_of order_of
     order_apart resolved graph_of toml_on_literals
 bad_order = refl
 
 -- a name that stands twice in the order, which goes before a name that names nothing
 double_order : said (lines (codes "faults = 0" ∷ codes "deadline = 9" ∷ codes "node = [{ name = \"N\" }]" ∷ codes "order = [\"B\", \"A\", \"A\"]" ∷ codes
     "process = [{ name = \"A\", node = \"N\", wcet = 1 }]" ∷ [])) ≡ Err (DoubleName (place tables.Top 0 keys.Order))
-unfolding problem_at raw_graph_at node_at slot_at process_at edge_at optional only name_at integer_at integer_or flag_or tables_at limits apart number_of slot_of process_of edge_of order_of
+unfolding read_members read_raw read_node read_slot read_process read_edge optional only read_name read_integer integer_or flag_or read_array limits apart number_of slot_of process_of edge_of order_of
     order_apart resolved graph_of toml_on_literals
 double_order = refl
 
 -- a name of the order that names nothing
 unknown_order : said (lines (codes "faults = 0" ∷ codes "deadline = 9" ∷ codes "node = [{ name = \"N\" }]" ∷ codes "order = [\"A\", \"N\"]" ∷ codes
     "process = [{ name = \"A\", node = \"N\", wcet = 1 }]" ∷ [])) ≡ Err (UnknownName (place tables.Top 0 keys.Order))
-unfolding problem_at raw_graph_at node_at slot_at process_at edge_at optional only name_at integer_at integer_or flag_or tables_at limits apart number_of slot_of process_of edge_of order_of
+unfolding read_members read_raw read_node read_slot read_process read_edge optional only read_name read_integer integer_or flag_or read_array limits apart number_of slot_of process_of edge_of order_of
     order_apart resolved graph_of toml_on_literals
 unknown_order = refl

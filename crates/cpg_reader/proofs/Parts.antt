@@ -6,8 +6,8 @@ use Rattle.cpg_reader.specs.declared.place.Key.TheVariants.{Faults, Deadline, No
 use Rattle.cpg_reader.specs.declared.shape.RawWork.{RawWork}
 use Rattle.cpg_reader.specs.declared.shape.RawLink.{RawLink}
 use Rattle.cpg_reader.specs.Reading.{Reading, pure, ◌>>=◌, ◌>>◌}
-use Rattle.cpg_reader.specs.Rows.{DocumentRow, name_at, integer_at, integer_or, flag_or, optional, as_names, tables_at, only}
-use Rattle.cpg_reader.specs.Shape.{process_at, work_at, process_with, edge_at, link_at, edge_with, Tops, lists_at, tops_at, elements_at, raw_graph_at}
+use Rattle.cpg_reader.specs.Rows.{DocumentRow, read_name, read_integer, integer_or, flag_or, optional, as_names, read_array, only}
+use Rattle.cpg_reader.specs.Shape.{read_process, read_work, process_with, read_edge, read_link, edge_with, Tops, read_lists, read_tops, read_elements, read_raw}
 
 after_work : {T : Type 0} (wcet_at : Reading ℤ) (parts_at : Reading ℤ) (alpha_at : Reading ℤ) (chi_at : Reading ℤ) (mu_at : Reading ℤ) (join_at : Reading Bool) (frozen_at : Reading Bool)
     (release_at : Reading ℤ) (deadline_at : Reading (Option ℤ)) (end : Reading (Unit {0})) (next : RawWork → Reading T)
@@ -34,10 +34,10 @@ after_work (Ok wcet) (Ok parts) (Ok alpha) (Ok chi) (Ok mu) (Ok join) (Ok frozen
 after_work (Ok wcet) (Ok parts) (Ok alpha) (Ok chi) (Ok mu) (Ok join) (Ok frozen) (Ok release) (Ok deadline) (Ok done) next = refl
 
 -- a process whose names are read
-pub process-parts : (row : DocumentRow) (name node : List ℕ) → name_at row Name ≡ Ok name → name_at row Node ≡ Ok node → process_at row ≡ (work_at row >>= (λ work. pure (process_with name node work)))
-unfolding process_at work_at
+pub process-parts : (row : DocumentRow) (name node : List ℕ) → read_name row Name ≡ Ok name → read_name row Node ≡ Ok node → read_process row ≡ (read_work row >>= (λ work. pure (process_with name node work)))
+unfolding read_process read_work
 process-parts row name node is_name is_node = rw (is_name, is_node)
-    (after_work (integer_at row Wcet) (integer_or (pos 1) row Parts) (integer_or (pos 0) row Alpha) (integer_or (pos 0) row Chi) (integer_or (pos 0) row Mu)
+    (after_work (read_integer row Wcet) (integer_or (pos 1) row Parts) (integer_or (pos 0) row Alpha) (integer_or (pos 0) row Chi) (integer_or (pos 0) row Mu)
     (flag_or false row Join) (flag_or false row Frozen) (integer_or (pos 0) row Release) (optional as_integer row Deadline)
     (only (Name ∷ Node ∷ Wcet ∷ Parts ∷ Alpha ∷ Chi ∷ Mu ∷ Join ∷ Frozen ∷ Release ∷ Deadline ∷ []) row)
     (λ work. pure (process_with name node work)))
@@ -52,8 +52,8 @@ after_link (Ok bytes) (Ok when) (Ok frozen) (Err fault) next = refl
 after_link (Ok bytes) (Ok when) (Ok frozen) (Ok done) next = refl
 
 -- an edge whose ends are read
-pub edge-parts : (row : DocumentRow) (from to : List ℕ) → name_at row From ≡ Ok from → name_at row To ≡ Ok to → edge_at row ≡ (link_at row >>= (λ link. pure (edge_with from to link)))
-unfolding edge_at link_at
+pub edge-parts : (row : DocumentRow) (from to : List ℕ) → read_name row From ≡ Ok from → read_name row To ≡ Ok to → read_edge row ≡ (read_link row >>= (λ link. pure (edge_with from to link)))
+unfolding read_edge read_link
 edge-parts row from to is_from is_to = rw (is_from, is_to)
     (after_link (integer_or (pos 1) row Bytes) (optional as_bool row When) (flag_or false row Frozen) (only (From ∷ To ∷ Bytes ∷ When ∷ Frozen ∷ []) row)
     (λ link. pure (edge_with from to link)))
@@ -80,9 +80,9 @@ after_top (Ok faults) (Ok deadline) (Ok nodes) (Ok slots) (Ok processes) (Ok edg
 after_top (Ok faults) (Ok deadline) (Ok nodes) (Ok slots) (Ok processes) (Ok edges) (Ok order) (Ok done) next = refl
 
 -- a document, whose keys are read before its elements
-pub graph-parts : (ms : Members) → raw_graph_at ms ≡ (tops_at (record { table = tables.Top; index = 0; members = ms }) >>= elements_at)
-unfolding raw_graph_at tops_at lists_at elements_at
+pub graph-parts : (ms : Members) → read_raw ms ≡ (read_tops (record { table = tables.Top; index = 0; members = ms }) >>= read_elements)
+unfolding read_raw read_tops read_lists read_elements
 graph-parts ms =
     let top : DocumentRow = record { table = tables.Top; index = 0; members = ms } in
-    after_top (integer_at top Faults) (integer_at top Deadline) (tables_at top Node) (tables_at top Slot) (tables_at top Process) (tables_at top Edge) (optional as_names top Order)
-    (only (Faults ∷ Deadline ∷ Node ∷ Slot ∷ Process ∷ Edge ∷ Order ∷ []) top) elements_at
+    after_top (read_integer top Faults) (read_integer top Deadline) (read_array top Node) (read_array top Slot) (read_array top Process) (read_array top Edge) (optional as_names top Order)
+    (only (Faults ∷ Deadline ∷ Node ∷ Slot ∷ Process ∷ Edge ∷ Order ∷ []) top) read_elements

@@ -12,7 +12,7 @@ use Rattle.cpg_base.specs.Name.{IsName}
 use Rattle.cpg_base.specs.Limits.{IsOrderWithin, IsWithinLimits}
 use Rattle.cpg_base.specs.declared.process.Process.{Process}
 use Rattle.cpg_base.specs.declared.process.Edge.{Edge}
-use Rattle.cpg_reader.specs.Document.{problem_at, problem_of}
+use Rattle.cpg_reader.specs.Document.{read_members, problem_of}
 use Rattle.cpg_reader.proofs.DocumentLaws.{problem_of-read}
 use Rattle.cpg_reader.specs.WrittenTree.{node_members, slot_members, process_members, edge_members, graph_members}
 use Rattle.cpg_reader.specs.RawOf.{name_in, names_of}
@@ -77,8 +77,8 @@ module _ (g : Graph) (limited : IsWithinLimits g) (nodes : All IsName g.nodes) (
     order = order_named g.order limited.order;
   }
 
-  members_back : problem_at (graph_members g) ≡ Ok g
-  unfolding problem_at
+  members_back : read_members (graph_members g) ≡ Ok g
+  unfolding read_members
   members_back = rw (raw_read g are_names, raw_limited g limited) (graph_back g limited)
 
   pub text_back : (text : List ℕ) → IsUtf8 text → parse_document text ≡ Some (graph_members g) → problem_of text ≡ Ok g

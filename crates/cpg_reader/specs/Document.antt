@@ -6,7 +6,7 @@ use Rattle.toml.specs.Parse.{parse_document}
 use Rattle.cpg_base.specs.Graph.{Graph}
 use Rattle.cpg_reader.specs.declared.place.ReadFault.TheVariants.{NotToml}
 use Rattle.cpg_reader.specs.Reading.{Reading, pure, ◌>>=◌, ◌>>◌}
-use Rattle.cpg_reader.specs.Shape.{raw_graph_at}
+use Rattle.cpg_reader.specs.Shape.{read_raw}
 use Rattle.cpg_reader.specs.Ranges.{limits}
 use Rattle.cpg_reader.specs.Names.{graph_of}
 
@@ -19,12 +19,12 @@ unfoldable pub document_of : List ℕ → Reading Members
 document_of bytes = members_if (if is_utf8 bytes then parse_document bytes else None)
 
 -- The graph of a table. Its keys and types are checked first, then its limits, and then its names.
-unfoldable pub problem_at : Members → Reading Graph
-problem_at ms = do
-  g ← raw_graph_at ms
+unfoldable pub read_members : Members → Reading Graph
+read_members ms = do
+  g ← read_raw ms
   limits g
   graph_of g
 
 -- the graph that a file's bytes say, or their first refusal
 unfoldable pub problem_of : List ℕ → Reading Graph
-problem_of bytes = document_of bytes >>= problem_at
+problem_of bytes = document_of bytes >>= read_members

@@ -115,11 +115,11 @@ unfoldable pub only : List Key → DocumentRow → Reading (Unit {0})
 only keys row = if are_listed keys row.members then done else bad row Unknown
 
 -- the fields of a table, by what they are
-unfoldable pub name_at : DocumentRow → Key → Reading (List ℕ)
-name_at = required as_name
+unfoldable pub read_name : DocumentRow → Key → Reading (List ℕ)
+read_name = required as_name
 
-unfoldable pub integer_at : DocumentRow → Key → Reading ℤ
-integer_at = required as_integer
+unfoldable pub read_integer : DocumentRow → Key → Reading ℤ
+read_integer = required as_integer
 
 unfoldable pub integer_or : ℤ → DocumentRow → Key → Reading ℤ
 integer_or value = with_default value as_integer
@@ -127,5 +127,5 @@ integer_or value = with_default value as_integer
 unfoldable pub flag_or : Bool → DocumentRow → Key → Reading Bool
 flag_or value = with_default value as_bool
 
-unfoldable pub tables_at : DocumentRow → Key → Reading (List Members)
-tables_at = with_default [] as_tables
+unfoldable pub read_array : DocumentRow → Key → Reading (List Members)
+read_array = with_default [] as_tables

@@ -13,27 +13,27 @@ use Rattle.cpg_reader.specs.declared.shape.RawWork.{RawWork}
 use Rattle.cpg_reader.specs.declared.shape.RawLink.{RawLink}
 use Rattle.cpg_reader.specs.declared.shape.Tops.{Tops as TopsOfCode}
 use Rattle.cpg_reader.specs.Reading.{Reading, pure, ◌>>=◌, ◌>>◌, each}
-use Rattle.cpg_reader.specs.Rows.{DocumentRow, name_at, integer_at, integer_or, flag_or, optional, as_names, tables_at, only}
+use Rattle.cpg_reader.specs.Rows.{DocumentRow, read_name, read_integer, integer_or, flag_or, optional, as_names, read_array, only}
 
-unfoldable pub node_at : DocumentRow → Reading (List ℕ)
-node_at row = do
-  name ← name_at row Name
+unfoldable pub read_node : DocumentRow → Reading (List ℕ)
+read_node row = do
+  name ← read_name row Name
   only (Name ∷ []) row
   pure name
 
-unfoldable pub slot_at : DocumentRow → Reading RawSlot
-slot_at row = do
-  node ← name_at row Node
-  length ← integer_at row Length
-  bytes ← integer_at row Bytes
+unfoldable pub read_slot : DocumentRow → Reading RawSlot
+read_slot row = do
+  node ← read_name row Node
+  length ← read_integer row Length
+  bytes ← read_integer row Bytes
   only (Node ∷ Length ∷ Bytes ∷ []) row
   pure (record { node = node; length = length; bytes = bytes })
 
-unfoldable pub process_at : DocumentRow → Reading RawProcess
-process_at row = do
-  name ← name_at row Name
-  node ← name_at row Node
-  wcet ← integer_at row Wcet
+unfoldable pub read_process : DocumentRow → Reading RawProcess
+read_process row = do
+  name ← read_name row Name
+  node ← read_name row Node
+  wcet ← read_integer row Wcet
   parts ← integer_or (pos 1) row Parts
   alpha ← integer_or (pos 0) row Alpha
   chi ← integer_or (pos 0) row Chi
@@ -58,9 +58,9 @@ process_at row = do
   })
 
 -- what a process has beside its names, and the end of its table
-unfoldable pub work_at : DocumentRow → Reading RawWork
-work_at row = do
-  wcet ← integer_at row Wcet
+unfoldable pub read_work : DocumentRow → Reading RawWork
+read_work row = do
+  wcet ← read_integer row Wcet
   parts ← integer_or (pos 1) row Parts
   alpha ← integer_or (pos 0) row Alpha
   chi ← integer_or (pos 0) row Chi
@@ -88,10 +88,10 @@ process_with name node w = record {
   deadline = w.deadline;
 }
 
-unfoldable pub edge_at : DocumentRow → Reading RawEdge
-edge_at row = do
-  from ← name_at row From
-  to ← name_at row To
+unfoldable pub read_edge : DocumentRow → Reading RawEdge
+read_edge row = do
+  from ← read_name row From
+  to ← read_name row To
   bytes ← integer_or (pos 1) row Bytes
   when ← optional as_bool row When
   frozen ← flag_or false row Frozen
@@ -99,8 +99,8 @@ edge_at row = do
   pure (record { from = from; to = to; bytes = bytes; when = when; frozen = frozen })
 
 -- what an edge has beside its ends, and the end of its table
-unfoldable pub link_at : DocumentRow → Reading RawLink
-link_at row = do
+unfoldable pub read_link : DocumentRow → Reading RawLink
+read_link row = do
   bytes ← integer_or (pos 1) row Bytes
   when ← optional as_bool row When
   frozen ← flag_or false row Frozen
@@ -112,8 +112,8 @@ abbrev pub edge_with : List ℕ → List ℕ → RawLink → RawEdge
 edge_with from to l = record { from = from; to = to; bytes = l.bytes; when = l.when; frozen = l.frozen }
 
 -- the elements of a list of the document
-abbrev pub rows_at : {T : Type 0} → Table → (DocumentRow → Reading T) → List Members → Reading (List T)
-rows_at table element_at members = each (λ i ms. element_at (record { table = table; index = i; members = ms })) 0 members
+abbrev pub read_rows : {T : Type 0} → Table → (DocumentRow → Reading T) → List Members → Reading (List T)
+read_rows table element_at members = each (λ i ms. element_at (record { table = table; index = i; members = ms })) 0 members
 
 -- what a document says: numbers of any size, and names that need not name anything
 pub record RawGraph : Type 0 where
@@ -137,21 +137,21 @@ raw_view p = record {
 }
 
 -- the whole document: first the keys of the top, then each element of each list
-unfoldable pub raw_graph_at : Members → Reading RawGraph
-raw_graph_at ms = do
+unfoldable pub read_raw : Members → Reading RawGraph
+read_raw ms = do
   let top : DocumentRow = record { table = tables.Top; index = 0; members = ms }
-  faults ← integer_at top Faults
-  deadline ← integer_at top Deadline
-  node_tables ← tables_at top Node
-  slot_tables ← tables_at top Slot
-  process_tables ← tables_at top Process
-  edge_tables ← tables_at top Edge
+  faults ← read_integer top Faults
+  deadline ← read_integer top Deadline
+  node_tables ← read_array top Node
+  slot_tables ← read_array top Slot
+  process_tables ← read_array top Process
+  edge_tables ← read_array top Edge
   order ← optional as_names top Order
   only (Faults ∷ Deadline ∷ Node ∷ Slot ∷ Process ∷ Edge ∷ Order ∷ []) top
-  nodes ← rows_at tables.Node node_at node_tables
-  slots ← rows_at tables.Slot slot_at slot_tables
-  processes ← rows_at tables.Process process_at process_tables
-  edges ← rows_at tables.Edge edge_at edge_tables
+  nodes ← read_rows tables.Node read_node node_tables
+  slots ← read_rows tables.Slot read_slot slot_tables
+  processes ← read_rows tables.Process read_process process_tables
+  edges ← read_rows tables.Edge read_edge edge_tables
   pure (record { faults = faults; deadline = deadline; nodes = nodes; slots = slots; processes = processes; edges = edges; order = order })
 
 -- what stands at the keys of the top: two numbers, the tables of each list, and the names of the order
@@ -176,28 +176,28 @@ tops_view t = record {
 }
 
 -- the tables of each list, the names of the order, and the end of the top
-unfoldable pub lists_at : DocumentRow → ℤ → ℤ → Reading Tops
-lists_at top faults deadline = do
-  node_tables ← tables_at top Node
-  slot_tables ← tables_at top Slot
-  process_tables ← tables_at top Process
-  edge_tables ← tables_at top Edge
+unfoldable pub read_lists : DocumentRow → ℤ → ℤ → Reading Tops
+read_lists top faults deadline = do
+  node_tables ← read_array top Node
+  slot_tables ← read_array top Slot
+  process_tables ← read_array top Process
+  edge_tables ← read_array top Edge
   order ← optional as_names top Order
   only (Faults ∷ Deadline ∷ Node ∷ Slot ∷ Process ∷ Edge ∷ Order ∷ []) top
   pure (record { faults = faults; deadline = deadline; nodes = node_tables; slots = slot_tables; processes = process_tables; edges = edge_tables; order = order })
 
 -- all keys of the top
-unfoldable pub tops_at : DocumentRow → Reading Tops
-tops_at top = do
-  faults ← integer_at top Faults
-  deadline ← integer_at top Deadline
-  lists_at top faults deadline
+unfoldable pub read_tops : DocumentRow → Reading Tops
+read_tops top = do
+  faults ← read_integer top Faults
+  deadline ← read_integer top Deadline
+  read_lists top faults deadline
 
 -- the elements of each list, one list after the other
-unfoldable pub elements_at : Tops → Reading RawGraph
-elements_at t = do
-  nodes ← rows_at tables.Node node_at t.nodes
-  slots ← rows_at tables.Slot slot_at t.slots
-  processes ← rows_at tables.Process process_at t.processes
-  edges ← rows_at tables.Edge edge_at t.edges
+unfoldable pub read_elements : Tops → Reading RawGraph
+read_elements t = do
+  nodes ← read_rows tables.Node read_node t.nodes
+  slots ← read_rows tables.Slot read_slot t.slots
+  processes ← read_rows tables.Process read_process t.processes
+  edges ← read_rows tables.Edge read_edge t.edges
   pure (record { faults = t.faults; deadline = t.deadline; nodes = nodes; slots = slots; processes = processes; edges = edges; order = t.order })

@@ -2,7 +2,7 @@
 ghost use Rattle.std.specs.Prelude.{◌≡◌, ◌≢◌, Err};
 ghost use Rattle.toml.specs.View.{table_view};
 ghost use Rattle.cpg_reader.specs.Reading.{Gives};
-ghost use Rattle.cpg_reader.specs.Document.{problem_at, problem_of};
+ghost use Rattle.cpg_reader.specs.Document.{read_members, problem_of};
 
 use crate::building::problem_of;
 use crate::place::ReadFault;
@@ -11,9 +11,9 @@ use crate::shape::raw_problem;
 use cpg_base::Problem;
 use std::alloc::Global;
 
-#[tactic(auto, unfolding(crate::specs::Document::problem_at))]
-fn problem_at(alloc: Global, members: &toml::Table) -> Result<Problem, ReadFault>
-    ensures { Gives (λ p. p) result (problem_at (table_view members.now)) }
+#[tactic(auto, unfolding(crate::specs::Document::read_members))]
+fn read_members(alloc: Global, members: &toml::Table) -> Result<Problem, ReadFault>
+    ensures { Gives (λ p. p) result (read_members (table_view members.now)) }
 {
     let raw = raw_problem(alloc, members)?;
     limits(alloc, &raw)?;
@@ -29,7 +29,7 @@ pub fn read_problem(alloc: Global, bytes: &[u8]) -> Result<Problem, ReadFault>
     ensures { result ≢ Err ReadFault.OutOfMemory → result ≡ problem_of bytes.now }
 {
     match toml::table_from_slice(alloc, bytes) {
-        Ok(table) => problem_at(alloc, &table),
+        Ok(table) => read_members(alloc, &table),
         Err(error) => {
             if error.is_memory() {
                 Err(ReadFault::OutOfMemory)

@@ -4,7 +4,7 @@ ghost use Rattle.std.specs.List.{list_any};
 ghost use Rattle.toml.specs.Data.{as_integer, as_bool, as_table};
 ghost use Rattle.toml.specs.View.{view, array_view, table_view};
 ghost use Rattle.cpg_reader.specs.Reading.{Gives};
-ghost use Rattle.cpg_reader.specs.Rows.{row_view, place_in, value_at, as_name, as_tables, items_as, as_names, are_listed, optional, name_at, integer_at, integer_or, flag_or, tables_at, only, text_of};
+ghost use Rattle.cpg_reader.specs.Rows.{row_view, place_in, value_at, as_name, as_tables, items_as, as_names, are_listed, optional, read_name, read_integer, integer_or, flag_or, read_array, only, text_of};
 
 use crate::place::{Key, Place, ReadFault, Table};
 use cpg_base::{Name, OutOfMemory};
@@ -66,9 +66,9 @@ impl<'a> DocumentRow<'a> {
     }
 
     /// A required integer.
-    #[tactic(auto, unfolding(crate::specs::Rows::integer_at))]
+    #[tactic(auto, unfolding(crate::specs::Rows::read_integer))]
     pub fn integer(&self, key: Key) -> Result<i64, ReadFault>
-        ensures { Gives (λ n. n) result (integer_at (row_view self.now) key) }
+        ensures { Gives (λ n. n) result (read_integer (row_view self.now) key) }
     {
         match self.optional_integer(key)? {
             Some(number) => Ok(number),
@@ -95,9 +95,9 @@ impl<'a> DocumentRow<'a> {
     }
 
     /// A required name.
-    #[tactic(auto, unfolding(crate::specs::Rows::name_at, crate::specs::Rows::optional))]
+    #[tactic(auto, unfolding(crate::specs::Rows::read_name, crate::specs::Rows::optional))]
     pub fn name(&self, alloc: Global, key: Key) -> Result<Name, ReadFault>
-        ensures { Gives (λ n. n) result (name_at (row_view self.now) key) }
+        ensures { Gives (λ n. n) result (read_name (row_view self.now) key) }
     {
         let Some(value) = self.value(key) else {
             return Err(self.bad(key));
@@ -109,9 +109,9 @@ impl<'a> DocumentRow<'a> {
     }
 
     /// An array of tables, which is empty by default.
-    #[tactic(auto, unfolding(crate::specs::Rows::tables_at, crate::specs::Rows::optional))]
+    #[tactic(auto, unfolding(crate::specs::Rows::read_array, crate::specs::Rows::optional))]
     pub fn tables(&self, alloc: Global, key: Key) -> Result<Vec<&'a toml::Table>, ReadFault>
-        ensures { Gives (λ v. map (λ t. table_view t.now) v.items) result (tables_at (row_view self.now) key) }
+        ensures { Gives (λ v. map (λ t. table_view t.now) v.items) result (read_array (row_view self.now) key) }
     {
         let Some(value) = self.value(key) else {
             return Ok(Vec::new(alloc));

@@ -3,7 +3,7 @@ ghost use Rattle.std.specs.Prelude.{◌≡◌, map};
 ghost use Rattle.toml.specs.View.{table_view};
 ghost use Rattle.cpg_reader.specs.Reading.{Reading, Gives, each};
 ghost use Rattle.cpg_reader.specs.Rows.{DocumentRow as RowOfDocument, row_view};
-ghost use Rattle.cpg_reader.specs.Shape.{node_at, slot_at, process_at, work_at, edge_at, link_at, rows_at, raw_view, raw_graph_at, tops_view, tops_at, lists_at, elements_at};
+ghost use Rattle.cpg_reader.specs.Shape.{read_node, read_slot, read_process, read_work, read_edge, read_link, read_rows, raw_view, read_raw, tops_view, read_tops, read_lists, read_elements};
 
 use crate::place::{Key, ReadFault, Table};
 use crate::row::DocumentRow;
@@ -65,9 +65,9 @@ pub struct RawProblem {
 }
 
 impl Element for Name {
-    ghost reads = { node_at };
+    ghost reads = { read_node };
 
-    #[tactic(auto, unfolding(crate::specs::Shape::node_at))]
+    #[tactic(auto, unfolding(crate::specs::Shape::read_node))]
     fn read(alloc: Global, row: &DocumentRow<'_>) -> Result<Name, ReadFault> {
         let name = row.name(alloc, Key::Name)?;
         row.only(&[Key::Name])?;
@@ -76,9 +76,9 @@ impl Element for Name {
 }
 
 impl Element for RawSlot {
-    ghost reads = { slot_at };
+    ghost reads = { read_slot };
 
-    #[tactic(auto, unfolding(crate::specs::Shape::slot_at))]
+    #[tactic(auto, unfolding(crate::specs::Shape::read_slot))]
     fn read(alloc: Global, row: &DocumentRow<'_>) -> Result<RawSlot, ReadFault> {
         let node = row.name(alloc, Key::Node)?;
         let length = row.integer(Key::Length)?;
@@ -107,9 +107,9 @@ struct RawWork {
 }
 
 /// What a process has beside its names, if its table has no other key.
-#[tactic(auto, unfolding(crate::specs::Shape::work_at))]
+#[tactic(auto, unfolding(crate::specs::Shape::read_work))]
 fn read_work(row: &DocumentRow<'_>) -> Result<RawWork, ReadFault>
-    ensures { Gives (λ x. x) result (work_at (row_view row.now)) }
+    ensures { Gives (λ x. x) result (read_work (row_view row.now)) }
 {
     let wcet = row.integer(Key::Wcet)?;
     let parts = row.integer_or(Key::Parts, 1)?;
@@ -147,9 +147,9 @@ fn read_work(row: &DocumentRow<'_>) -> Result<RawWork, ReadFault>
 }
 
 impl Element for RawProcess {
-    ghost reads = { process_at };
+    ghost reads = { read_process };
 
-    #[tactic(auto, unfolding(crate::specs::Shape::process_at))]
+    #[tactic(auto, unfolding(crate::specs::Shape::read_process))]
     fn read(alloc: Global, row: &DocumentRow<'_>) -> Result<RawProcess, ReadFault> {
         let name = row.name(alloc, Key::Name)?;
         let node = row.name(alloc, Key::Node)?;
@@ -179,9 +179,9 @@ struct RawLink {
 }
 
 /// What an edge has beside its ends, if its table has no other key.
-#[tactic(auto, unfolding(crate::specs::Shape::link_at))]
+#[tactic(auto, unfolding(crate::specs::Shape::read_link))]
 fn read_link(row: &DocumentRow<'_>) -> Result<RawLink, ReadFault>
-    ensures { Gives (λ x. x) result (link_at (row_view row.now)) }
+    ensures { Gives (λ x. x) result (read_link (row_view row.now)) }
 {
     let bytes = row.integer_or(Key::Bytes, 1)?;
     let when = row.optional_flag(Key::When)?;
@@ -195,9 +195,9 @@ fn read_link(row: &DocumentRow<'_>) -> Result<RawLink, ReadFault>
 }
 
 impl Element for RawEdge {
-    ghost reads = { edge_at };
+    ghost reads = { read_edge };
 
-    #[tactic(auto, unfolding(crate::specs::Shape::edge_at))]
+    #[tactic(auto, unfolding(crate::specs::Shape::read_edge))]
     fn read(alloc: Global, row: &DocumentRow<'_>) -> Result<RawEdge, ReadFault> {
         let from = row.name(alloc, Key::From)?;
         let to = row.name(alloc, Key::To)?;
@@ -218,7 +218,7 @@ fn rows<T: Element + Drop>(
     table: Table,
     elements: &[&toml::Table],
 ) -> Result<Vec<T>, ReadFault>
-    ensures { Gives (λ v. v.items) result (rows_at table T.reads (map (λ t. table_view t.now) elements.now)) }
+    ensures { Gives (λ v. v.items) result (read_rows table T.reads (map (λ t. table_view t.now) elements.now)) }
 {
     let mut rows = Vec::with_capacity(alloc, elements.len())?;
     for (index, members) in elements.iter().enumerate() {
@@ -245,14 +245,14 @@ struct Tops<'a> {
 }
 
 /// The tables of each list of the top and the names of the order, if it has no other key.
-#[tactic(auto, unfolding(crate::specs::Shape::lists_at))]
+#[tactic(auto, unfolding(crate::specs::Shape::read_lists))]
 fn read_lists<'a>(
     alloc: Global,
     top: &DocumentRow<'a>,
     faults: i64,
     deadline: i64,
 ) -> Result<Tops<'a>, ReadFault>
-    ensures { Gives tops_view result (lists_at (row_view top.now) faults deadline) }
+    ensures { Gives tops_view result (read_lists (row_view top.now) faults deadline) }
 {
     let nodes = top.tables(alloc, Key::Node)?;
     let slots = top.tables(alloc, Key::Slot)?;
@@ -280,9 +280,9 @@ fn read_lists<'a>(
 }
 
 /// What stands at the keys of the top.
-#[tactic(auto, unfolding(crate::specs::Shape::tops_at))]
+#[tactic(auto, unfolding(crate::specs::Shape::read_tops))]
 fn read_top<'a>(alloc: Global, top: &DocumentRow<'a>) -> Result<Tops<'a>, ReadFault>
-    ensures { Gives tops_view result (tops_at (row_view top.now)) }
+    ensures { Gives tops_view result (read_tops (row_view top.now)) }
 {
     let faults = top.integer(Key::Faults)?;
     let deadline = top.integer(Key::Deadline)?;
@@ -290,9 +290,9 @@ fn read_top<'a>(alloc: Global, top: &DocumentRow<'a>) -> Result<Tops<'a>, ReadFa
 }
 
 /// The elements of each list, one list after the other.
-#[tactic(auto, unfolding(crate::specs::Shape::elements_at))]
+#[tactic(auto, unfolding(crate::specs::Shape::read_elements))]
 fn read_elements(alloc: Global, tops: Tops<'_>) -> Result<RawProblem, ReadFault>
-    ensures { Gives raw_view result (elements_at (tops_view tops.entry)) }
+    ensures { Gives raw_view result (read_elements (tops_view tops.entry)) }
 {
     let nodes = rows(alloc, Table::Node, tops.nodes.as_slice())?;
     let slots = rows(alloc, Table::Slot, tops.slots.as_slice())?;
@@ -311,7 +311,7 @@ fn read_elements(alloc: Global, tops: Tops<'_>) -> Result<RawProblem, ReadFault>
 
 /// All that a document says.
 pub fn raw_problem(alloc: Global, members: &toml::Table) -> Result<RawProblem, ReadFault>
-    ensures { Gives raw_view result (raw_graph_at (table_view members.now)) }
+    ensures { Gives raw_view result (read_raw (table_view members.now)) }
 {
     let top = DocumentRow {
         table: Table::Top,

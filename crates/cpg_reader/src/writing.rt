@@ -121,7 +121,7 @@ fn document(alloc: Global, problem: &Problem) -> Result<Table, OutOfMemory>
 pub fn graph_text(alloc: Global, problem: &Problem) -> Result<String, OutOfMemory>
     ensures { IfOk result (λ text. problem_of (string_bytes text) ≡ Ok problem.now) }
 {
-    // its clause tells that the graph is within its limits
+    // called for its contract: the graph is within its limits
     let _faults = problem.faults();
     let table = document(alloc, problem)?;
     match toml::table_to_string(alloc, &table) {

@@ -59,7 +59,7 @@ struct CutSpan {
     faults: u8,
 }
 
-/// What literals say of a variable: no number below `low`, and none above `high` but where that is the last of all.
+/// The range that literals have of a variable: no number below `low`, and none above `high` but where that is the last of all.
 #[derive(Clone, Copy)]
 struct VariableRange {
     low: u8,
@@ -92,7 +92,7 @@ pub(crate) struct TreeGrowth {
 }
 
 impl TreeGrowth {
-    /// A list without items, with room for the tree of so many places, each at one leaf.
+    /// A list without items, with memory for the tree of this many places, each at one leaf.
     pub(crate) fn new(alloc: Global, places: usize, left: u32) -> Result<TreeGrowth, OutOfMemory>
         ensures items { IfOk result (λ r. r.items.items ≡ []) }
         ensures left { IfOk result (λ r. r.left ≡ left) }
@@ -215,7 +215,7 @@ fn literal_at(literals: &[Literal], place: usize, variable: u8) -> Option<Litera
     Some(literals[place])
 }
 
-/// What a literal says of its variable.
+/// The range that a literal has of its variable.
 fn literal_range(literal: Literal, is_first: bool) -> VariableRange
     ensures { result ≡ record { low = literal.low; high = literal.high; is_first = is_first } }
 {
@@ -226,7 +226,7 @@ fn literal_range(literal: Literal, is_first: bool) -> VariableRange
     }
 }
 
-/// What literals say of a variable, but for the first `held`, which hold in the whole space.
+/// The range that literals have of a variable, but for the first `held`, which hold in the whole space.
 fn variable_range(literals: &[Literal], held: usize, variable: u8) -> VariableRange
     ensures { IsVariableRange literals.now variable result }
 {
@@ -543,7 +543,7 @@ fn places_top(space: &Space, cubes: &[&Cube], hints: &[PlaceHint], tally: &mut T
     PlacesTop::Leaf(Some(first.place))
 }
 
-/// How many more items there may be if a fork parts so many places: each that goes to both sides counts as one.
+/// How many more items there may be if a fork parts this many places: each that goes to both sides counts as one.
 fn left_after(left: u32, count: usize, sides: &PlaceSides) -> u32
     ensures { result ≤ left }
 {
@@ -674,7 +674,7 @@ fn hints_of(
     Ok(hints)
 }
 
-/// The tree of places of cubes in any order, in the scenarios of at most `k` faults and with at most so many items, by forks
+/// The tree of places of cubes in any order, in the scenarios of at most `k` faults and with at most this many items, by forks
 /// that a tally chooses.
 fn place_tree_by(
     alloc: Global,

@@ -28,7 +28,7 @@ enum GuessedWay {
     ByEnds,
 }
 
-/// Cubes that stand together, from a place up to another, in a space in which so many variables are narrower than in all
+/// Cubes that stand together, from a place up to another, in a space in which this many variables are narrower than in all
 /// scenarios. `held` is where to look first in the literals: a hint, that no clause speaks of.
 #[derive(Clone, Copy)]
 struct Slice {
@@ -39,7 +39,7 @@ struct Slice {
     way: GuessedWay,
 }
 
-/// Where a slice parts, and how many of its first cube's literals stand before the one that tells it.
+/// Where a slice parts, and how many of its first cube's literals stand before the one on its variable.
 #[derive(Clone, Copy)]
 struct SlicePart {
     cut: PlaceCut,
@@ -154,7 +154,7 @@ fn sides_of(k: u8, space: &Space, cut: PlaceCut) -> ForkSides
     ensures lows { length space.now.low ≡ 256 }
     ensures highs { length space.now.high ≡ 256 }
 {
-    // each read tells that its list has 256 numbers, and that the high fits its type tells that `cut.most + 1` does
+    // each read is for its contract: its list has 256 numbers, and as the high fits its type, `cut.most + 1` does
     let _low = space.low[cut.variable as usize];
     let _high = space.high[cut.variable as usize];
     ForkSides {

@@ -5,7 +5,7 @@ ghost use Rattle.cpg_row_trees.specs.Trees.{AreRowTrees, IsRowTree};
 
 use crate::Places;
 use cpg_base::{OutOfMemory, Problem};
-use cpg_cube::{Entry, cubes_of};
+use cpg_cube::{Column, cubes_of};
 use cpg_table::Tables;
 use std::alloc::Global;
 
@@ -13,7 +13,7 @@ use std::alloc::Global;
 pub fn tree_of(
     alloc: Global,
     problem: &Problem,
-    columns: &[Entry],
+    columns: &[Column],
 ) -> Result<Option<Places>, OutOfMemory>
     requires { length columns.now ≤ MOST_LOAD }
     ensures { IfOk result (λ r. IfSome r (IsRowTree problem.now columns.now)) }

@@ -10,7 +10,7 @@ ghost use Rattle.cpg_row_trees.specs.Places.{IsThere};
 
 use cpg_tree::{Space, Top, TreeItem, part_in, top_of};
 
-/// A test of the places that scenarios come to: what it tells if it passes.
+/// A test of the places that scenarios come to: what it guarantees if it passes.
 pub trait Test {
     ghost guarantees: { Self → Option ℕ → Scenario → Type 0 };
 
@@ -19,7 +19,7 @@ pub trait Test {
         ensures { OnTrue result ((s : Scenario) → IsInSpace space.now s → guarantees self.now place s) };
 }
 
-/// A test of the places that scenarios come to in two trees: what it tells if it passes.
+/// A test of the places that scenarios come to in two trees: what it guarantees if it passes.
 pub trait PairTest {
     ghost guarantees: { Self → Option ℕ → Option ℕ → Scenario → Type 0 };
 

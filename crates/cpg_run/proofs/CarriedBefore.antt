@@ -19,7 +19,7 @@ use Rattle.cpg_base.proofs.Places.{on_node_before}
 use Rattle.cpg_cube.specs.declared.literal.Literal.{Literal}
 use Rattle.cpg_cube.specs.Cube.{matches}
 use Rattle.cpg_cube.specs.Column.{Column}
-use Rattle.cpg_run.specs.Carried.{told_by, number_known, decided, heard, received, executed, passed, carried_at_start, carried_at_end, sent_by_value, queued, carried_at_send, carried_by_item, carried}
+use Rattle.cpg_run.specs.Carried.{carried_by_row, number_known, decided, heard, received, executed, passed, carried_at_start, carried_at_end, sent_by_value, queued, carried_at_send, carried_by_item, carried}
 use Rattle.cpg_run.specs.RowLaws.{SameRowsBefore, CarriedRestsOnEarlier}
 use Rattle.cpg_run.proofs.Queued.{producer_no_later}
 
@@ -44,20 +44,20 @@ module _ (g : Graph) (order : List ℕ) (topological : IsTopological g order) wh
       (omega (arith, l), omega (arith, ap (place order) (producer_of_message g e l), input_goes_up g order topological p e j))
 
   module _ (rows others : List (List Column)) (bound : ℕ) (same : SameRowsBefore g order bound rows others) (s : Scenario) where
-    told_same : (y : ℕ) → y < item_count g → place order (producer g y) < bound → told_by rows s y ≡ told_by others s y
+    told_same : (y : ℕ) → y < item_count g → place order (producer g y) < bound → carried_by_row rows s y ≡ carried_by_row others s y
     told_same y l h = ap (λ cs. flat_map (λ (c : Column). c.cube) (filter (λ (c : Column). matches c.cube s) cs)) (same y (l, h))
 
     heard_same : (p : ℕ) → place order p ≤ bound → heard g rows s p ≡ heard g others s p
     heard_same p h = same_flat_map
-        (λ c. if node_of g (process_of g c) == node_of g p then [] else told_by rows s (broadcast_item g c))
-        (λ c. if node_of g (process_of g c) == node_of g p then [] else told_by others s (broadcast_item g c))
+        (λ c. if node_of g (process_of g c) == node_of g p then [] else carried_by_row rows s (broadcast_item g c))
+        (λ c. if node_of g (process_of g c) == node_of g p then [] else carried_by_row others s (broadcast_item g c))
         (deciding g s.values p)
         (λ c j. let r = hears_earlier s p c j in ap (λ ls. if node_of g (process_of g c) == node_of g p then [] else ls) (told_same (broadcast_item g c) r.0 (omega (arith, r.1, h))))
 
     received_same : (p : ℕ) → place order p ≤ bound → received g rows s p ≡ received g others s p
     received_same p h = same_flat_map
-        (λ e. if is_message g e then told_by rows s (message_item g e) else [])
-        (λ e. if is_message g e then told_by others s (message_item g e) else [])
+        (λ e. if is_message g e then carried_by_row rows s (message_item g e) else [])
+        (λ e. if is_message g e then carried_by_row others s (message_item g e) else [])
         (inputs g p)
         (λ e j. let r = receives_earlier p e j in ap (λ ls. if is_message g e then ls else []) (told_same (message_item g e) r.0 (omega (arith, r.1, h))))
 

@@ -26,7 +26,7 @@ use Rattle.cpg_cube.specs.Fit.{IsCube}
 use Rattle.cpg_cube.specs.Column.{Column}
 use Rattle.cpg_run.specs.Supported.{up_to}
 use Rattle.cpg_run.proofs.Awaited.{up_to_before, up_to_itself, up_to_parts}
-use Rattle.cpg_run.specs.Carried.{row_at, told_by, number_known, decided, heard, received, executed, passed, carried_at_start, carried_at_end, sent_by_value, queued, carried_at_send, carried_by_item}
+use Rattle.cpg_run.specs.Carried.{row_at, carried_by_row, number_known, decided, heard, received, executed, passed, carried_at_start, carried_at_end, sent_by_value, queued, carried_at_send, carried_by_item}
 use Rattle.cpg_run.specs.Carried.{carried}
 use Rattle.cpg_run.specs.RowLaws.{IsEarlier}
 use Rattle.cpg_run.proofs.CarriedBefore.{hears_earlier, receives_earlier}
@@ -69,7 +69,7 @@ module _ (g : Graph) (order : List ℕ) (rows : List (List Column)) (s : Scenari
     pub matched : matches column.cube s ≡ true
     pub literal : Contains column.cube m
 
-  from_told : (y : ℕ) (m : Literal) → Contains (told_by rows s y) m → FromRow y m
+  from_told : (y : ℕ) (m : Literal) → Contains (carried_by_row rows s y) m → FromRow y m
   from_told y m j =
       let r = Contains-flat_map_parts (λ (c : Column). c.cube) (filter (λ (c : Column). matches c.cube s) (row_at rows y)) m j in
       let q = Contains-filter_parts (λ (c : Column). matches c.cube s) (row_at rows y) r.0 r.1 in
@@ -145,14 +145,14 @@ module _ (g : Graph) (order : List ℕ) (rows : List (List Column)) (s : Scenari
 
   in_heard : (q : ℕ) (m : Literal) → Contains (heard g rows s q) m → FromBroadcast q m
   in_heard q m j =
-      let r = Contains-flat_map_parts (λ c. if node_of g (process_of g c) == node_of g q then [] else told_by rows s (broadcast_item g c)) (deciding g s.values q) m j in
-      let t = in_unless (node_of g (process_of g r.0) == node_of g q) (told_by rows s (broadcast_item g r.0)) m r.2 in
+      let r = Contains-flat_map_parts (λ c. if node_of g (process_of g c) == node_of g q then [] else carried_by_row rows s (broadcast_item g c)) (deciding g s.values q) m j in
+      let t = in_unless (node_of g (process_of g r.0) == node_of g q) (carried_by_row rows s (broadcast_item g r.0)) m r.2 in
       record { condition = r.0; decides = r.1; other = t.0; row = from_told (broadcast_item g r.0) m t.1 }
 
   in_received : (q : ℕ) (m : Literal) → Contains (received g rows s q) m → FromMessage q m
   in_received q m j =
-      let r = Contains-flat_map_parts (λ e. if is_message g e then told_by rows s (message_item g e) else []) (inputs g q) m j in
-      let t = in_if (is_message g r.0) (told_by rows s (message_item g r.0)) m r.2 in
+      let r = Contains-flat_map_parts (λ e. if is_message g e then carried_by_row rows s (message_item g e) else []) (inputs g q) m j in
+      let t = in_if (is_message g r.0) (carried_by_row rows s (message_item g r.0)) m r.2 in
       record { edge = r.0; input = r.1; message = t.0; row = from_told (message_item g r.0) m t.1 }
 
   in_passed : (p q : ℕ) (m : Literal) → Contains (before_on_node g order p) q → Contains (passed g rows s q) m → FromProcess p q m

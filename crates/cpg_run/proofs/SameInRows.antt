@@ -10,7 +10,7 @@ use Rattle.cpg_cube.specs.Cube.{matches}
 use Rattle.cpg_cube.specs.Column.{Column}
 use Rattle.cpg_run.specs.Run.{Times, IsRun, time_in}
 use Rattle.cpg_run.proofs.Runs.{time_is, has_time, time_parts}
-use Rattle.cpg_run.specs.Carried.{row_at, told_by}
+use Rattle.cpg_run.specs.Carried.{row_at, carried_by_row}
 use Rattle.cpg_run.specs.RowLaws.{HaveTimesOf}
 
 -- a list that a function makes one of is one, and one that it makes nothing of is nothing
@@ -32,7 +32,7 @@ matching_in rows s y = filter (λ (c : Column). matches c.cube s) (row_at rows y
 
 module _ (g : Graph) (order : List ℕ) (frozen : List (Option ℕ)) (rows : List (List Column)) (y : ℕ) (l : y < item_count g) (times : HaveTimesOf g order frozen y (row_at rows y)) where
   -- an inactive item's row tells nothing
-  pub tells_nothing : (s : Scenario) → IsScenario g s → (t : Times) → IsRun g order frozen s t → item_active g s.values (item_at g y) ≡ false → told_by rows s y ≡ []
+  pub tells_nothing : (s : Scenario) → IsScenario g s → (t : Times) → IsRun g order frozen s t → item_active g s.values (item_at g y) ≡ false → carried_by_row rows s y ≡ []
   unfolding matching_in
   tells_nothing s law t run off = ap (flat_map (λ (c : Column). c.cube)) (none_of_map (λ (c : Column). c.time) (matching_in rows s y)
       (times s t law run ∙ ap option_to_list (time_is g order frozen s t run y l ∙ cond-false _ _ _ off)))
@@ -44,7 +44,7 @@ module _ (g : Graph) (order : List ℕ) (frozen : List (Option ℕ)) (rows : Lis
     pub time : column.time ≡ time_in t y
     pub stands : Contains (row_at rows y) column
     pub matched : matches column.cube s ≡ true
-    pub tells : told_by rows s y ≡ column.cube
+    pub tells : carried_by_row rows s y ≡ column.cube
 
   pub the_match : (s : Scenario) → IsScenario g s → (t : Times) → IsRun g order frozen s t → item_active g s.values (item_at g y) ≡ true → Match s t
   unfolding matching_in
@@ -65,10 +65,10 @@ module _ (g : Graph) (order : List ℕ) (frozen : List (Option ℕ)) (rows : Lis
     pub record SameTold : Type 0 where
       pub acts : item_active g u.values (item_at g y) ≡ true
       pub time : get_or t.times y None ≡ get_or w.times y None
-      pub tells : told_by rows u y ≡ told_by rows s y
+      pub tells : carried_by_row rows u y ≡ carried_by_row rows s y
 
     -- if what its row tells in the first holds in the second
-    pub told_alike : item_active g s.values (item_at g y) ≡ true → matches (told_by rows s y) u ≡ true → SameTold
+    pub told_alike : item_active g s.values (item_at g y) ≡ true → matches (carried_by_row rows s y) u ≡ true → SameTold
     told_alike on h =
         let m = the_match s ls t run on in
         let c : Column = m.column in

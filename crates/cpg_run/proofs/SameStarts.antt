@@ -30,7 +30,7 @@ use Rattle.cpg_run.specs.Supported.{up_to}
 use Rattle.cpg_run.proofs.Awaited.{Earlier, earlier_parts, earlier_from, up_to_before, up_to_cases, up_to_earlier, up_to_parts}
 use Rattle.cpg_run.proofs.Rule8.{has_frozen_time}
 use Rattle.cpg_run.proofs.Runs.{time_active, has_time, end_active}
-use Rattle.cpg_run.specs.Carried.{row_at, told_by, number_known, decided, heard, received, executed, passed, carried_at_start, carried_at_end}
+use Rattle.cpg_run.specs.Carried.{row_at, carried_by_row, number_known, decided, heard, received, executed, passed, carried_at_start, carried_at_end}
 use Rattle.cpg_run.specs.RowLaws.{IsEarlier, HaveTimesOf, IsTimed}
 use Rattle.cpg_run.proofs.CarriedBefore.{hears_earlier, receives_earlier}
 use Rattle.cpg_run.proofs.CubesOf.{holds_left, holds_right, holds_each, holds_both, holds_all, same_number}
@@ -73,7 +73,7 @@ module _ (g : Graph) (urgency order : List ℕ) (frozen : List (Option ℕ)) (ro
   Told : ℕ → Type 0
   Told y = (e : IsEarlier g order bound y) → SameTold g order frozen rows y e.0 (z.times y e) s u z.first z.second t w z.run z.other
 
-  told : (y : ℕ) → item_active g s.values (item_at g y) ≡ true → matches (told_by rows s y) u ≡ true → Told y
+  told : (y : ℕ) → item_active g s.values (item_at g y) ≡ true → matches (carried_by_row rows s y) u ≡ true → Told y
   unfolding Told
   told y on h e = told_alike g order frozen rows y e.0 (z.times y e) s u z.first z.second t w z.run z.other on h
 
@@ -124,8 +124,8 @@ module _ (g : Graph) (urgency order : List ℕ) (frozen : List (Option ℕ)) (ro
                 k.formed.nodes p within,
                 k.formed.nodes (process_of g c) (process_of_below g c a.0),
               ) in
-              let tells : matches (told_by rows s (broadcast_item g c)) u ≡ true = subst (λ b. matches (if b then [] else told_by rows s (broadcast_item g c)) u ≡ true) far
-              (holds_each u (λ c. if node_of g (process_of g c) == node_of g p then [] else told_by rows s (broadcast_item g c)) (deciding g s.values p) c h j) in
+              let tells : matches (carried_by_row rows s (broadcast_item g c)) u ≡ true = subst (λ b. matches (if b then [] else carried_by_row rows s (broadcast_item g c)) u ≡ true) far
+              (holds_each u (λ c. if node_of g (process_of g c) == node_of g p then [] else carried_by_row rows s (broadcast_item g c)) (deciding g s.values p) c h j) in
               told (broadcast_item g c) (ap (item_active g s.values) (item_at-broadcast g c) ∙ and_from _ _ (lt-ltb 1 (length g.nodes) two) a.1) tells
 
           hears_at : (c : ℕ) → Contains (deciding g s.values p) c → IsEarlier g order bound (broadcast_item g c)
@@ -139,10 +139,10 @@ module _ (g : Graph) (urgency order : List ℕ) (frozen : List (Option ℕ)) (ro
 
           pub heard_is_same : heard g rows u p ≡ heard g rows s p
           unfolding Told
-          heard_is_same = ap (flat_map (λ c. if node_of g (process_of g c) == node_of g p then [] else told_by rows u (broadcast_item g c))) (sym deciding_is_same)
+          heard_is_same = ap (flat_map (λ c. if node_of g (process_of g c) == node_of g p then [] else carried_by_row rows u (broadcast_item g c))) (sym deciding_is_same)
               ∙ same_flat_map
-              (λ c. if node_of g (process_of g c) == node_of g p then [] else told_by rows u (broadcast_item g c))
-              (λ c. if node_of g (process_of g c) == node_of g p then [] else told_by rows s (broadcast_item g c))
+              (λ c. if node_of g (process_of g c) == node_of g p then [] else carried_by_row rows u (broadcast_item g c))
+              (λ c. if node_of g (process_of g c) == node_of g p then [] else carried_by_row rows s (broadcast_item g c))
               (deciding g s.values p)
               (λ c j. elim (cases_Bool (node_of g (process_of g c) == node_of g p)) [
                 | inl near ↦ cond-true _ _ _ near ∙ sym (cond-true _ _ _ near)
@@ -176,15 +176,15 @@ module _ (g : Graph) (urgency order : List ℕ) (frozen : List (Option ℕ)) (ro
           module _ (m : matches (received g rows s p) u ≡ true) where
             receives : (e : ℕ) → Contains (inputs g p) e → is_message g e ≡ true → live g s.values e ≡ true → Told (message_item g e)
             receives e j is v = told (message_item g e) (message_acts s.values e (inputs_parts g p e j).0 is ∙ v)
-                (subst (λ b. matches (if b then told_by rows s (message_item g e) else []) u ≡ true) is
-                (holds_each u (λ e. if is_message g e then told_by rows s (message_item g e) else []) (inputs g p) e m j))
+                (subst (λ b. matches (if b then carried_by_row rows s (message_item g e) else []) u ≡ true) is
+                (holds_each u (λ e. if is_message g e then carried_by_row rows s (message_item g e) else []) (inputs g p) e m j))
 
             pub receives_time : (e : ℕ) → Contains (inputs g p) e → is_message g e ≡ true → live g s.values e ≡ true → get_or t.times (message_item g e) None ≡ get_or w.times (message_item g e) None
             unfolding Told
             receives_time e j is v = (receives e j is v (receives_at e j)).time
 
             -- a message that is not sent tells nothing in either
-            message_same : (e : ℕ) → Contains (inputs g p) e → is_message g e ≡ true → told_by rows u (message_item g e) ≡ told_by rows s (message_item g e)
+            message_same : (e : ℕ) → Contains (inputs g p) e → is_message g e ≡ true → carried_by_row rows u (message_item g e) ≡ carried_by_row rows s (message_item g e)
             unfolding Told
             message_same e j is = let l = (inputs_parts g p e j).0 in let at = receives_at e j in elim (cases_Bool (live g s.values e)) [
               | inl v ↦ (receives e j is v at).tells
@@ -194,8 +194,8 @@ module _ (g : Graph) (urgency order : List ℕ) (frozen : List (Option ℕ)) (ro
 
             pub received_is_same : received g rows u p ≡ received g rows s p
             received_is_same = same_flat_map
-                (λ e. if is_message g e then told_by rows u (message_item g e) else [])
-                (λ e. if is_message g e then told_by rows s (message_item g e) else [])
+                (λ e. if is_message g e then carried_by_row rows u (message_item g e) else [])
+                (λ e. if is_message g e then carried_by_row rows s (message_item g e) else [])
                 (inputs g p)
                 (λ e j. elim (cases_Bool (is_message g e)) [
                   | inl is ↦ ap (λ ls. if is_message g e then ls else []) (message_same e j is)

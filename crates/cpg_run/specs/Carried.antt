@@ -20,8 +20,8 @@ abbrev pub row_at : List (List Column) → ℕ → List Column
 row_at rows x = get_or rows x []
 
 -- the literals of the column of an item that matches
-abbrev pub told_by : List (List Column) → Scenario → ℕ → List Literal
-told_by rows s x = flat_map (λ c. c.cube) (filter (λ c. matches c.cube s) (row_at rows x))
+abbrev pub carried_by_row : List (List Column) → Scenario → ℕ → List Literal
+carried_by_row rows s x = flat_map (λ c. c.cube) (filter (λ c. matches c.cube s) (row_at rows x))
 
 -- the number of a variable
 abbrev pub number_known : Scenario → ℕ → Literal
@@ -33,11 +33,11 @@ decided g s p = map (λ c. number_known s (value_variable c)) (deciding g s.valu
 
 -- what the broadcasts of those of other nodes told
 abbrev pub heard : Graph → List (List Column) → Scenario → ℕ → List Literal
-heard g rows s p = flat_map (λ c. if node_of g (process_of g c) == node_of g p then [] else told_by rows s (broadcast_item g c)) (deciding g s.values p)
+heard g rows s p = flat_map (λ c. if node_of g (process_of g c) == node_of g p then [] else carried_by_row rows s (broadcast_item g c)) (deciding g s.values p)
 
 -- what the messages to a process told
 abbrev pub received : Graph → List (List Column) → Scenario → ℕ → List Literal
-received g rows s p = flat_map (λ e. if is_message g e then told_by rows s (message_item g e) else []) (inputs g p)
+received g rows s p = flat_map (λ e. if is_message g e then carried_by_row rows s (message_item g e) else []) (inputs g p)
 
 -- what an execution adds to what its node carries on: what its inputs told, and its count; a frozen one starts at one time
 -- whatever its inputs told

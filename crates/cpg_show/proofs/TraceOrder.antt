@@ -13,10 +13,10 @@ use Rattle.cpg_base.specs.Numbers.{is_below}
 use Rattle.cpg_base.proofs.Below.{below_one_way, below_total}
 use Rattle.cpg_base.proofs.Sorted.{one_order}
 use Rattle.cpg_node.specs.Dispatcher.{Act, Ended}
-use Rattle.cpg_show.specs.contracts.event.DeedOrd.TheImpl as deed_ord
+use Rattle.cpg_show.specs.contracts.event.EventKindOrd.TheImpl as kind_ord
 use Rattle.cpg_show.specs.contracts.event.TraceEventOrd.TheImpl as event_ord
-use Rattle.cpg_show.specs.declared.event.Deed.TheVariants.{End, Send, Start}
-use Rattle.cpg_show.specs.TraceEvents.{Deed, TraceEvent, AreToldInOrder, all_events, deed_key, event_key}
+use Rattle.cpg_show.specs.declared.event.EventKind.TheVariants.{End, Send, Start}
+use Rattle.cpg_show.specs.TraceEvents.{EventKind, TraceEvent, AreToldInOrder, all_events, kind_key, event_key}
 use Rattle.cpg_show.specs.TraceText.{IsTraceText, event_line, finish_line}
 
 -- what is not less stays so when the later part is replaced by one that is not less either
@@ -31,20 +31,20 @@ then_equal Equal h = h
 then_equal Greater h = h
 
 -- the derived order goes on to compare what the keys leave out
-deed_order : (d e : Deed) → is_lt ((deed_ord.ghosts).cmp d e) ≡ false → is_below (deed_key d) (deed_key e) ≡ false
-deed_order (End p f v) (End q g w) h = then_weaker (nat_cmp p q) _ Equal (λ _. refl) h
-deed_order (End p f v) (Send y) h = h
-deed_order (End p f v) (Start q) h = h
-deed_order (Send x) (End q g w) h = refl
-deed_order (Send x) (Send y) h = then_equal (nat_cmp x y) h
-deed_order (Send x) (Start q) h = h
-deed_order (Start p) (End q g w) h = refl
-deed_order (Start p) (Send y) h = refl
-deed_order (Start p) (Start q) h = then_equal (nat_cmp p q) h
+kind_order : (d e : EventKind) → is_lt ((kind_ord.ghosts).cmp d e) ≡ false → is_below (kind_key d) (kind_key e) ≡ false
+kind_order (End p f v) (End q g w) h = then_weaker (nat_cmp p q) _ Equal (λ _. refl) h
+kind_order (End p f v) (Send y) h = h
+kind_order (End p f v) (Start q) h = h
+kind_order (Send x) (End q g w) h = refl
+kind_order (Send x) (Send y) h = then_equal (nat_cmp x y) h
+kind_order (Send x) (Start q) h = h
+kind_order (Start p) (End q g w) h = refl
+kind_order (Start p) (Send y) h = refl
+kind_order (Start p) (Start q) h = then_equal (nat_cmp p q) h
 
 event_order : (a b : TraceEvent) → is_lt ((event_ord.ghosts).cmp a b) ≡ false → is_below (event_key a) (event_key b) ≡ false
 event_order a b h = then_weaker (nat_cmp a.time b.time) _ _
-    (then_weaker (nat_cmp a.node b.node) ((deed_ord.ghosts).cmp a.deed b.deed) (slice_cmp nat_cmp (deed_key a.deed) (deed_key b.deed)) (deed_order a.deed b.deed)) h
+    (then_weaker (nat_cmp a.node b.node) ((kind_ord.ghosts).cmp a.kind b.kind) (slice_cmp nat_cmp (kind_key a.kind) (kind_key b.kind)) (kind_order a.kind b.kind)) h
 
 -- one event comes before another
 abbrev is_event_below : TraceEvent → TraceEvent → Bool

@@ -9,7 +9,7 @@ use Rattle.cpg_base.specs.declared.item.Item.{Item}
 use Rattle.cpg_base.proofs.Items.{item_cases}
 use Rattle.cpg_base.proofs.Lists.{Contains-flat_map_parts, numbers-Contains}
 use Rattle.cpg_node.specs.Dispatcher.{Act, Ended}
-use Rattle.cpg_show.specs.TraceEvents.{TraceEvent, IsActWithin, IsDeedWithin, IsEndWithin, all_events, deed_of, event_of_act, event_of_end, node_events}
+use Rattle.cpg_show.specs.TraceEvents.{TraceEvent, IsActWithin, IsKindWithin, IsEndWithin, all_events, kind_of, event_of_act, event_of_end, node_events}
 use Rattle.cpg_show.specs.TraceText.{end_times}
 use Rattle.cpg_label.proofs.Steps.{next_piece}
 
@@ -19,24 +19,24 @@ module _ (g : Graph) (acts : List (List Act)) (ends : List (List (ℕ × Ended))
   one_node i before middle after is m a = sym (next_piece (node_events g acts ends) i [] before after (sym is)
       (a ∙ ap (λ xs. xs ++ map (event_of_end i) (get_or ends i [])) m ∙ append_assoc before (map (event_of_act g i) (get_or acts i [])) (map (event_of_end i) (get_or ends i []))))
 
-  deed_within : (x : ℕ) → x < item_count g → IsDeedWithin g (deed_of (item_at g x) x)
-  deed_within x l = elim (item_cases g x l) [
-    | inl c ↦ subst (λ (i : Item). IsDeedWithin g (deed_of i x)) (sym c.1) c.0
-    | inr (inl c) ↦ subst (λ (i : Item). IsDeedWithin g (deed_of i x)) (sym c.3) l
-    | inr (inr c) ↦ subst (λ (i : Item). IsDeedWithin g (deed_of i x)) (sym c.3) l
+  kind_within : (x : ℕ) → x < item_count g → IsKindWithin g (kind_of (item_at g x) x)
+  kind_within x l = elim (item_cases g x l) [
+    | inl c ↦ subst (λ (i : Item). IsKindWithin g (kind_of i x)) (sym c.1) c.0
+    | inr (inl c) ↦ subst (λ (i : Item). IsKindWithin g (kind_of i x)) (sym c.3) l
+    | inr (inr c) ↦ subst (λ (i : Item). IsKindWithin g (kind_of i x)) (sym c.3) l
   ]
 
-  node_within : (i : ℕ) → All (IsActWithin g) (get_or acts i []) → All (IsEndWithin g) (get_or ends i []) → All (λ e. IsDeedWithin g e.deed) (node_events g acts ends i)
-  node_within i a h = All-append (λ (e : TraceEvent). IsDeedWithin g e.deed) (map (event_of_act g i) (get_or acts i [])) (map (event_of_end i) (get_or ends i []))
-      (All-map (λ (e : TraceEvent). IsDeedWithin g e.deed) (event_of_act g i) (get_or acts i []) (λ k d l. deed_within (get_or (get_or acts i []) k d).item (a k d l)))
-      (All-map (λ (e : TraceEvent). IsDeedWithin g e.deed) (event_of_end i) (get_or ends i []) (λ k d l. ((h k d l).process, (h k d l).faults)))
+  node_within : (i : ℕ) → All (IsActWithin g) (get_or acts i []) → All (IsEndWithin g) (get_or ends i []) → All (λ e. IsKindWithin g e.kind) (node_events g acts ends i)
+  node_within i a h = All-append (λ (e : TraceEvent). IsKindWithin g e.kind) (map (event_of_act g i) (get_or acts i [])) (map (event_of_end i) (get_or ends i []))
+      (All-map (λ (e : TraceEvent). IsKindWithin g e.kind) (event_of_act g i) (get_or acts i []) (λ k d l. kind_within (get_or (get_or acts i []) k d).item (a k d l)))
+      (All-map (λ (e : TraceEvent). IsKindWithin g e.kind) (event_of_end i) (get_or ends i []) (λ k d l. ((h k d l).process, (h k d l).faults)))
 
   pub all_within : ((i : ℕ) → i < length g.nodes → All (IsActWithin g) (get_or acts i [])) → ((i : ℕ) → i < length g.nodes → All (IsEndWithin g) (get_or ends i [])) →
-      All (λ e. IsDeedWithin g e.deed) (all_events g acts ends)
+      All (λ e. IsKindWithin g e.kind) (all_events g acts ends)
   all_within a h k d l =
       let there = Contains-flat_map_parts (node_events g acts ends) (numbers_below (length g.nodes)) (get_or (all_events g acts ends) k d) (Contains-get_or (all_events g acts ends) k d l) in
       let i = numbers-Contains (length g.nodes) there.0 there.1 in
-      All-contains (λ (e : TraceEvent). IsDeedWithin g e.deed) (node_events g acts ends there.0) (get_or (all_events g acts ends) k d) (node_within there.0 (a there.0 i) (h there.0 i)) there.2
+      All-contains (λ (e : TraceEvent). IsKindWithin g e.kind) (node_events g acts ends there.0) (get_or (all_events g acts ends) k d) (node_within there.0 (a there.0 i) (h there.0 i)) there.2
 
 -- the greatest end, of one node more
 pub one_finish : (ends : List (List (ℕ × Ended))) (i before after : ℕ) → before ≡ greatest (flat_map (end_times ends) (numbers_below i)) → after ≡ fold max before (end_times ends i) →

@@ -6,31 +6,31 @@ use Rattle.cpg_base.specs.Graph.{Graph, item_at, item_count, process_count}
 use Rattle.cpg_base.specs.declared.item.Item.{Item}
 use Rattle.cpg_base.specs.declared.item.Item.TheVariants.{Start as StartItem, Message, Broadcast}
 use Rattle.cpg_node.specs.Dispatcher.{Act, Ended}
-use Rattle.cpg_show.specs.declared.event.Deed.{Deed as ToldDeed}
-use Rattle.cpg_show.specs.declared.event.Deed.TheVariants.{End, Send, Start}
+use Rattle.cpg_show.specs.declared.event.EventKind.{EventKind as DeclaredKind}
+use Rattle.cpg_show.specs.declared.event.EventKind.TheVariants.{End, Send, Start}
 use Rattle.cpg_show.specs.declared.event.TraceEvent.{TraceEvent as ToldEvent}
 
 -- the end of an execution, a message or broadcast, or the start of a process
-abbrev pub Deed : Type 0
-Deed = ToldDeed
+abbrev pub EventKind : Type 0
+EventKind = DeclaredKind
 
 -- what a node did at a time
 abbrev pub TraceEvent : Type 0
 TraceEvent = ToldEvent
 
 -- a node starts a process, or sends an item of this number
-abbrev pub deed_of : Item → ℕ → Deed
-deed_of (StartItem p) x = Start p
-deed_of (Message e) x = Send x
-deed_of (Broadcast c) x = Send x
+abbrev pub kind_of : Item → ℕ → EventKind
+kind_of (StartItem p) x = Start p
+kind_of (Message e) x = Send x
+kind_of (Broadcast c) x = Send x
 
 -- the event of an act
 abbrev pub event_of_act : Graph → ℕ → Act → TraceEvent
-event_of_act g node a = record { time = a.time; node = node; deed = deed_of (item_at g a.item) a.item }
+event_of_act g node a = record { time = a.time; node = node; kind = kind_of (item_at g a.item) a.item }
 
 -- the event of an execution's end
 abbrev pub event_of_end : ℕ → ℕ × Ended → TraceEvent
-event_of_end node e = record { time = e.0; node = node; deed = End e.1.process e.1.faults e.1.value }
+event_of_end node e = record { time = e.0; node = node; kind = End e.1.process e.1.faults e.1.value }
 
 -- what one node did, out of the acts and the ends of all nodes
 abbrev pub node_events : Graph → List (List Act) → List (List (ℕ × Ended)) → ℕ → List TraceEvent
@@ -41,14 +41,14 @@ abbrev pub all_events : Graph → List (List Act) → List (List (ℕ × Ended))
 all_events g acts ends = flat_map (node_events g acts ends) (numbers_below (length g.nodes))
 
 -- the key that orders deeds: ends, then sends, then starts, and within a kind by number
-abbrev pub deed_key : Deed → List ℕ
-deed_key (End process faults value) = 0 ∷ process ∷ []
-deed_key (Send item) = 1 ∷ item ∷ []
-deed_key (Start process) = 2 ∷ process ∷ []
+abbrev pub kind_key : EventKind → List ℕ
+kind_key (End process faults value) = 0 ∷ process ∷ []
+kind_key (Send item) = 1 ∷ item ∷ []
+kind_key (Start process) = 2 ∷ process ∷ []
 
--- the key that orders events: by time, then by node number, then by deed
+-- the key that orders events: by time, then by node number, then by kind
 abbrev pub event_key : TraceEvent → List ℕ
-event_key e = e.time ∷ e.node ∷ deed_key e.deed
+event_key e = e.time ∷ e.node ∷ kind_key e.kind
 
 -- all events, in order; if no two of them have the same key, there is just one such list
 pub record AreToldInOrder (g : Graph) (acts : List (List Act)) (ends : List (List (ℕ × Ended))) (events : List TraceEvent) : Type 0 where
@@ -65,7 +65,7 @@ abbrev pub IsActWithin : Graph → Act → Type 0
 IsActWithin g a = a.item < item_count g
 
 -- what a node did is of a process or an item of the graph, and an end has no more faults than are allowed
-abbrev pub IsDeedWithin : Graph → Deed → Type 0
-IsDeedWithin g (End process faults value) = (process < process_count g) × (faults ≤ g.faults)
-IsDeedWithin g (Send item) = item < item_count g
-IsDeedWithin g (Start process) = process < process_count g
+abbrev pub IsKindWithin : Graph → EventKind → Type 0
+IsKindWithin g (End process faults value) = (process < process_count g) × (faults ≤ g.faults)
+IsKindWithin g (Send item) = item < item_count g
+IsKindWithin g (Start process) = process < process_count g

@@ -8,10 +8,10 @@ use Rattle.cpg_base.specs.declared.item.Item.TheVariants.{Start as StartItem}
 use Rattle.cpg_base.specs.Duration.{duration}
 use Rattle.cpg_base.specs.Scenario.{number_of_value}
 use Rattle.cpg_node.specs.Dispatcher.{Act, Ended}
-use Rattle.cpg_show.specs.declared.event.Deed.TheVariants.{End, Send, Start}
+use Rattle.cpg_show.specs.declared.event.EventKind.TheVariants.{End, Send, Start}
 use Rattle.cpg_label.specs.CubeText.{value_text}
 use Rattle.cpg_label.specs.Labels.{labels_of, process_name}
-use Rattle.cpg_show.specs.TraceEvents.{Deed, TraceEvent, AreToldInOrder}
+use Rattle.cpg_show.specs.TraceEvents.{EventKind, TraceEvent, AreToldInOrder}
 use Rattle.cpg_label.specs.ItemText.{done_text}
 
 -- the value of a process's condition, or nothing if it has none
@@ -28,14 +28,14 @@ end_text g lengths process faults value = codes "end " ++ process_name (labels_o
     ++ outcome_text g process value ++ ran_text (get_or lengths process 0) (duration g process faults)
 
 -- what a node did
-abbrev pub deed_text : Graph → List ℕ → Deed → List ℕ
-deed_text g lengths (End process faults value) = end_text g lengths process faults value
-deed_text g lengths (Send item) = done_text (labels_of g) (item_at g item)
-deed_text g lengths (Start process) = done_text (labels_of g) (StartItem process)
+abbrev pub kind_text : Graph → List ℕ → EventKind → List ℕ
+kind_text g lengths (End process faults value) = end_text g lengths process faults value
+kind_text g lengths (Send item) = done_text (labels_of g) (item_at g item)
+kind_text g lengths (Start process) = done_text (labels_of g) (StartItem process)
 
 -- the line of an event: its time, its node, and what it was
 abbrev pub event_line : Graph → List ℕ → TraceEvent → List ℕ
-event_line g lengths e = decimal e.time ++ codes " " ++ get_or g.nodes e.node [] ++ codes " " ++ deed_text g lengths e.deed ++ codes "\n"
+event_line g lengths e = decimal e.time ++ codes " " ++ get_or g.nodes e.node [] ++ codes " " ++ kind_text g lengths e.kind ++ codes "\n"
 
 -- when executions of a node ended
 abbrev pub end_times : List (List (ℕ × Ended)) → ℕ → List ℕ

@@ -7,7 +7,7 @@ use cpg_node::{Act, Ended};
 
 /// What a node did. At one time a trace tells ends before sends, and sends before starts.
 #[derive(Clone, Copy, Debug, PartialEq, Eq, PartialOrd, Ord)]
-pub enum Deed {
+pub enum EventKind {
     /// An execution ended.
     End {
         /// The number of the process.
@@ -37,7 +37,7 @@ pub struct TraceEvent {
     /// The number of the node.
     pub node: u32,
     /// What it was.
-    pub deed: Deed,
+    pub kind: EventKind,
 }
 
 /// A start or a send as an event.
@@ -45,14 +45,14 @@ pub(crate) fn event_of_act(problem: &Problem, node: u32, act: &Act) -> TraceEven
     requires { IsActWithin problem.now act.now }
     ensures { result ≡ event_of_act problem.now node act.now }
 {
-    let deed = match problem.item(act.item) {
-        Item::Start(process) => Deed::Start { process },
-        Item::Message(_) | Item::Broadcast(_) => Deed::Send { item: act.item },
+    let kind = match problem.item(act.item) {
+        Item::Start(process) => EventKind::Start { process },
+        Item::Message(_) | Item::Broadcast(_) => EventKind::Send { item: act.item },
     };
     TraceEvent {
         time: act.time,
         node,
-        deed,
+        kind,
     }
 }
 
@@ -64,7 +64,7 @@ pub(crate) fn event_of_end(node: u32, end: &(u64, Ended)) -> TraceEvent
     TraceEvent {
         time,
         node,
-        deed: Deed::End {
+        kind: EventKind::End {
             process: ended.process,
             faults: ended.faults,
             value: ended.value,

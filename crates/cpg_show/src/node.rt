@@ -48,7 +48,7 @@ fn add_acts<'a>(
     for row in rows {
         parts.push(SheetPart {
             head: act_line(alloc, labels, row.item())?,
-            columns: row.entries(),
+            columns: row.columns(),
         })?;
     }
     Ok(())
@@ -67,7 +67,7 @@ fn add_hears<'a>(
     for row in rows {
         parts.push(SheetPart {
             head: hear_line(alloc, labels, row.item())?,
-            columns: row.entries(),
+            columns: row.columns(),
         })?;
     }
     Ok(())

@@ -7,7 +7,7 @@ ghost use Rattle.cpg_label.specs.CubeText.{column_line, columns_text, cube_text}
 ghost use Rattle.cpg_label.specs.Lines.{IsLine, IsLineOf};
 
 use cpg_codec::Buffer;
-use cpg_cube::{Entry, Literal};
+use cpg_cube::{Column, Literal};
 use cpg_io::{Failed, Sink};
 use cpg_label::{Labels, Line};
 use itoa::Buffer as Digits;
@@ -122,7 +122,7 @@ fn put_column<O: Sink>(
     sink: &mut O,
     labels: &Labels<'_>,
     line: &Line,
-    column: &Entry,
+    column: &Column,
 ) -> Result<(), Failed>
     requires { IsLineOf labels.now column.now.cube line.now }
     ensures put { Puts (O.state sink.old).taken (O.state sink.new).taken buffer.old buffer.new result (column_line labels.now column.now) }
@@ -142,7 +142,7 @@ pub(crate) fn put_columns<O: Sink>(
     sink: &mut O,
     labels: &Labels<'_>,
     line: &mut Line,
-    columns: &[Entry],
+    columns: &[Column],
 ) -> Result<(), Failed>
     requires { IsLine labels.now line.old }
     ensures line { OnOk result (IsLine labels.now line.new) }

@@ -8,7 +8,7 @@ ghost use Rattle.cpg_show.specs.Sheet.{part_text, sheet_text};
 
 use crate::putting::{put_columns, put_text};
 use cpg_codec::{Buffer, WriteFault};
-use cpg_cube::Entry;
+use cpg_cube::Column;
 use cpg_io::{Failed, Sink};
 use cpg_label::{Labels, Line};
 use std::alloc::Global;
@@ -17,7 +17,7 @@ use std::alloc::Global;
 #[derive(Drop)]
 pub(crate) struct SheetPart<'a> {
     pub head: String,
-    pub columns: &'a [Entry],
+    pub columns: &'a [Column],
 }
 
 /// A text of rows, of which all is at hand but the lines of their columns.

@@ -12,7 +12,7 @@ ghost use Rattle.cpg_table.specs.Writing.{row_for};
 use crate::sheet::{Sheet, SheetPart, write_sheet};
 use cpg_base::{Item, Order, OutOfMemory, Problem};
 use cpg_codec::WriteFault;
-use cpg_cube::Entry;
+use cpg_cube::Column;
 use cpg_io::Sink;
 use cpg_label::{Labels, write_act};
 use cpg_rules::Admitted;
@@ -82,11 +82,11 @@ fn head_line_of(
 }
 
 /// The columns of an item; none if it has no row.
-fn columns_of(rows: &[Row], item: u32) -> &[Entry]
+fn columns_of(rows: &[Row], item: u32) -> &[Column]
     ensures { result.now ≡ (row_for rows.now item).columns }
 {
     match rows.get(item as usize) {
-        Some(row) => row.entries(),
+        Some(row) => row.columns(),
         None => &[],
     }
 }

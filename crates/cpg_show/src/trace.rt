@@ -1,10 +1,10 @@
 //! The text of a trace.
 ghost use Rattle.std.specs.Prelude.{◌≡◌, ◌<◌, ◌++◌, All, IfOk, OnOk, flat_map, fold, length, map, max, string_bytes};
 ghost use Rattle.cpg_base.specs.Graph.{process_count};
-ghost use Rattle.cpg_show.specs.TraceEvents.{IsDeedWithin};
-ghost use Rattle.cpg_show.specs.TraceText.{IsTraceText, deed_text, event_line, finish_of, outcome_text, ran_text};
+ghost use Rattle.cpg_show.specs.TraceEvents.{IsKindWithin};
+ghost use Rattle.cpg_show.specs.TraceText.{IsTraceText, kind_text, event_line, finish_of, outcome_text, ran_text};
 
-use crate::event::{Deed, TraceEvent};
+use crate::event::{EventKind, TraceEvent};
 use crate::events::events_in_order;
 use cpg_base::{Lengths, OutOfMemory, Problem};
 use cpg_cluster::Cluster;
@@ -40,20 +40,20 @@ fn write_ran(out: &mut String, length: u64, full: u64) -> Result<(), AllocError>
     Ok(())
 }
 
-fn write_deed(
+fn write_kind(
     out: &mut String,
     problem: &Problem,
     lengths: &Lengths,
-    deed: Deed,
+    kind: EventKind,
 ) -> Result<(), AllocError>
     requires lengths { length lengths.now ≡ process_count problem.now }
-    requires within { IsDeedWithin problem.now deed }
-    ensures { OnOk result (string_bytes out.new ≡ string_bytes out.old ++ deed_text problem.now lengths.now deed) }
+    requires within { IsKindWithin problem.now kind }
+    ensures { OnOk result (string_bytes out.new ≡ string_bytes out.old ++ kind_text problem.now lengths.now kind) }
 {
-    match deed {
-        Deed::Start { process } => write_item(out, problem, process),
-        Deed::Send { item } => write_item(out, problem, item),
-        Deed::End {
+    match kind {
+        EventKind::Start { process } => write_item(out, problem, process),
+        EventKind::Send { item } => write_item(out, problem, item),
+        EventKind::End {
             process,
             faults,
             value,
@@ -74,13 +74,13 @@ fn write_event(
     event: &TraceEvent,
 ) -> Result<(), AllocError>
     requires lengths { length lengths.now ≡ process_count problem.now }
-    requires within { IsDeedWithin problem.now event.now.deed }
+    requires within { IsKindWithin problem.now event.now.kind }
     ensures { OnOk result (string_bytes out.new ≡ string_bytes out.old ++ event_line problem.now lengths.now event.now) }
 {
     let time = event.time;
     let name = node_name(problem, event.node);
     write!(out, "{time} {name} ")?;
-    write_deed(out, problem, lengths, event.deed)?;
+    write_kind(out, problem, lengths, event.kind)?;
     out.push_str("\n")
 }
 
@@ -91,7 +91,7 @@ fn write_events(
     events: &[TraceEvent],
 ) -> Result<(), AllocError>
     requires lengths { length lengths.now ≡ process_count problem.now }
-    requires within { All (λ e. IsDeedWithin problem.now e.deed) events.now }
+    requires within { All (λ e. IsKindWithin problem.now e.kind) events.now }
     ensures { OnOk result (string_bytes out.new ≡ string_bytes out.old ++ flat_map (event_line problem.now lengths.now) events.now) }
 {
     for event in events {

@@ -11,22 +11,22 @@ ghost use Rattle.cpg_table.specs.Writing.{heard_row, hears_at, has_own, own_rows
 use crate::counts::RowCounts;
 use crate::{NodeItems, NodeTable, Row, Tables};
 use cpg_base::{OutOfMemory, Problem};
-use cpg_cube::Entry;
+use cpg_cube::Column;
 use cpg_head::{Head, head_of};
 use std::alloc::Global;
 
-/// The entries, each later by a delay.
-fn later(alloc: Global, entries: &[Entry], delay: u64) -> Result<Vec<Entry>, OutOfMemory>
-    requires times { All (λ e. e.time < 2 ^ 59) entries.now }
+/// The columns, each later by a delay.
+fn later(alloc: Global, columns: &[Column], delay: u64) -> Result<Vec<Column>, OutOfMemory>
+    requires times { All (λ e. e.time < 2 ^ 59) columns.now }
     requires delay { delay < 2 ^ 59 }
-    ensures { IfOk result (λ later. later.items ≡ map (later_by delay) entries.now) }
+    ensures { IfOk result (λ later. later.items ≡ map (later_by delay) columns.now) }
 {
     let mut later = Vec::new(alloc);
-    later.reserve(entries.len())?;
-    for entry in entries {
-        later.push(Entry {
-            time: entry.time + delay,
-            cube: entry.cube.copy()?,
+    later.reserve(columns.len())?;
+    for column in columns {
+        later.push(Column {
+            time: column.time + delay,
+            cube: column.cube.copy()?,
         })?;
     }
     Ok(later)
@@ -39,11 +39,11 @@ fn heard(alloc: Global, problem: &Problem, rows: &[Row], item: u32) -> Result<Ro
     requires item { item < item_count problem.now }
     ensures { IfOk result (λ row. row ≡ heard_row problem.now rows.now item) }
 {
-    // its clause tells that the graph is within its limits
+    // called for its contract: the graph is within its limits
     let _nodes = problem.nodes();
     let delay = problem.slot_length(problem.home(item));
-    let entries = later(alloc, rows[item as usize].entries(), delay)?;
-    Ok(Row::new(item, entries))
+    let columns = later(alloc, rows[item as usize].columns(), delay)?;
+    Ok(Row::new(item, columns))
 }
 
 /// What is heard of these items.
@@ -81,7 +81,7 @@ fn node_hears(
     requires node { node < length problem.now.nodes }
     ensures { IfOk result (λ heard. heard.items ≡ hears_at problem.now rows.now node) }
 {
-    // its clause tells that the graph is within its limits
+    // called for its contract: the graph is within its limits
     let _nodes = problem.nodes();
     let items = NodeItems::of(alloc, head, node)?;
     let heard = all_heard(alloc, problem, rows, items.hears())?;
@@ -193,7 +193,7 @@ fn node_tables(
     requires hears { map (λ heard. heard.items) hears.items ≡ map (hears_at problem.now rows.items) (numbers_below (length problem.now.nodes)) }
     ensures { IfOk result (λ tables. AreNodeTables problem.now rows.items (length problem.now.nodes) tables.items) }
 {
-    // its clause tells that the graph is within its limits
+    // called for its contract: the graph is within its limits
     let _nodes = problem.nodes();
     let mut tables = Vec::new(alloc);
     tables.reserve(hears.len())?;
@@ -216,7 +216,7 @@ pub fn tables_of(alloc: Global, problem: &Problem, rows: Vec<Row>) -> Result<Tab
     requires rows { AreWritable problem.now rows.items }
     ensures { IfOk result (AreTablesWith problem.now rows.items) }
 {
-    // its clause tells that the graph is within its limits
+    // called for its contract: the graph is within its limits
     let _nodes = problem.nodes();
     let head = head_of(alloc, problem)?;
     let hears = hears_of(alloc, problem, &head, rows.as_slice())?;

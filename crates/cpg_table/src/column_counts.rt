@@ -11,7 +11,7 @@ pub fn count_columns(rows: &[Row], before: usize) -> Option<usize>
 {
     let mut count = before;
     for row in rows {
-        count = count.checked_add(row.entries().len())?;
+        count = count.checked_add(row.columns().len())?;
     }
     Some(count)
 }

@@ -3,15 +3,15 @@ ghost use Rattle.std.specs.Prelude.{◌≡◌, option_map};
 ghost use Rattle.cpg_table.specs.Found.{row_columns};
 
 use crate::Row;
-use cpg_cube::Entry;
+use cpg_cube::Column;
 
 /// The columns of the first row of an item, and `None` exactly if there is no row of it.
-pub fn row_columns(rows: &[Row], item: u32) -> Option<&[Entry]>
+pub fn row_columns(rows: &[Row], item: u32) -> Option<&[Column]>
     ensures { option_map (λ c. c.now) result ≡ row_columns rows.now item }
 {
     for row in rows {
         if row.item() == item {
-            return Some(row.entries());
+            return Some(row.columns());
         }
     }
     None

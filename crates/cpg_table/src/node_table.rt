@@ -12,7 +12,7 @@ use crate::own::{is_own_of, own_of};
 use crate::space::{VariableSpace, are_rows, space_of};
 use crate::{Own, Row};
 use cpg_base::OutOfMemory;
-use cpg_cube::Entry;
+use cpg_cube::Column;
 use cpg_head::Head;
 use std::alloc::{AllocError, Global};
 use std::marker::Model;
@@ -172,7 +172,7 @@ impl NodeTable {
     }
 
     /// The columns of an item that the node hears; none if it doesn't hear it.
-    pub fn heard_columns(&self, item: u32) -> &[Entry]
+    pub fn heard_columns(&self, item: u32) -> &[Column]
         ensures { result.now ≡ columns_in self.now.hears item }
     {
         match row_columns(self.hears(), item) {

@@ -2,15 +2,15 @@
 ghost use Rattle.std.specs.Prelude.{◌≡◌, IfOk};
 
 use cpg_base::OutOfMemory;
-use cpg_cube::Entry;
+use cpg_cube::Column;
 use std::alloc::AllocError;
 use std::marker::Model;
 
-/// When an item is, seen as the number of the item and its entries.
+/// When an item is, seen as the number of the item and its columns.
 #[derive(Drop)]
 pub struct Row {
     item: u32,
-    entries: Vec<Entry>,
+    columns: Vec<Column>,
 }
 
 impl Model for Row {
@@ -18,15 +18,15 @@ impl Model for Row {
 
     ghost Value = { Row };
 
-    ghost view = { λ r. record { item = r.item; columns = r.entries.items } };
+    ghost view = { λ r. record { item = r.item; columns = r.columns.items } };
 }
 
 impl Row {
-    /// The row of an item with these entries.
-    pub fn new(item: u32, entries: Vec<Entry>) -> Row
-        ensures { result ≡ record { item = item; columns = entries.items } }
+    /// The row of an item with these columns.
+    pub fn new(item: u32, columns: Vec<Column>) -> Row
+        ensures { result ≡ record { item = item; columns = columns.items } }
     {
-        Row { item, entries }
+        Row { item, columns }
     }
 
     /// The number of the item.
@@ -36,11 +36,11 @@ impl Row {
         self.item
     }
 
-    /// The entries.
-    pub fn entries(&self) -> &[Entry]
+    /// The columns.
+    pub fn columns(&self) -> &[Column]
         ensures { result.now ≡ self.now.columns }
     {
-        self.entries.as_slice()
+        self.columns.as_slice()
     }
 
     /// An equal row.
@@ -49,7 +49,7 @@ impl Row {
     {
         Ok(Row {
             item: self.item,
-            entries: self.entries.clone()?,
+            columns: self.columns.clone()?,
         })
     }
 }

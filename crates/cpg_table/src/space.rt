@@ -6,7 +6,7 @@ ghost use Rattle.cpg_table.specs.Lawful.{space_of, IsCountLiteral, IsValueLitera
 
 use crate::Row;
 use cpg_base::{MOST_COLUMNS, Variable};
-use cpg_cube::{Entry, Literal};
+use cpg_cube::{Column, Literal};
 use cpg_head::{Head, TIME_END, condition_count};
 
 /// The variables that there are under a head.
@@ -81,13 +81,13 @@ fn are_literals(space: VariableSpace, literals: &[Literal]) -> bool
     literals.iter().all(|literal| is_literal(space, *literal))
 }
 
-fn is_column(space: VariableSpace, column: &Entry) -> bool
+fn is_column(space: VariableSpace, column: &Column) -> bool
     ensures { IsTrue result ↔ IsLawfulColumn space column.now }
 {
     column.time < TIME_END && are_literals(space, column.cube.literals())
 }
 
-fn are_columns(space: VariableSpace, columns: &[Entry]) -> bool
+fn are_columns(space: VariableSpace, columns: &[Column]) -> bool
     ensures { IsTrue result ↔ All (IsLawfulColumn space) columns.now }
 {
     columns.iter().all(|column| is_column(space, column))
@@ -97,7 +97,7 @@ fn are_columns(space: VariableSpace, columns: &[Entry]) -> bool
 pub fn is_row(space: VariableSpace, row: &Row) -> bool
     ensures { IsTrue result ↔ IsLawfulRow space row.now }
 {
-    let columns = row.entries();
+    let columns = row.columns();
     columns.len() as u64 <= MOST_COLUMNS && are_columns(space, columns)
 }
 

@@ -8,7 +8,7 @@ use crate::column_counts::count_table;
 use crate::found::row_columns;
 use crate::node_table::is_table_of;
 use cpg_base::{MOST_LOAD, MOST_NODES, OutOfMemory};
-use cpg_cube::Entry;
+use cpg_cube::Column;
 use cpg_head::Head;
 use std::marker::Model;
 
@@ -104,7 +104,7 @@ impl Tables {
     }
 
     /// The columns of an item's start row or send row; none if it has no row.
-    pub fn columns_of(&self, item: u32) -> &[Entry]
+    pub fn columns_of(&self, item: u32) -> &[Column]
         ensures columns { result.now ≡ columns_of self.now.nodes item }
         ensures lawful { AreTablesOf self.now.head self.now.nodes }
     {

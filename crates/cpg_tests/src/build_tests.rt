@@ -72,7 +72,7 @@ fn the_pair_is_listed(rt: HostRuntime) {
 
 /// The time that a row has in a scenario.
 fn time_in(row: &Row, scenario: &Scenario) -> Option<u64> {
-    for column in row.entries() {
+    for column in row.columns() {
         if column.cube.matches(scenario) {
             return Some(column.time);
         }

@@ -1,6 +1,6 @@
 //! Each adapter over a real file or a writer that fails.
 
-ghost use Rattle.cpg_io.specs.Shelf.{SameLeave};
+ghost use Rattle.cpg_io.specs.Shelf.{SameAccess};
 
 use cpg_io::{Failed, FileShelf, ReadAll, Shelf, Sink, StreamSink, read_all, write_all};
 use std::alloc::Global;
@@ -10,7 +10,7 @@ use std::{fs, io};
 /// Whether these bytes are all that is read under a name.
 fn reads<S: Shelf>(alloc: Global, shelf: &mut S, name: &str, limit: usize, want: &[u8]) -> bool
     requires { S.may_fetch shelf.old name.now }
-    ensures { SameLeave (S.may_fetch shelf.old) (S.may_fetch shelf.new) }
+    ensures { SameAccess (S.may_fetch shelf.old) (S.may_fetch shelf.new) }
 {
     match read_all(alloc, shelf, name, limit) {
         Ok(bytes) => bytes.as_slice() == want,
@@ -21,7 +21,7 @@ fn reads<S: Shelf>(alloc: Global, shelf: &mut S, name: &str, limit: usize, want:
 /// Whether what stands under a name isn't read, for this reason.
 fn is_fault<S: Shelf>(alloc: Global, shelf: &mut S, name: &str, limit: usize, want: ReadAll) -> bool
     requires { S.may_fetch shelf.old name.now }
-    ensures { SameLeave (S.may_fetch shelf.old) (S.may_fetch shelf.new) }
+    ensures { SameAccess (S.may_fetch shelf.old) (S.may_fetch shelf.new) }
 {
     match read_all(alloc, shelf, name, limit) {
         Ok(_) => false,
@@ -31,7 +31,7 @@ fn is_fault<S: Shelf>(alloc: Global, shelf: &mut S, name: &str, limit: usize, wa
 
 /// Whether nothing is left to read.
 fn is_at_end<S: Shelf>(shelf: &mut S) -> bool
-    ensures { SameLeave (S.may_fetch shelf.old) (S.may_fetch shelf.new) }
+    ensures { SameAccess (S.may_fetch shelf.old) (S.may_fetch shelf.new) }
 {
     shelf.read(&mut [0; 1]) == Ok(0)
 }

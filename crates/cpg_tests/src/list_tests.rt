@@ -9,7 +9,7 @@ ghost use Rattle.cpg_all_runs.specs.Listing.{AreScenarios};
 ghost use Rattle.cpg_all_runs.specs.Runs.{AreRuns};
 
 use crate::claims::{Claim, holds};
-use crate::columns::{Column, are_rows};
+use crate::columns::{ColumnParts, are_rows};
 use crate::fixtures::{FROZEN, PAIR};
 use cpg_all_runs::{
     Peak, excess, first_alike, frozen_times, has_few_scenarios, runs, scenarios, worst,
@@ -42,7 +42,7 @@ pub struct Found {
     message: Option<u64>,
     worst: Told,
     excess: Told,
-    rows: [&'static [Column]; 3],
+    rows: [&'static [ColumnParts]; 3],
 }
 
 /// A of the pair fails in the scenario in which B ends last, 5 too late.
@@ -117,7 +117,7 @@ fn has_rows(
     frozen: &FrozenTimes,
     scenarios: &[Scenario],
     runs: &[RunTimes],
-    want: &[&[Column]],
+    want: &[&[ColumnParts]],
 ) -> bool
     requires plan { plan.now ≡ plan_of admitted.now.graph }
     requires frozen { AreFrozenTimes admitted.now.graph admitted.now.order frozen.now }

@@ -122,7 +122,7 @@ pub fn fork_of<T: Copy>(
     push_cut(out, variable, cut, middle - start)
 }
 
-/// Whether a look at the last items of two lists tells that the first is equal neither to the second nor to what that has
+/// Whether a look at the last items of two lists shows that the first is equal neither to the second nor to what that has
 /// below a fork on a variable. No clause speaks of it: it only saves time.
 fn are_apart<T: Copy + Eq>(below: TreeItem<T>, above: TreeItem<T>, variable: u8) -> bool {
     match above {

@@ -156,7 +156,7 @@ impl Space {
         self.left = was.left;
     }
 
-    /// Leaves the scenarios in which a number is at least so great; false only if there are none.
+    /// Leaves the scenarios in which a variable's number is at least this; false only if there are none.
     fn lift(&mut self, variable: u8, low: u8) -> bool
         ensures lies { OnTrue result ((s : Scenario) → IsInSpace self.old s → low ≤ number_of s variable → IsInSpace self.new s) }
         ensures none { OnFalse result ((s : Scenario) → IsInSpace self.old s → number_of s variable < low) }
@@ -175,7 +175,7 @@ impl Space {
         true
     }
 
-    /// Leaves the scenarios in which a number is at most so great; false only if there are none.
+    /// Leaves the scenarios in which a variable's number is at most this; false only if there are none.
     fn lower(&mut self, variable: u8, high: u8) -> bool
         ensures lies { OnTrue result ((s : Scenario) → IsInSpace self.old s → number_of s variable ≤ high → IsInSpace self.new s) }
         ensures none { OnFalse result ((s : Scenario) → IsInSpace self.old s → high < number_of s variable) }
@@ -208,7 +208,7 @@ impl Space {
         ensures is { self.new ≡ above_cut self.old variable cut }
         ensures lies { (s : Scenario) → IsInSpace self.old s → cut < number_of s variable → IsInSpace self.new s }
     {
-        // that the high fits its type tells that `cut + 1` does
+        // as the high fits its type, `cut + 1` does
         let _high = self.high[variable as usize];
         let low = cut + 1;
         self.left -= faults_of(variable, low - self.low[variable as usize]);

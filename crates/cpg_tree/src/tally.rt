@@ -8,7 +8,7 @@ use std::alloc::Global;
 const NUMBERS: usize = 16;
 /// How many counts a table has: one for each number of each variable.
 const COUNTS: usize = 4096;
-/// Of so many columns only the variables of the first are looked at.
+/// Of at most this many columns only the variables of the first are looked at.
 const FEW: u32 = 24;
 
 /// A fork by whether a variable is at most a number, and how well it parts columns.

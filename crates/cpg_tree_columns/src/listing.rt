@@ -12,7 +12,7 @@ ghost use Rattle.cpg_tree.specs.TreeNode.{TreeNode};
 
 use crate::along::count_along;
 use cpg_base::{Order, OutOfMemory, Problem, top};
-use cpg_cube::{Cube, Entry, Listing, Literal};
+use cpg_cube::{Column, Cube, Listing, Literal};
 use cpg_tree::{Top, Tree, TreeItem, top_of};
 
 /// Adds the columns on from a cube, which is narrowed on the way down and restored on the way up.
@@ -20,7 +20,7 @@ fn push_columns(
     items: &[TreeItem<Option<u64>>],
     k: u8,
     cube: &mut Cube,
-    columns: &mut Vec<Entry>,
+    columns: &mut Vec<Column>,
 ) -> Result<(), OutOfMemory>
     requires flat { IsFlat items.now }
     requires cuts { (n : TreeNode (Option ℕ)) → items.now ≡ flat n → HasCuts k n }
@@ -30,7 +30,7 @@ fn push_columns(
     match top_of(items) {
         Top::Value(time) => {
             if let Some(time) = time {
-                columns.push(Entry {
+                columns.push(Column {
                     time,
                     cube: cube.copy()?,
                 })?;
@@ -85,13 +85,13 @@ pub(crate) fn listed(
     tree: &Tree<Option<u64>>,
     problem: &Problem,
     room: usize,
-) -> Result<Vec<Entry>, OutOfMemory>
+) -> Result<Vec<Column>, OutOfMemory>
     requires faults { tree.now.faults ≡ problem.now.faults }
     requires known { All (λ p. IsKnown problem.now p.0) tree.now.paths }
     ensures tidy { IfOk result (λ r. All (IsTidyColumn problem.now) r.items) }
     ensures all { IfOk result (λ r. r.items ≡ columns_of_paths tree.now.paths) }
 {
-    // its clause tells that the graph is within its limits
+    // called for its contract: the graph is within its limits
     let _processes = problem.processes();
     let mut whole = Cube::whole(tree.alloc());
     let mut columns = Vec::new(tree.alloc());
@@ -137,7 +137,7 @@ pub fn columns(
     tree: &Tree<Option<u64>>,
     problem: &Problem,
     order: &Order,
-) -> Result<Vec<Entry>, OutOfMemory>
+) -> Result<Vec<Column>, OutOfMemory>
     requires faults { tree.now.faults ≡ problem.now.faults }
     requires known { All (λ p. IsKnown problem.now p.0) tree.now.paths }
     requires order { IsPermutation (numbers_below (process_count problem.now)) order.now }

@@ -72,7 +72,7 @@ fn first_with_number(
     ensures none { IfOk result (λ r. IfNone r (All (λ p. p.1 ≡ None) tree.now.paths)) }
     ensures some { IfOk result (λ r. IfSome r (IsLeast problem.now order.now (HasNumberAt tree.now.paths))) }
 {
-    // its clause tells that the graph is within its limits
+    // called for its contract: the graph is within its limits
     let _processes = problem.processes();
     let columns = listed(tree, problem, room_for(tree))?;
     let columns = columns.as_slice();
@@ -98,7 +98,7 @@ fn least_listed(
     ensures none { IfOk result (λ r. IfNone r (All (λ p. p.1 ≢ Some wanted) tree.now.paths)) }
     ensures some { IfOk result (λ r. IfSome r (IsLeast problem.now order.now (HasValueAt tree.now.paths (Some wanted)))) }
 {
-    // its clause tells that the graph is within its limits
+    // called for its contract: the graph is within its limits
     let _processes = problem.processes();
     // and this one's that the tree fits, so that each scenario has its path
     let _items = tree.items();
@@ -178,7 +178,7 @@ fn least_found(
     ensures is { IfOk result (λ r. r ≡ option_map (lows problem.now) (first_with wanted (columns_of_paths tree.now.paths))) }
     ensures least { IfOk result (λ r. IfSome r (IsLeastWhereSorted problem.now tree.now.paths wanted)) }
 {
-    // its clause tells that the graph is within its limits
+    // called for its contract: the graph is within its limits
     let _processes = problem.processes();
     let mut cube = Cube::whole(tree.alloc());
     if !narrow_to_first(tree.items(), tree.faults(), &mut cube, wanted)? {

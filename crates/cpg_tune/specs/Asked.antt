@@ -15,8 +15,8 @@ abbrev pub MayAskRows : (Graph → Type 0) → Graph → Type 0
 MayAskRows may g = (faults : ℕ) → faults ≤ MOST_FAULTS → may (row_graph g faults)
 
 -- the judge may be asked about the same graphs
-abbrev pub SameLeave : (Graph → Type 0) → (Graph → Type 0) → Type 0
-SameLeave old new = (g : Graph) → old g ↔ new g
+abbrev pub SameQuestions : (Graph → Type 0) → (Graph → Type 0) → Type 0
+SameQuestions old new = (g : Graph) → old g ↔ new g
 
 -- each graph has the same answers
 abbrev pub SameAnswers : (Graph → Judged → Type 0) → (Graph → Judged → Type 0) → Type 0

@@ -1,6 +1,6 @@
 //! What tells whether a graph is accepted.
 ghost use Rattle.std.specs.Prelude.{IfOk};
-ghost use Rattle.cpg_tune.specs.Asked.{SameLeave, SameAnswers};
+ghost use Rattle.cpg_tune.specs.Asked.{SameQuestions, SameAnswers};
 
 use cpg_base::{OutOfMemory, Problem};
 
@@ -32,7 +32,7 @@ pub trait Judge {
     /// The answer for a graph.
     fn judge(&mut self, problem: &Problem) -> Result<Judged, OutOfMemory>
         requires { may_ask self.old problem.now }
-        ensures leave { SameLeave (may_ask self.old) (may_ask self.new) }
+        ensures questions { SameQuestions (may_ask self.old) (may_ask self.new) }
         ensures same { SameAnswers (answers self.old) (answers self.new) }
         ensures answer { IfOk result (answers self.old problem.now) };
 

@@ -1,7 +1,7 @@
 //! The tuning of a graph.
 ghost use Rattle.std.specs.Prelude.{◌≡◌, ◌≤◌, ◌+◌, IfOk, length};
 ghost use Rattle.cpg_tune.specs.Best.{best_parts};
-ghost use Rattle.cpg_tune.specs.Asked.{MayAskRows, SameLeave, SameAnswers, row_graph};
+ghost use Rattle.cpg_tune.specs.Asked.{MayAskRows, SameQuestions, SameAnswers, row_graph};
 ghost use Rattle.cpg_tune.specs.Tuned.{AreRows, IsTuning, is_accepted, tolerated, IsGreatestAccepted};
 
 use crate::{Judge, Judged, best_parts, retuned};
@@ -71,7 +71,7 @@ fn judged<J: Judge>(
     requires parts { parts.now ≡ best_parts problem.now }
     requires faults { faults ≤ MOST_FAULTS }
     requires may { J.may_ask judge.old (row_graph problem.now faults) }
-    ensures leave { SameLeave (J.may_ask judge.old) (J.may_ask judge.new) }
+    ensures questions { SameQuestions (J.may_ask judge.old) (J.may_ask judge.new) }
     ensures same { SameAnswers (J.answers judge.old) (J.answers judge.new) }
     ensures answer { IfOk result (J.answers judge.old (row_graph problem.now faults)) }
 {
@@ -88,7 +88,7 @@ fn rows_of<J: Judge>(
 ) -> Result<Vec<Judged>, OutOfMemory>
     requires parts { parts.now ≡ best_parts problem.now }
     requires may { MayAskRows (J.may_ask judge.old) problem.now }
-    ensures leave { SameLeave (J.may_ask judge.old) (J.may_ask judge.new) }
+    ensures questions { SameQuestions (J.may_ask judge.old) (J.may_ask judge.new) }
     ensures same { SameAnswers (J.answers judge.old) (J.answers judge.new) }
     ensures rows { IfOk result (λ rows. AreRows (J.answers judge.old) problem.now (MOST_FAULTS + 1) rows.items) }
 {
@@ -102,7 +102,7 @@ fn rows_of<J: Judge>(
 /// The best parts of each process, and what the judge says of the graph with these parts, for each fault number from 0 to 8.
 pub fn tune<J: Judge>(alloc: Global, problem: &Problem, judge: &mut J) -> Result<Tuned, OutOfMemory>
     requires { MayAskRows (J.may_ask judge.old) problem.now }
-    ensures leave { SameLeave (J.may_ask judge.old) (J.may_ask judge.new) }
+    ensures questions { SameQuestions (J.may_ask judge.old) (J.may_ask judge.new) }
     ensures same { SameAnswers (J.answers judge.old) (J.answers judge.new) }
     ensures tuned { IfOk result (IsTuning (J.answers judge.old) problem.now) }
 {

@@ -51,7 +51,7 @@ fn is_idle(admitted: &Admitted, process: u32, space: &Space) -> bool
     is_never(admitted.guards().guard_of(process), true, space)
 }
 
-/// Whether a process is active in each scenario of a space. A no tells nothing.
+/// Whether a process is active in each scenario of a space. Its false guarantees nothing.
 pub fn is_running(admitted: &Admitted, process: u32, space: &Space) -> bool
     requires { process < process_count admitted.now.graph }
     ensures { OnTrue result ((s : Scenario) → IsScenario admitted.now.graph s → IsInSpace space.now s → active admitted.now.graph s.values process ≡ true) }
@@ -84,7 +84,7 @@ fn edge_of(problem: &Problem, edge: u32) -> Edge
     problem.edges()[edge as usize]
 }
 
-/// Whether the source of an edge has the value that the edge asks for in no scenario of a space. A no tells nothing.
+/// Whether the source of an edge has the value that the edge asks for in no scenario of a space. Its false guarantees nothing.
 pub fn is_refused(problem: &Problem, edge: u32, space: &Space) -> bool
     requires { edge < edge_count problem.now }
     ensures { OnTrue result ((s : Scenario) → IsInSpace space.now s →
@@ -140,7 +140,7 @@ fn is_edge_running(admitted: &Admitted, edge: u32, space: &Space) -> bool
     is_running(admitted, problem.source(edge), space)
 }
 
-/// Whether an item is active in no scenario of a space. A no tells nothing.
+/// Whether an item is active in no scenario of a space. Its false guarantees nothing.
 pub fn is_item_idle(admitted: &Admitted, item: u32, space: &Space) -> bool
     requires { item < item_count admitted.now.graph }
     ensures { OnTrue result ((s : Scenario) → IsScenario admitted.now.graph s → IsInSpace space.now s →
@@ -153,7 +153,7 @@ pub fn is_item_idle(admitted: &Admitted, item: u32, space: &Space) -> bool
     }
 }
 
-/// Whether an item is active in each scenario of a space. A no tells nothing.
+/// Whether an item is active in each scenario of a space. Its false guarantees nothing.
 pub fn is_item_running(admitted: &Admitted, item: u32, space: &Space) -> bool
     requires { item < item_count admitted.now.graph }
     ensures { OnTrue result ((s : Scenario) → IsScenario admitted.now.graph s → IsInSpace space.now s →

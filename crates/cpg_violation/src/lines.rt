@@ -7,14 +7,14 @@ ghost use Rattle.cpg_violation.specs.Lines.{AreLines, IsLine, first_time, last_t
 
 use crate::sieve::Sieve;
 use cpg_base::{OutOfMemory, Problem};
-use cpg_cube::Entry;
+use cpg_cube::Column;
 use cpg_table::Tables;
 use std::alloc::Global;
 
 /// The columns of an item, with a sieve of them, and the time of the first and of the last.
 #[derive(Drop)]
 pub struct SievedLine<'a> {
-    pub columns: &'a [Entry],
+    pub columns: &'a [Column],
     pub sieve: Sieve,
     /// Whether the sieve parts the columns, as far as it can. Otherwise it has them all in one list.
     is_sifted: bool,
@@ -25,7 +25,7 @@ pub struct SievedLine<'a> {
 }
 
 /// The least time of these columns; the greatest number if there is none.
-pub fn first_time(columns: &[Entry]) -> u64
+pub fn first_time(columns: &[Column]) -> u64
     ensures first { result ≡ first_time columns.now }
     ensures all { All (λ d. result ≤ d.time) columns.now }
 {
@@ -37,7 +37,7 @@ pub fn first_time(columns: &[Entry]) -> u64
 }
 
 /// The greatest time of these columns; 0 if there is none.
-pub fn last_time(columns: &[Entry]) -> u64
+pub fn last_time(columns: &[Column]) -> u64
     ensures last { result ≡ last_time columns.now }
     ensures all { All (λ d. d.time ≤ result) columns.now }
 {
@@ -49,7 +49,7 @@ pub fn last_time(columns: &[Entry]) -> u64
 }
 
 /// The line of these columns, not sifted.
-fn line_of<'a>(alloc: Global, columns: &'a [Entry]) -> Result<SievedLine<'a>, OutOfMemory>
+fn line_of<'a>(alloc: Global, columns: &'a [Column]) -> Result<SievedLine<'a>, OutOfMemory>
     requires { length columns.now ≤ MOST_LOAD }
     ensures { IfOk result (IsLine columns.now) }
 {
@@ -83,7 +83,7 @@ pub fn lines_of<'a>(
 
 impl SievedLine<'_> {
     /// Sifts its columns, if they aren't sifted yet.
-    fn sift(&mut self, alloc: Global, columns: &[Entry]) -> Result<(), OutOfMemory>
+    fn sift(&mut self, alloc: Global, columns: &[Column]) -> Result<(), OutOfMemory>
         requires { length columns.now ≤ MOST_LOAD }
         ensures { IfOk result (λ _. IsLine columns.now self.old → IsLine columns.now self.new) }
     {

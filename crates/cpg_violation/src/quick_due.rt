@@ -10,14 +10,14 @@ ghost use Rattle.cpg_violation.specs.Sure.{AreSure, IsSure};
 
 use crate::longest::longest;
 use cpg_base::{OutOfMemory, Problem};
-use cpg_cube::Entry;
+use cpg_cube::Column;
 use cpg_rules::Admitted;
 use cpg_table::Tables;
 use cpg_tree::Space;
 use std::alloc::Global;
 
 /// Whether an execution that a column starts ends by its process's due.
-fn ends_in_time(problem: &Problem, process: u32, column: &Entry) -> bool
+fn ends_in_time(problem: &Problem, process: u32, column: &Column) -> bool
     requires { process < process_count problem.now }
     ensures { OnTrue result ((s : Scenario) → IsScenario problem.now s → matches column.now.cube s ≡ true →
         column.now.time + duration problem.now process (fault_of s process) ≤ due problem.now process) }
@@ -32,7 +32,7 @@ fn ends_in_time(problem: &Problem, process: u32, column: &Entry) -> bool
 }
 
 /// Whether an execution ends by its process's due whichever of these columns starts it.
-fn all_end_in_time(problem: &Problem, process: u32, columns: &[Entry]) -> bool
+fn all_end_in_time(problem: &Problem, process: u32, columns: &[Column]) -> bool
     requires { process < process_count problem.now }
     ensures { OnTrue result (All (λ c. (s : Scenario) → IsScenario problem.now s → matches c.cube s ≡ true →
         c.time + duration problem.now process (fault_of s process) ≤ due problem.now process) columns.now) }

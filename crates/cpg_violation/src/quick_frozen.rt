@@ -6,13 +6,13 @@ ghost use Rattle.cpg_table.specs.declared.rule.Rule.{Rule};
 ghost use Rattle.cpg_violation.specs.Sure.{AreSure, IsSure};
 
 use cpg_base::{OutOfMemory, Problem};
-use cpg_cube::Entry;
+use cpg_cube::Column;
 use cpg_rules::Admitted;
 use cpg_table::Tables;
 use std::alloc::Global;
 
 /// Whether all these columns are at one time, also those that match in no scenario.
-fn is_one_time(columns: &[Entry]) -> bool
+fn is_one_time(columns: &[Column]) -> bool
     ensures { OnTrue result ((time : ℕ) × All (λ c. c.time ≡ time) columns.now) }
 {
     let Some(first) = columns.first() else {

@@ -11,7 +11,7 @@ ghost use Rattle.cpg_violation.specs.Parts.{ArePartsOf};
 
 use crate::apart::may_meet;
 use cpg_base::OutOfMemory;
-use cpg_cube::{Cube, Entry, Literal};
+use cpg_cube::{Column, Cube, Literal};
 use cpg_tree::Tally;
 use std::alloc::Global;
 use std::marker::Model;
@@ -91,7 +91,7 @@ fn goes(cube: &Cube, variable: u8, most: u8, below: bool) -> bool
 }
 
 /// Whether the column at a place lets a variable be at most a number, or else above it; not if there is no column.
-fn column_goes(columns: &[Entry], place: u32, variable: u8, most: u8, below: bool) -> bool
+fn column_goes(columns: &[Column], place: u32, variable: u8, most: u8, below: bool) -> bool
     ensures { OnFalse result ((s : Scenario) → place < length columns.now → matches (column_at columns.now place).cube s ≡ true →
         nat_le (number_of s variable) most ≡ not below) }
 {
@@ -102,7 +102,7 @@ fn column_goes(columns: &[Entry], place: u32, variable: u8, most: u8, below: boo
 }
 
 /// How many of these places go to one side of a cut.
-fn going(columns: &[Entry], places: &[u32], variable: u8, most: u8, below: bool) -> usize {
+fn going(columns: &[Column], places: &[u32], variable: u8, most: u8, below: bool) -> usize {
     let mut count: usize = 0;
     for place in places {
         if column_goes(columns, *place, variable, most, below) {
@@ -134,14 +134,14 @@ fn is_parted(all: usize, below: usize, above: usize) -> bool {
 }
 
 /// Whether a cut parts these places, with few on both sides.
-fn parts(columns: &[Entry], places: &[u32], cut: Cut) -> bool {
+fn parts(columns: &[Column], places: &[u32], cut: Cut) -> bool {
     let below = going(columns, places, cut.variable, cut.most, true);
     let above = going(columns, places, cut.variable, cut.most, false);
     is_parted(places.len(), below, above)
 }
 
 /// The first of the cuts at the ends of a literal that parts the places, if one does.
-fn cut_at(columns: &[Entry], places: &[u32], literal: &Literal) -> Option<Cut> {
+fn cut_at(columns: &[Column], places: &[u32], literal: &Literal) -> Option<Cut> {
     let cut = Cut {
         variable: literal.variable,
         most: literal.high,
@@ -164,7 +164,7 @@ fn cut_at(columns: &[Entry], places: &[u32], literal: &Literal) -> Option<Cut> {
 
 /// The first of the cuts at the ends of a column's literals that parts the places, if one does. A better one of them
 /// saves a search little, and to compare all takes most of the time of making a sieve.
-fn first_cut(columns: &[Entry], places: &[u32], column: &Entry) -> Option<Cut> {
+fn first_cut(columns: &[Column], places: &[u32], column: &Column) -> Option<Cut> {
     for literal in column.cube.literals() {
         let cut = cut_at(columns, places, literal);
         if cut.is_some() {
@@ -189,7 +189,7 @@ fn sample_of(alloc: Global, places: &[u32]) -> Result<Vec<u32>, OutOfMemory> {
 /// Where some of these places say to part them: it takes little time, and mostly there is such a cut.
 fn sampled_cut(
     alloc: Global,
-    columns: &[Entry],
+    columns: &[Column],
     places: &[u32],
 ) -> Result<Option<Cut>, OutOfMemory> {
     let Some(place) = places.get(places.len() / 2) else {
@@ -203,7 +203,7 @@ fn sampled_cut(
 }
 
 /// The literals of the column at a place, if there is one.
-fn literals_at(columns: &[Entry], place: u32) -> &[Literal] {
+fn literals_at(columns: &[Column], place: u32) -> &[Literal] {
     match columns.get(place as usize) {
         Some(column) => column.cube.literals(),
         None => &[],
@@ -211,21 +211,21 @@ fn literals_at(columns: &[Entry], place: u32) -> &[Literal] {
 }
 
 /// Counts the literals of the columns at some places.
-fn count_all(columns: &[Entry], places: &[u32], tally: &mut Tally) {
+fn count_all(columns: &[Column], places: &[u32], tally: &mut Tally) {
     for place in places {
         tally.add(literals_at(columns, *place));
     }
 }
 
 /// Takes these counts away.
-fn clear_all(columns: &[Entry], places: &[u32], tally: &mut Tally) {
+fn clear_all(columns: &[Column], places: &[u32], tally: &mut Tally) {
     for place in places {
         tally.clear(literals_at(columns, *place));
     }
 }
 
 /// The cut that parts these places best, by all their columns' literals.
-fn tallied_cut(columns: &[Entry], places: &[u32], tally: &mut Tally) -> Option<Cut> {
+fn tallied_cut(columns: &[Column], places: &[u32], tally: &mut Tally) -> Option<Cut> {
     let count = u32::try_from(places.len()).ok()?;
     count_all(columns, places, tally);
     let found = tally.best(count);
@@ -240,7 +240,7 @@ fn tallied_cut(columns: &[Entry], places: &[u32], tally: &mut Tally) -> Option<C
 /// The places that go to one side of a cut.
 fn part(
     alloc: Global,
-    columns: &[Entry],
+    columns: &[Column],
     places: &[u32],
     cut: Cut,
     below: bool,
@@ -268,7 +268,7 @@ struct SieveSides {
 /// The sides of a cut, if it parts these places with few on both sides.
 fn sides_at(
     alloc: Global,
-    columns: &[Entry],
+    columns: &[Column],
     places: &[u32],
     cut: Cut,
 ) -> Result<Option<SieveSides>, OutOfMemory>
@@ -285,7 +285,7 @@ fn sides_at(
 /// The sides of the cut that some of these places say, if it parts all of them with few on both sides.
 fn sampled_sides(
     alloc: Global,
-    columns: &[Entry],
+    columns: &[Column],
     places: &[u32],
 ) -> Result<Option<SieveSides>, OutOfMemory>
     ensures { IfOk result (λ r. IfSome r (ArePartsOf columns.now places.now)) }
@@ -300,7 +300,7 @@ fn sampled_sides(
 /// The sides of the cut that parts these places best, if it leaves few on both sides.
 fn tallied_sides(
     alloc: Global,
-    columns: &[Entry],
+    columns: &[Column],
     places: &[u32],
     tally: &mut Tally,
 ) -> Result<Option<SieveSides>, OutOfMemory>
@@ -317,7 +317,7 @@ fn tallied_sides(
 /// The sides of a cut of these places, if they are many and one parts them with few on both sides.
 fn sides_of(
     alloc: Global,
-    columns: &[Entry],
+    columns: &[Column],
     places: &[u32],
     tally: &mut Tally,
 ) -> Result<Option<SieveSides>, OutOfMemory>
@@ -337,7 +337,7 @@ fn sides_of(
 /// These places, parted at most `depth` times.
 fn sifted(
     alloc: Global,
-    columns: &[Entry],
+    columns: &[Column],
     places: Vec<u32>,
     depth: u32,
     tally: &mut Tally,
@@ -370,7 +370,7 @@ fn sifted(
 }
 
 /// Whether the column at a place may match some scenario together with a cube; not if there is no column.
-fn column_may_meet(columns: &[Entry], place: u32, cube: &Cube) -> bool
+fn column_may_meet(columns: &[Column], place: u32, cube: &Cube) -> bool
     ensures { OnFalse result ((s : Scenario) → place < length columns.now → (matches cube.now s && matches (column_at columns.now place).cube s) ≡ false) }
 {
     let Some(column) = columns.get(place as usize) else {
@@ -382,7 +382,7 @@ fn column_may_meet(columns: &[Entry], place: u32, cube: &Cube) -> bool
 /// Those of these places whose columns may match some scenario together with a cube.
 fn meeting(
     alloc: Global,
-    columns: &[Entry],
+    columns: &[Column],
     places: &[u32],
     cube: &Cube,
 ) -> Result<Vec<u32>, OutOfMemory>
@@ -399,7 +399,7 @@ fn meeting(
 }
 
 /// The places of all columns.
-fn places_of(alloc: Global, columns: &[Entry]) -> Result<Vec<u32>, OutOfMemory>
+fn places_of(alloc: Global, columns: &[Column]) -> Result<Vec<u32>, OutOfMemory>
     requires { length columns.now ≤ MOST_LOAD }
     ensures { IfOk result (λ places. (i : ℕ) → i < length columns.now → Contains places.items i) }
 {
@@ -412,7 +412,7 @@ fn places_of(alloc: Global, columns: &[Entry]) -> Result<Vec<u32>, OutOfMemory>
 
 impl Sieve {
     /// The columns of a row, by place.
-    pub fn of(alloc: Global, columns: &[Entry]) -> Result<Sieve, OutOfMemory>
+    pub fn of(alloc: Global, columns: &[Column]) -> Result<Sieve, OutOfMemory>
         requires { length columns.now ≤ MOST_LOAD }
         ensures { IfOk result (IsSieveOf columns.now) }
     {
@@ -423,7 +423,7 @@ impl Sieve {
     }
 
     /// The columns of a row, by place, all in one list.
-    pub(crate) fn whole(alloc: Global, columns: &[Entry]) -> Result<Sieve, OutOfMemory>
+    pub(crate) fn whole(alloc: Global, columns: &[Column]) -> Result<Sieve, OutOfMemory>
         requires { length columns.now ≤ MOST_LOAD }
         ensures { IfOk result (IsSieveOf columns.now) }
     {
@@ -486,7 +486,7 @@ impl Sieve {
     pub fn candidates(
         &self,
         alloc: Global,
-        columns: &[Entry],
+        columns: &[Column],
         cube: &Cube,
     ) -> Result<Vec<u32>, OutOfMemory>
         requires { IsSieveOf columns.now self.now }

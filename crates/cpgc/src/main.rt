@@ -6,7 +6,7 @@ ghost use Rattle.std.specs.IoError.{error_kind};
 ghost use Rattle.std.specs.Vec.Iter.{into_iter_items};
 ghost use Rattle.std.specs.declared.io.ErrorKind.{ErrorKind};
 ghost use Rattle.cpg_words.specs.declared.fault.WordsFault.{WordsFault};
-ghost use Rattle.cpg_io.specs.Shelf.{KeepsShelf, SameLeave};
+ghost use Rattle.cpg_io.specs.Shelf.{KeepsShelf, SameAccess};
 ghost use Rattle.cpg_app.specs.Endings.{seen};
 ghost use Rattle.cpg_app.specs.Lawful.{IsLawful};
 ghost use Rattle.cpg_outputs.specs.Told.{sent};
@@ -65,7 +65,7 @@ fn outcome<S: Shelf, O: Sink, E: Sink>(
 ) -> u8
     requires { (name : List ℕ) → S.may_fetch shelf.old name }
     ensures keeps { KeepsShelf (S.state shelf.old) (S.state shelf.new) }
-    ensures leave { SameLeave (S.may_fetch shelf.old) (S.may_fetch shelf.new) }
+    ensures access { SameAccess (S.may_fetch shelf.old) (S.may_fetch shelf.new) }
     ensures of_words { IfOk words (λ all. IsLawful (record {
       words = map string_bytes all.items;
       shelf = seen (S.state shelf.old) (S.state shelf.new);

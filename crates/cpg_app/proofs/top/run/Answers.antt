@@ -16,7 +16,7 @@ pub finish-requires-clause-may : goal.finish-requires-clause-may
 finish-requires-clause-may g c =
     let has = c.in-Ok-read_inputs.ensures.inputs in
     let files = subst (All (g.S.Shelf.may_fetch c.args.shelf.now)) (ap file_words_if c.in-Ok.ensures.command) c.requires in
-    record { command = c.in-Ok.command; values = has.values; are = has.are; files = λ i d l. (c.in-Ok-read_inputs.ensures.leave _).0 (files i d l) }
+    record { command = c.in-Ok.command; values = has.values; are = has.are; files = λ i d l. (c.in-Ok-read_inputs.ensures.access _).0 (files i d l) }
 
 pub finish-requires-clause-fit : goal.finish-requires-clause-fit
 finish-requires-clause-fit g c = inputs_fit c.in-Ok.command _ _ c.in-Ok-read_inputs.inputs c.in-Ok-read_inputs.ensures.inputs

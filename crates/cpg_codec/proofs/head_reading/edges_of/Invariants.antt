@@ -1,8 +1,8 @@
 use Rattle.std.proofs.Common.{◌≡◌}
-use Rattle.cpg_codec.specs.Reading.{times_at}
-use Rattle.cpg_codec.specs.Grammar.{edge_at}
+use Rattle.cpg_codec.specs.Reading.{read_repeated}
+use Rattle.cpg_codec.specs.Grammar.{read_edge}
 use Rattle.cpg_codec.proofs.Loop.{with_front, left_of}
 use Rattle.cpg_codec.proofs.head_reading.edges_of.Given as goal
 
 abbrev pub invariant-loop : goal.invariant-loop
-invariant-loop l = with_front l.edges.items (left_of (edge_at l.fn.processes) l.fn.count l.counter l.rest) ≡ times_at (edge_at l.fn.processes) l.fn.count l.fn.bytes
+invariant-loop l = with_front l.edges.items (left_of (read_edge l.fn.processes) l.fn.count l.counter l.rest) ≡ read_repeated (read_edge l.fn.processes) l.fn.count l.fn.bytes

@@ -2,7 +2,7 @@ use Rattle.std.proofs.Common.{◌≡◌, ◌+◌, ◌-◌, ◌==◌, ℕ, arith,
 use Rattle.std.proofs.lemmas.Result.{err_from_is_err_and}
 use Rattle.cpg_codec.specs.Reading.{down}
 use Rattle.cpg_codec.specs.Spelling.{Written, bit, written_by, written_with}
-use Rattle.cpg_codec.specs.Grammar.{process_at, processes_at}
+use Rattle.cpg_codec.specs.Grammar.{read_process, read_processes}
 use Rattle.cpg_codec.proofs.Loop.{goes_on, ends, is_done, nothing_in_front, down_more, down_none}
 use Rattle.cpg_codec.proofs.WrittenHeads.{written_push, kept_push}
 use Rattle.cpg_codec.proofs.head_reading.processes_of.Goals as goal
@@ -15,7 +15,7 @@ none_kept true = refl
 none_kept false = refl
 
 pub loop-init : goal.loop-init
-unfolding processes_at
+unfolding read_processes
 loop-init c = record {
   so_far = let z : c.args.count - 0 ≡ c.args.count = omega arith in rw (c.in_ok-processes.ensures.items, z) (nothing_in_front _);
   few = omega arith;
@@ -25,9 +25,9 @@ loop-init c = record {
 pub returns-in_err-process-clause-gives : goal.returns-in_err-process-clause-gives
 returns-in_err-process-clause-gives c =
     let p = err_from_is_err_and c.from_residual-in_err-process.result c.from_residual-in_err-process.ensures.1 in
-    rw (p.1, p.2) (ends step (λ (left : ℕ) ones. process_at c.args.version c.args.faults c.args.nodes ones) c.in_err-process.field-0.0 (written_by c.loop.processes.items c.loop.extras.items)
+    rw (p.1, p.2) (ends step (λ (left : ℕ) ones. read_process c.args.version c.args.faults c.args.nodes ones) c.in_err-process.field-0.0 (written_by c.loop.processes.items c.loop.extras.items)
     (down (c.args.count - c.loop.counter)) (c.args.count - (c.loop.counter + 1)) (down (c.args.count - (c.loop.counter + 1))) c.loop.ones c.loop.rest.now
-    (processes_at c.args.version c.args.faults c.args.nodes c.args.count c.args.bytes.now) (down_more c.args.count c.loop.counter c.loop-test.true) c.in_err-process.ensures.gives
+    (read_processes c.args.version c.args.faults c.args.nodes c.args.count c.args.bytes.now) (down_more c.args.count c.loop.counter c.loop-test.true) c.in_err-process.ensures.gives
     c.loop.invariant.so_far)
 
 few_more : (ones b counter : ℕ) (t : Bool) → b ≡ bit t → ones ≤ counter → ones + b ≤ counter + 1
@@ -39,9 +39,9 @@ loop-preserved c =
     let q = c.in_ok-process.process in
     let o = c.in_ok-process.extra in
     let w = written_push (c.args.version == 2) c.loop.processes.items c.loop.extras.items q o c.in_ok-process.ensures.kind c.loop.invariant.kept in
-    let g = goes_on step (λ (left : ℕ) ones. process_at c.args.version c.args.faults c.args.nodes ones) (written_by c.loop.processes.items c.loop.extras.items)
+    let g = goes_on step (λ (left : ℕ) ones. read_process c.args.version c.args.faults c.args.nodes ones) (written_by c.loop.processes.items c.loop.extras.items)
     (down (c.args.count - c.loop.counter)) (c.args.count - (c.loop.counter + 1)) (down (c.args.count - (c.loop.counter + 1))) c.loop.ones c.loop.rest.now (written_with q o) c.in_ok-process.after.now
-    (processes_at c.args.version c.args.faults c.args.nodes c.args.count c.args.bytes.now) (down_more c.args.count c.loop.counter c.loop-test.true) c.in_ok-process.ensures.gives
+    (read_processes c.args.version c.args.faults c.args.nodes c.args.count c.args.bytes.now) (down_more c.args.count c.loop.counter c.loop-test.true) c.in_ok-process.ensures.gives
     c.loop.invariant.so_far in
     record {
       so_far = rw (c.in_ok-push.ensures.items, c.in_ok-push_extra.ensures, w, c.bit_of-ones.ensures) g;
@@ -51,6 +51,6 @@ loop-preserved c =
     }
 
 pub returns-clause-gives : goal.returns-clause-gives
-returns-clause-gives c = is_done step (λ (left : ℕ) ones. process_at c.args.version c.args.faults c.args.nodes ones) (written_by c.loop.processes.items c.loop.extras.items)
+returns-clause-gives c = is_done step (λ (left : ℕ) ones. read_process c.args.version c.args.faults c.args.nodes ones) (written_by c.loop.processes.items c.loop.extras.items)
     (down (c.args.count - c.loop.counter)) c.loop.ones c.loop.rest.now
-    (processes_at c.args.version c.args.faults c.args.nodes c.args.count c.args.bytes.now) (down_none c.args.count c.loop.counter c.loop-test.false) c.loop.invariant.so_far
+    (read_processes c.args.version c.args.faults c.args.nodes c.args.count c.args.bytes.now) (down_none c.args.count c.loop.counter c.loop-test.false) c.loop.invariant.so_far

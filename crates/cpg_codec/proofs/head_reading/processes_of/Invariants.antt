@@ -1,15 +1,15 @@
 use Rattle.std.proofs.Common.{◌≡◌, ◌-◌, ◌≤◌, ◌+◌, ◌==◌, if◌then◌else◌, ℕ, length}
-use Rattle.cpg_codec.specs.Reading.{each_at, down}
+use Rattle.cpg_codec.specs.Reading.{read_each, down}
 use Rattle.cpg_codec.specs.Spelling.{Written, bit, written_by}
-use Rattle.cpg_codec.specs.Grammar.{process_at, processes_at}
+use Rattle.cpg_codec.specs.Grammar.{read_process, read_processes}
 use Rattle.cpg_codec.proofs.Loop.{with_front}
 use Rattle.cpg_codec.proofs.head_reading.processes_of.Given as goal
 
 abbrev pub invariant-loop : goal.invariant-loop
 invariant-loop l = record {
   so_far : with_front (written_by l.processes.items l.extras.items)
-      (each_at (λ (ones : ℕ) (w : Written). ones + bit w.process.condition) (λ (left : ℕ) ones. process_at l.fn.version l.fn.faults l.fn.nodes ones) (down (l.fn.count - l.counter)) l.ones l.rest)
-      ≡ processes_at l.fn.version l.fn.faults l.fn.nodes l.fn.count l.fn.bytes;
+      (read_each (λ (ones : ℕ) (w : Written). ones + bit w.process.condition) (λ (left : ℕ) ones. read_process l.fn.version l.fn.faults l.fn.nodes ones) (down (l.fn.count - l.counter)) l.ones l.rest)
+      ≡ read_processes l.fn.version l.fn.faults l.fn.nodes l.fn.count l.fn.bytes;
   few : l.ones ≤ l.counter;
   kept : length l.extras.items ≡ (if l.fn.version == 2 then length l.processes.items else 0);
 }

@@ -2,7 +2,7 @@ use Rattle.std.proofs.Common.{arith, ap, ◌≡◌, ◌≤◌, ◌<◌, ◌+◌,
 use Rattle.std.proofs.lemmas.Result.{err_from_is_err_and}
 use Rattle.cpg_table.specs.Table.{NodeTable}
 use Rattle.cpg_table.specs.Lawful.{column_count, rows_of}
-use Rattle.cpg_codec.specs.Grammar.{node_table_at, numbers_from, nodes_at}
+use Rattle.cpg_codec.specs.Grammar.{read_node_table, numbers_from, read_nodes}
 use Rattle.cpg_codec.proofs.Loop.{goes_on, ends, is_done, nothing_in_front}
 use Rattle.cpg_codec.proofs.TableFields.{numbers_more, numbers_none}
 use Rattle.cpg_codec.proofs.reading.nodes_of.Goals as goal
@@ -11,7 +11,7 @@ abbrev step : ℕ → NodeTable → ℕ
 step c t = c + column_count (rows_of t)
 
 pub loop-node-init : goal.loop-node-init
-unfolding nodes_at
+unfolding read_nodes
 loop-node-init c =
     let z : length c.args.head.now.nodes - 0 ≡ length c.args.head.now.nodes = omega arith in
     record { so_far = rw (c.new-nodes.ensures.items, z) (nothing_in_front _); few = omega arith }
@@ -21,25 +21,25 @@ returns-in_err-table c =
     let p = err_from_is_err_and c.from_residual-in_err-table.result c.from_residual-in_err-table.ensures.1 in
     let e = ap length c.nodes.ensures.nodes in
     let n : c.loop-node.node < length c.args.head.now.nodes = omega (arith, e, c.loop-node-test.true) in
-    rw (p.1, p.2) (ends step (node_table_at c.args.head.now) c.in_err-table.field-0.0 c.loop-node.nodes.items
+    rw (p.1, p.2) (ends step (read_node_table c.args.head.now) c.in_err-table.field-0.0 c.loop-node.nodes.items
     (numbers_from c.loop-node.node (length c.args.head.now.nodes - c.loop-node.node)) c.loop-node.node
     (numbers_from (c.loop-node.node + 1) (length c.args.head.now.nodes - (c.loop-node.node + 1))) c.loop-node.total c.loop-node.unread
-    (nodes_at c.args.head.now c.args.unread.now) (numbers_more c.loop-node.node (length c.args.head.now.nodes) n) c.in_err-table.ensures.gives c.loop-node.invariant.so_far)
+    (read_nodes c.args.head.now c.args.unread.now) (numbers_more c.loop-node.node (length c.args.head.now.nodes) n) c.in_err-table.ensures.gives c.loop-node.invariant.so_far)
 
 pub loop-node-preserved : goal.loop-node-preserved
 loop-node-preserved c =
     let e = ap length c.nodes.ensures.nodes in
     let n : c.loop-node.node < length c.args.head.now.nodes = omega (arith, e, c.loop-node-test.true) in
-    let g = goes_on step (node_table_at c.args.head.now) c.loop-node.nodes.items
+    let g = goes_on step (read_node_table c.args.head.now) c.loop-node.nodes.items
     (numbers_from c.loop-node.node (length c.args.head.now.nodes - c.loop-node.node)) c.loop-node.node
     (numbers_from (c.loop-node.node + 1) (length c.args.head.now.nodes - (c.loop-node.node + 1))) c.loop-node.total c.loop-node.unread c.in_ok-table.table c.table_of.new.unread
-    (nodes_at c.args.head.now c.args.unread.now) (numbers_more c.loop-node.node (length c.args.head.now.nodes) n) c.in_ok-table.ensures.gives c.loop-node.invariant.so_far in
+    (read_nodes c.args.head.now c.args.unread.now) (numbers_more c.loop-node.node (length c.args.head.now.nodes) n) c.in_ok-table.ensures.gives c.loop-node.invariant.so_far in
     record { so_far = rw (c.in_ok-push.ensures.items, c.in_ok-table.ensures.total.0) g; few = c.in_ok-table.ensures.total.1 }
 
 pub returns : goal.returns
 returns c =
     let e = ap length c.nodes.ensures.nodes in
     let n : length c.args.head.now.nodes ≤ c.loop-node.node = omega (arith, e, c.loop-node-test.false) in
-    is_done step (node_table_at c.args.head.now) c.loop-node.nodes.items
+    is_done step (read_node_table c.args.head.now) c.loop-node.nodes.items
     (numbers_from c.loop-node.node (length c.args.head.now.nodes - c.loop-node.node)) c.loop-node.total c.loop-node.unread
-    (nodes_at c.args.head.now c.args.unread.now) (numbers_none c.loop-node.node (length c.args.head.now.nodes) n) c.loop-node.invariant.so_far
+    (read_nodes c.args.head.now c.args.unread.now) (numbers_none c.loop-node.node (length c.args.head.now.nodes) n) c.loop-node.invariant.so_far

@@ -1,11 +1,11 @@
 use Rattle.std.proofs.Common.{◌≡◌, length}
-use Rattle.cpg_codec.specs.Reading.{times_at}
-use Rattle.cpg_codec.specs.Grammar.{column_at}
+use Rattle.cpg_codec.specs.Reading.{read_repeated}
+use Rattle.cpg_codec.specs.Grammar.{read_column}
 use Rattle.cpg_codec.proofs.Loop.{with_front, left_of}
 use Rattle.cpg_codec.proofs.row_reading.columns_of.Given as goal
 
 abbrev pub invariant-loop : goal.invariant-loop
 invariant-loop l = record {
-  so_far : with_front l.columns.items (left_of (column_at l.fn.space) l.fn.count l.counter l.rest) ≡ times_at (column_at l.fn.space) l.fn.count l.fn.bytes;
+  so_far : with_front l.columns.items (left_of (read_column l.fn.space) l.fn.count l.counter l.rest) ≡ read_repeated (read_column l.fn.space) l.fn.count l.fn.bytes;
   count : length l.columns.items ≡ l.counter;
 }

@@ -2,7 +2,7 @@ use Rattle.std.proofs.Common.{◌≡◌, ◌++◌, ◌∷◌, [], ◌+◌, ◌<�
 use Rattle.std.proofs.lemmas.List.Sums.{sum_by_push}
 use Rattle.cpg_table.specs.Table.{Row}
 use Rattle.cpg_table.specs.Lawful.{column_count}
-use Rattle.cpg_codec.specs.Grammar.{row_at, rows_at}
+use Rattle.cpg_codec.specs.Grammar.{read_row, read_rows}
 use Rattle.cpg_codec.proofs.Loop.{goes_on, nothing_in_front}
 use Rattle.cpg_codec.proofs.row_reading.rows_of.Goals as goal
 
@@ -16,16 +16,16 @@ columns_push : (rs : List Row) (r : Row) → column_count (rs ++ r ∷ []) ≡ c
 columns_push rs r = sum_by_push (λ (q : Row). length q.columns) rs r
 
 pub loop-item-init : goal.loop-item-init
-unfolding rows_at
+unfolding read_rows
 loop-item-init c = record { so_far = rw c.in_ok-rows.ensures.items (nothing_in_front _); total = rw c.in_ok-rows.ensures.items (omega arith); few = c.requires.before }
 
 pub loop-item-preserved : goal.loop-item-preserved
 loop-item-preserved c =
     let q = c.in_ok-row.row in
-    let g = goes_on step (row_at c.args.space.now) c.loop-item.rows.items
+    let g = goes_on step (read_row c.args.space.now) c.loop-item.rows.items
     (drop c.loop-item.item-index c.args.items.now) (get_or c.args.items.now c.loop-item.item-index 0)
     (drop (c.loop-item.item-index + 1) c.args.items.now) c.loop-item.total c.loop-item.unread q c.next_row.new.unread
-    (rows_at c.args.space.now c.args.items.now c.args.before c.args.unread.now) (drop_more c.args.items.now c.loop-item.item-index c.loop-item-test.true) c.in_ok-row.ensures.gives
+    (read_rows c.args.space.now c.args.items.now c.args.before c.args.unread.now) (drop_more c.args.items.now c.loop-item.item-index c.loop-item-test.true) c.in_ok-row.ensures.gives
     c.loop-item.invariant.so_far in
     record {
       so_far = rw (c.in_ok-push.ensures.items, c.in_ok-row.ensures.total.0) g;

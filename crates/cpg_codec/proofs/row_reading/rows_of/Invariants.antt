@@ -2,15 +2,15 @@ use Rattle.std.proofs.Common.{◌≡◌, ◌+◌, ◌≤◌, ℕ, length, drop}
 use Rattle.cpg_base.specs.declared.limits.TheConstants.{MOST_LOAD}
 use Rattle.cpg_table.specs.Table.{Row}
 use Rattle.cpg_table.specs.Lawful.{column_count}
-use Rattle.cpg_codec.specs.Reading.{each_at}
-use Rattle.cpg_codec.specs.Grammar.{row_at, rows_at}
+use Rattle.cpg_codec.specs.Reading.{read_each}
+use Rattle.cpg_codec.specs.Grammar.{read_row, read_rows}
 use Rattle.cpg_codec.proofs.Loop.{with_front}
 use Rattle.cpg_codec.proofs.row_reading.rows_of.Given as goal
 
 abbrev pub invariant-loop-item : goal.invariant-loop-item
 invariant-loop-item l = record {
-  so_far : with_front l.rows.items (each_at (λ (c : ℕ) (r : Row). c + length r.columns) (row_at l.fn.space) (drop l.item-index l.fn.items) l.total l.unread)
-      ≡ rows_at l.fn.space l.fn.items l.fn.before l.fn.unread;
+  so_far : with_front l.rows.items (read_each (λ (c : ℕ) (r : Row). c + length r.columns) (read_row l.fn.space) (drop l.item-index l.fn.items) l.total l.unread)
+      ≡ read_rows l.fn.space l.fn.items l.fn.before l.fn.unread;
   total : l.total ≡ l.fn.before + column_count l.rows.items;
   few : l.total ≤ MOST_LOAD;
 }

@@ -6,9 +6,9 @@ use Rattle.cpg_cover.proofs.fewest.+fewest.Goals as goal
 pub fewest_by_count-fewest_with-requires : goal.fewest_by_count-fewest_with-requires
 fewest_by_count-fewest_with-requires t c =
     let cubes = c.args.cubes.now in
-    let steps : Steps cubes c.args.variable false c.args.bound.room c.in_ok-zero.zero.items = rw (c.none.ensures.variable, c.none.ensures.more) at c.in_ok-zero.ensures in
+    let steps : Steps cubes c.args.variable false c.args.bound.budget c.in_ok-zero.zero.items = rw (c.none.ensures.variable, c.none.ensures.more) at c.in_ok-zero.ensures in
     let needs : Needs c.in_ok-zero.zero.items c.in_ok-without.without = rw c.as_slice.ensures.value at c.in_ok-without.ensures in
-    (search rules, (c.requires, without_from cubes c.in_ok-zero.zero.items c.args.variable c.args.bound.room c.in_ok-without.without steps needs))
+    (search rules, (c.requires, without_from cubes c.in_ok-zero.zero.items c.args.variable c.args.bound.budget c.in_ok-without.without steps needs))
 
 pub fewest_by_parts-returns : goal.fewest_by_parts-returns
 fewest_by_parts-returns t c =
@@ -21,19 +21,19 @@ pub fewest_by_value-returns : goal.fewest_by_value-returns
 fewest_by_value-returns t c =
     let cubes = c.args.cubes.now in
     let v = c.args.variable in
-    let room = c.args.bound.room in
-    let off : Steps cubes v false room c.in_ok-zero.zero.items = rw (c.none.ensures.variable, c.none.ensures.more) at c.in_ok-zero.ensures in
-    let on : Steps cubes v true room c.in_ok-one.one.items = rw (c.more.ensures.variable, c.more.ensures.more) at c.in_ok-one.ensures in
+    let budget = c.args.bound.budget in
+    let off : Steps cubes v false budget c.in_ok-zero.zero.items = rw (c.none.ensures.variable, c.none.ensures.more) at c.in_ok-zero.ensures in
+    let on : Steps cubes v true budget c.in_ok-one.one.items = rw (c.more.ensures.variable, c.more.ensures.more) at c.in_ok-one.ensures in
     let a = c.min-fewer.ensures in
     let b = c.saturating_add.ensures in
     let d = c.min.ensures in
-    value_from cubes c.in_ok-zero.zero.items c.in_ok-one.one.items v room c.in_ok-without.without c.in_ok-with.with c.min.result c.requires
+    value_from cubes c.in_ok-zero.zero.items c.in_ok-one.one.items v budget c.in_ok-without.without c.in_ok-with.with c.min.result c.requires
     off (rw c.as_slice.ensures.value at c.in_ok-without.ensures) on (rw c.as_slice-2.ensures.value at c.in_ok-with.ensures) (omega arith) (omega arith) (omega arith)
 
 pub fewest_with-returns-then-most-eq0 : goal.fewest_with-returns-then-most-eq0
 fewest_with-returns-then-most-eq0 t c =
     let a = c.min.ensures in
-    count_without c.args.cubes.now c.args.variable c.args.bound.room c.args.without c.min.result c.requires.count c.requires.without (omega arith) (omega arith)
+    count_without c.args.cubes.now c.args.variable c.args.bound.budget c.args.without c.min.result c.requires.count c.requires.without (omega arith) (omega arith)
 
 pub fewest_with-returns : goal.fewest_with-returns
 fewest_with-returns t c =
@@ -44,6 +44,6 @@ fewest_with-returns t c =
     let b = c.min-most.ensures in
     let d = c.saturating_add-few.ensures in
     let e = c.min-2.ensures in
-    count_from cubes c.in_ok-more.more.items c.args.variable c.args.bound.room c.args.without most c.in_ok-with.with c.min-2.result c.requires.count c.requires.without (omega arith) (omega arith)
+    count_from cubes c.in_ok-more.more.items c.args.variable c.args.bound.budget c.args.without most c.in_ok-with.with c.min-2.result c.requires.count c.requires.without (omega arith) (omega arith)
     (omega arith)
     on (rw c.as_slice.ensures.value at c.in_ok-with.ensures) (omega arith) (omega arith)

@@ -1,14 +1,14 @@
 use Rattle.std.proofs.Common.{rules, List, subst, sym}
 use Rattle.std.proofs.lemmas.Result.{err_from_is_err_and}
 use Rattle.cpg_history.specs.Fetch.{Fetch}
-use Rattle.cpg_inputs.proofs.Keeping.{keeps_on, keeps_same, leave_on}
+use Rattle.cpg_inputs.proofs.Keeping.{keeps_on, keeps_same, access_on}
 use Rattle.cpg_inputs.proofs.PartsRead.{may_at, periods_next, read_next, stops_next, wants_next}
 use Rattle.cpg_inputs.proofs.reading.read_parts.Goals as goal
 
 pub read_part-requires : goal.read_part-requires
 read_part-requires g c =
     subst (g.S.Shelf.may_fetch c.loop-pair.shelf) (sym c.as_str.ensures)
-    ((c.loop-pair.invariant.leave c.pair-item.result.graph).0
+    ((c.loop-pair.invariant.access c.pair-item.result.graph).0
     (may_at (g.S.Shelf.may_fetch c.args.shelf.now) c.args.pairs.now c.loop-pair.pair-index c.pair-item.result c.loop-pair-test.true c.pair-item.is c.requires))
 
 pub returns-in_err-problem-clause-halt : goal.returns-in_err-problem-clause-halt
@@ -31,7 +31,7 @@ loop-pair-preserved g c =
     let pair = c.pair-item.result in
     record {
       keeps = keeps_on (S.state c.args.shelf.now) (S.state c.loop-pair.shelf) (S.state c.read_part.new.shelf) before.keeps c.in_ok-problem.ensures.keeps;
-      leave = leave_on (S.may_fetch c.args.shelf.now) (S.may_fetch c.loop-pair.shelf) (S.may_fetch c.read_part.new.shelf) before.leave c.in_ok-problem.ensures.leave;
+      access = access_on (S.may_fetch c.args.shelf.now) (S.may_fetch c.loop-pair.shelf) (S.may_fetch c.read_part.new.shelf) before.access c.in_ok-problem.ensures.access;
       read = read_next c.args.pairs.now c.loop-pair.pair-index pair c.loop-pair-test.true c.pair-item.is c.loop-pair.parts.items past mid now before.read c.in_ok-problem.problem c.add.new.parts.items
           (rw c.as_str.ensures at c.in_ok-problem.ensures.graph) c.in_ok-add.ensures.added;
       periods = periods_next c.args.pairs.now c.loop-pair.pair-index pair c.loop-pair-test.true c.pair-item.is c.loop-pair.parts.items past mid now before.read c.in_ok-problem.problem
@@ -59,4 +59,4 @@ returns-in_err-add-clause-keeps g c =
     keeps_on (S.state c.args.shelf.now) (S.state c.loop-pair.shelf) (S.state c.read_part.new.shelf) c.loop-pair.invariant.keeps c.in_ok-problem.ensures.keeps
 
 pub loop-pair-init : goal.loop-pair-init
-loop-pair-init g c = record { keeps = keeps_same (g.S.Shelf.state c.args.shelf.now); leave = λ name. (λ may. may, λ may. may); read = search rules; periods = search rules }
+loop-pair-init g c = record { keeps = keeps_same (g.S.Shelf.state c.args.shelf.now); access = λ name. (λ may. may, λ may. may); read = search rules; periods = search rules }

@@ -1,5 +1,5 @@
 use Rattle.std.proofs.Common.{take, None}
-use Rattle.cpg_io.specs.Shelf.{KeepsShelf, SameLeave}
+use Rattle.cpg_io.specs.Shelf.{KeepsShelf, SameAccess}
 use Rattle.cpg_inputs.specs.Files.{part_files}
 use Rattle.cpg_inputs.specs.Reading.{Reads}
 use Rattle.cpg_inputs.specs.Shapes.{HavePeriods, part_values}
@@ -8,7 +8,7 @@ use Rattle.cpg_inputs.proofs.reading.read_parts.Given as goal
 abbrev pub invariant-loop-pair : goal.invariant-loop-pair
 invariant-loop-pair g l = record {
   keeps : KeepsShelf (g.S.Shelf.state l.fn.shelf) (g.S.Shelf.state l.shelf);
-  leave : SameLeave (g.S.Shelf.may_fetch l.fn.shelf) (g.S.Shelf.may_fetch l.shelf);
+  access : SameAccess (g.S.Shelf.may_fetch l.fn.shelf) (g.S.Shelf.may_fetch l.shelf);
   read : Reads None (part_files (take l.pair-index l.pairs)) (g.S.Shelf.state l.fn.shelf).history (g.S.Shelf.state l.shelf).history (part_values l.parts.items);
   periods : HavePeriods (take l.pair-index l.pairs) l.parts.items;
 }

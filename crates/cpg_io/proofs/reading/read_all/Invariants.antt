@@ -1,13 +1,13 @@
 use Rattle.std.proofs.Common.{◌≡◌, ◌-◌, ◌≤◌, ◌∷◌, false, vec_len, IfSome, Some}
 use Rattle.std.specs.Io.KnownBytes.{Consumes}
 use Rattle.cpg_io.specs.Agreement.{LeavesRest}
-use Rattle.cpg_io.specs.Shelf.{SameNames, SameLeave}
+use Rattle.cpg_io.specs.Shelf.{SameNames, SameAccess}
 use Rattle.cpg_io.proofs.reading.read_all.Given as goal
 
 abbrev pub invariant-loop-bytes : goal.invariant-loop-bytes
 invariant-loop-bytes g l = record {
   names : SameNames (g.S.Shelf.state l.fn.shelf) (g.S.Shelf.state l.shelf);
-  leave : SameLeave (g.S.Shelf.may_fetch l.fn.shelf) (g.S.Shelf.may_fetch l.shelf);
+  access : SameAccess (g.S.Shelf.may_fetch l.fn.shelf) (g.S.Shelf.may_fetch l.shelf);
   rest : LeavesRest (g.S.Shelf.state l.shelf);
   came : IfSome ((g.S.Shelf.state l.fn.shelf).stands l.fn.name) (λ whole. Consumes (Some whole) (g.S.Shelf.state l.shelf).left l.bytes.items);
   history : (g.S.Shelf.state l.shelf).history ≡ record { name = l.fn.name; given = l.bytes.items; ended = false; failed = false } ∷ (g.S.Shelf.state l.fn.shelf).history;

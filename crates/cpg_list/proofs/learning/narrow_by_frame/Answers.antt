@@ -1,7 +1,7 @@
 use Rattle.std.proofs.Common.{◌∙◌, sym, ap, subst}
 use Rattle.cpg_run.specs.Carried.{row_at}
 use Rattle.cpg_run.specs.Found.{columns_of_rows}
-use Rattle.cpg_list.specs.Narrowing.{met, told_in, IsNarrowed}
+use Rattle.cpg_list.specs.Narrowing.{met, carried_in_columns, IsNarrowed}
 use Rattle.cpg_list.proofs.CodeCubes.{met_narrowed}
 use Rattle.cpg_list.proofs.CodeTold.{told_highs}
 use Rattle.cpg_list.proofs.learning.narrow_by_frame.Goals as goal
@@ -11,5 +11,5 @@ returns c =
     let k = c.args.frames.now.problem.now.faults in
     let s = c.args.frames.now.scenario.now in
     let row = row_at (columns_of_rows c.args.frames.now.rows.now) c.args.item in
-    subst (IsNarrowed k (told_in row s) c.args.cube.now) (sym (c.in_ok-narrow_by_told.ensures ∙ ap (λ cs. met c.args.cube.now (told_in cs s)) c.row_of-row.ensures))
-    (met_narrowed k (told_in row s) c.args.cube.now (told_highs row s k c.requires.within))
+    subst (IsNarrowed k (carried_in_columns row s) c.args.cube.now) (sym (c.in_ok-narrow_by_told.ensures ∙ ap (λ cs. met c.args.cube.now (carried_in_columns cs s)) c.row_of-row.ensures))
+    (met_narrowed k (carried_in_columns row s) c.args.cube.now (told_highs row s k c.requires.within))

@@ -1,5 +1,5 @@
 use Rattle.std.proofs.Common.{◌≡◌, ◌∙◌, Bool, Bor, List, ap, filter, map, subst, sym}
-use Rattle.cpg_cube.specs.declared.entry.Entry.{Entry}
+use Rattle.cpg_cube.specs.declared.column.Column.{Column}
 use Rattle.cpg_merging.specs.Kinds.{AreTold, HoldCandidates, is_candidate}
 use Rattle.cpg_merging.proofs.MergingKinds.{both_chosen}
 use Rattle.cpg_merging.proofs.kinds.candidates.Goals as goal
@@ -9,7 +9,7 @@ returns c =
     let columns = c.args.columns.now in
     let differing = c.in_ok-differing.differing.items in
     let told = c.as_slice-2.result.now in
-    let is : map (λ (b : Bor Entry). b.now) c.in_ok-chosen.chosen.items ≡ filter (is_candidate differing) columns = c.in_ok-chosen.ensures ∙
+    let is : map (λ (b : Bor Column). b.now) c.in_ok-chosen.chosen.items ≡ filter (is_candidate differing) columns = c.in_ok-chosen.ensures ∙
     ap (λ (ds : List Bool). filter (is_candidate ds) columns) c.as_slice-4.ensures.value in
     subst (HoldCandidates columns) (sym is)
     (both_chosen told differing columns c.in_ok-differing.ensures.long (subst (AreTold told differing) (c.as_slice-3.ensures.value ∙ c.in_ok-kinds.ensures) c.in_ok-differing.ensures.told))

@@ -1,5 +1,5 @@
 use Rattle.std.proofs.Common.{◌≡◌, Bor, List, length, map, rules, subst}
-use Rattle.cpg_cube.specs.declared.entry.Entry.{Entry}
+use Rattle.cpg_cube.specs.declared.column.Column.{Column}
 use Rattle.cpg_merging.specs.Totals.{AreMarkedBy, total_of}
 use Rattle.cpg_merging.proofs.MergingSteps.{good_of}
 use Rattle.cpg_merging.proofs.MergingDemands.{settled_by_demands}
@@ -20,13 +20,13 @@ returns-then-is_empty c v known off =
     let few = c.processes-processes.ensures.within.few_processes in
     let none : length c.in_ok-candidates.candidates.items ≡ 0 = search rules in
     settled_none g few c.processes-processes.ensures.within.faults v known c.args.columns.now (good_of g few c.args.columns.now c.requires)
-    (λ (b : Bor Entry). b.now) c.in_ok-candidates.candidates.items c.in_ok-candidates.ensures none
+    (λ (b : Bor Column). b.now) c.in_ok-candidates.candidates.items c.in_ok-candidates.ensures none
 
 pub returns : goal.returns
 returns c =
     let g = c.args.problem.now in
     let few = c.processes-processes.ensures.within.few_processes in
-    marked_by g few c.processes-processes.ensures.within.faults c.args.columns.now (map (λ (b : Bor Entry). b.now) c.in_ok-candidates.candidates.items)
+    marked_by g few c.processes-processes.ensures.within.faults c.args.columns.now (map (λ (b : Bor Column). b.now) c.in_ok-candidates.candidates.items)
     (good_of g few c.args.columns.now c.requires) c.in_ok-candidates.ensures c.in_ok-marks.marks
-    (subst (λ (bs : List (Bor Entry)). AreMarkedBy (map total_of (map (λ (b : Bor Entry). b.now) bs)) c.in_ok-marks.marks (map (λ (b : Bor Entry). b.now) bs)) c.as_slice.ensures.value
+    (subst (λ (bs : List (Bor Column)). AreMarkedBy (map total_of (map (λ (b : Bor Column). b.now) bs)) c.in_ok-marks.marks (map (λ (b : Bor Column). b.now) bs)) c.as_slice.ensures.value
     c.in_ok-marks.ensures)

@@ -22,7 +22,7 @@ loop-count-preserved g c =
     record {
       few = after.within;
       names = λ name. after.names name ∙ before.names name;
-      leave = λ name. (λ may. (after.leave name).0 ((before.leave name).0 may), λ may. (before.leave name).1 ((after.leave name).1 may));
+      access = λ name. (λ may. (after.access name).0 ((before.access name).0 may), λ may. (before.access name).1 ((after.access name).1 may));
       rest = λ r. after.rest (before.rest r);
       same = record { head = after.same.head ∙ before.same.head; table = after.same.table ∙ before.same.table };
       along = λ start name past a. (after.along start name past (before.along start name past a)).along;

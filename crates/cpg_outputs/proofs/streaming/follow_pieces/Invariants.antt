@@ -1,7 +1,7 @@
 use Rattle.std.proofs.Common.{ℕ, List, ◌≡◌, ◌≤◌, ◌-◌}
 use Rattle.cpg_history.specs.Fetch.{Fetch}
 use Rattle.cpg_io.specs.Agreement.{LeavesRest}
-use Rattle.cpg_io.specs.Shelf.{SameLeave, SameNames}
+use Rattle.cpg_io.specs.Shelf.{SameAccess, SameNames}
 use Rattle.cpg_live.specs.declared.following.TheConstants.{STREAM_LIMIT}
 use Rattle.cpg_live.specs.Following.{IsAlong, IsOfSame}
 use Rattle.cpg_outputs.proofs.streaming.follow_pieces.Given as goal
@@ -10,7 +10,7 @@ abbrev pub invariant-loop-count : goal.invariant-loop-count
 invariant-loop-count g l = record {
   few : l.follower.read ≤ STREAM_LIMIT;
   names : SameNames (g.S.Shelf.state l.fn.shelf) (g.S.Shelf.state l.shelf);
-  leave : SameLeave (g.S.Shelf.may_fetch l.fn.shelf) (g.S.Shelf.may_fetch l.shelf);
+  access : SameAccess (g.S.Shelf.may_fetch l.fn.shelf) (g.S.Shelf.may_fetch l.shelf);
   rest : LeavesRest (g.S.Shelf.state l.fn.shelf) → LeavesRest (g.S.Shelf.state l.shelf);
   same : IsOfSame l.fn.follower l.follower;
   along : (start name : List ℕ) (past : List Fetch) → IsAlong name past (g.S.Shelf.state l.fn.shelf).history start (g.O.Sink.state l.fn.out).taken l.fn.follower

@@ -1,11 +1,11 @@
 use Rattle.std.proofs.Common.{refl}
 use Rattle.std.proofs.lemmas.Result.{err_from_is_err_and}
 use Rattle.cpg_reader.proofs.Each.{Refuses-along}
-use Rattle.cpg_reader.specs.Shape.{work_at}
+use Rattle.cpg_reader.specs.Shape.{read_work}
 use Rattle.cpg_reader.proofs.shape.read_work.Goals as goal
 
 pub returns-in_err-only : goal.returns-in_err-only
-unfolding work_at
+unfolding read_work
 returns-in_err-only c =
     let p = err_from_is_err_and c.from_residual-in_err-only.result c.from_residual-in_err-only.ensures.1 in
     rw (

@@ -18,7 +18,7 @@ later-requires-clause-times c =
     let g = c.args.problem.now in
     let rows = c.args.rows.now in
     let x = c.args.item in
-    let is : c.entries.result.now ≡ (row_for rows x).columns = c.entries.ensures ∙ ap (λ (row : Row). row.columns)
+    let is : c.columns.result.now ≡ (row_for rows x).columns = c.columns.ensures ∙ ap (λ (row : Row). row.columns)
     (c.index-rows-item.is ∙ get_or_default rows x c.index-rows-item.result no_row (omega (arith, c.requires.item, long g rows c.requires.rows))) in
     subst (All (λ (e : Column). e.time < 2 ^ 59)) (sym is)
     (All-weaker (IsWritable g) (λ (e : Column). e.time < 2 ^ 59) (λ e w. w.time) (row_for rows x).columns (writable g rows c.requires.rows x c.requires.item))
@@ -34,7 +34,7 @@ returns c =
     let g = c.args.problem.now in
     let rows = c.args.rows.now in
     let x = c.args.item in
-    let is : c.entries.result.now ≡ (row_for rows x).columns = c.entries.ensures ∙ ap (λ (row : Row). row.columns)
+    let is : c.columns.result.now ≡ (row_for rows x).columns = c.columns.ensures ∙ ap (λ (row : Row). row.columns)
     (c.index-rows-item.is ∙ get_or_default rows x c.index-rows-item.result no_row (omega (arith, c.requires.item, long g rows c.requires.rows))) in
-    c.new.ensures ∙ same_row x c.in_ok-entries.entries.items (map (later_by (slot_length g (home g x))) (row_for rows x).columns)
-    (c.in_ok-entries.ensures ∙ ap₂ (λ d cs. map (later_by d) cs) (c.slot_length-delay.ensures ∙ ap (slot_length g) c.home.ensures.home) is)
+    c.new.ensures ∙ same_row x c.in_ok-columns.columns.items (map (later_by (slot_length g (home g x))) (row_for rows x).columns)
+    (c.in_ok-columns.ensures ∙ ap₂ (λ d cs. map (later_by d) cs) (c.slot_length-delay.ensures ∙ ap (slot_length g) c.home.ensures.home) is)

@@ -1,10 +1,10 @@
-use Rattle.cpg_tune.specs.Asked.{SameLeave, SameAnswers}
+use Rattle.cpg_tune.specs.Asked.{SameQuestions, SameAnswers}
 use Rattle.cpg_tune.specs.Tuned.{AreRows}
 use Rattle.cpg_tune.proofs.tuning.rows_of.Given as goal
 
 abbrev pub invariant-loop-faults : goal.invariant-loop-faults
 invariant-loop-faults g l = record {
-  leave : SameLeave (g.J.Judge.may_ask l.fn.judge) (g.J.Judge.may_ask l.judge);
+  questions : SameQuestions (g.J.Judge.may_ask l.fn.judge) (g.J.Judge.may_ask l.judge);
   same : SameAnswers (g.J.Judge.answers l.fn.judge) (g.J.Judge.answers l.judge);
   rows : AreRows (g.J.Judge.answers l.fn.judge) l.problem l.faults l.rows.items;
 }

@@ -1,7 +1,7 @@
 use Rattle.std.proofs.Common.{◌≡◌, ◌≤◌, length, arith, sym, ap, subst, rules}
 use Rattle.std.specs.Vec.{vec_capacity}
 use Rattle.cpg_table.specs.Lawful.{IsTable}
-use Rattle.cpg_node.specs.Dispatcher.{opening}
+use Rattle.cpg_node.specs.Dispatcher.{initial_dispatcher}
 use Rattle.cpg_node.specs.State.{NodeState}
 use Rattle.cpg_node.specs.Instants.{entries_left}
 use Rattle.cpg_node.proofs.Rooms.{room_open}
@@ -18,7 +18,7 @@ invariant_of-result c =
         room,
         none,
         ap (λ (s : NodeState). length (entries_left s.dispatcher)) c.in_ok-node.ensures,
-        room_open (opening c.args.table),
+        room_open (initial_dispatcher c.args.table),
         c.in-Some.ensures.count,
       );
     }

@@ -1,5 +1,5 @@
 use Rattle.std.proofs.Common.{◌≡◌, take, map}
-use Rattle.cpg_cube.proofs.entry.cubes_of.Given as goal
+use Rattle.cpg_cube.proofs.column.cubes_of.Given as goal
 
 abbrev pub invariant-loop-column : goal.invariant-loop-column
 invariant-loop-column l = map (λ b. b.now) l.cubes.items ≡ map (λ c. c.cube) (take l.column-index l.columns)

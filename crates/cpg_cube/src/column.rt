@@ -7,36 +7,36 @@ use std::alloc::{AllocError, Global};
 
 /// A column of a row.
 #[derive(Drop)]
-pub struct Entry {
+pub struct Column {
     /// When it is, in time units of the graph file.
     pub time: u64,
     /// The scenarios that it is for.
     pub cube: Cube,
 }
 
-impl Entry {
-    /// An equal entry.
-    pub fn copy(&self) -> Result<Entry, OutOfMemory>
-        ensures { IfOk result (λ entry. entry ≡ self.now) }
+impl Column {
+    /// An equal column.
+    pub fn copy(&self) -> Result<Column, OutOfMemory>
+        ensures { IfOk result (λ column. column ≡ self.now) }
     {
-        Ok(Entry {
+        Ok(Column {
             time: self.time,
             cube: self.cube.copy()?,
         })
     }
 }
 
-/// A clone is an equal entry.
-impl Clone for Entry {
-    ghost is_clone = { λ entry copy. copy ≡ entry };
+/// A clone is an equal column.
+impl Clone for Column {
+    ghost is_clone = { λ column copy. copy ≡ column };
 
-    fn clone(&self) -> Result<Entry, AllocError> {
+    fn clone(&self) -> Result<Column, AllocError> {
         Ok(self.copy()?)
     }
 }
 
-impl Cubed for Entry {
-    ghost cubed = { λ entry. entry.cube };
+impl Cubed for Column {
+    ghost cubed = { λ column. column.cube };
 
     fn cube(&self) -> &Cube {
         &self.cube
@@ -44,7 +44,7 @@ impl Cubed for Entry {
 }
 
 /// A reference to the cube of each column.
-pub fn cubes_of<'a>(alloc: Global, columns: &'a [Entry]) -> Result<Vec<&'a Cube>, OutOfMemory>
+pub fn cubes_of<'a>(alloc: Global, columns: &'a [Column]) -> Result<Vec<&'a Cube>, OutOfMemory>
     ensures { IfOk result (λ cubes. map (λ b. b.now) cubes.items ≡ map (λ c. c.cube) columns.now) }
 {
     let mut cubes = Vec::new(alloc);
